@@ -1,0 +1,260 @@
+-- Worked runs, by computation: every refusal from 2 to 25, and the slips that document 01 shuts out.
+use Prim.Native.Nat.{ℕ, zero, suc, _+_, _-_, _*_, _/_, _%_, _^_}
+use mathlib.Core.Path.{_≡_, refl}
+use mathlib.Core.Bool.{Bool, true, false}
+use mathlib.Core.Option.{Option, none, some}
+use mathlib.Core.List.{List, [], _∷_, _++_, map}
+use lib.ListN.{length, replicate, getD}
+use Rattle.definition.specs.Notation.{firstRefusal, tableFrom, mapFrom, mutateAt, writeAt, filter, any, sumOf}
+use Rattle.definition.specs.Permission.{Protected, code, refusal, next}
+use Rattle.definition.specs.Tree.{Node, isAboveWithin, relation, descendants, preorder, visitingOrder, rowRefusal, nodeRefusal, visitRefusal, nodeAfter, visited}
+use Rattle.definition.specs.Layout.{cellsFit, isFreeze, nestedMask, freezeMask}
+use Rattle.definition.specs.Memory.{Answer, Provenance, newAllocation, wrappingOffset, checkPtr, accessRefusalIn, accessRefusal, afterAccessIn, afterAccess, loadedWords, acceptAccess, performAccess, isPickable, exceedsBounds, allocateRefusal, acceptAllocate, allocate, deallocateRefusal, afterDeallocateIn, acceptDeallocate, deallocate, dereferenceable, leakCheck}
+use Rattle.definition.specs.Frame.{State, empty, frameAt, entries, newCall, releaseRefusalIn, releaseRefusal, afterReleaseIn, afterRelease, releaseAllRefusal, afterReleaseAll, endCallRefusal, acceptEndCall, endCall}
+use Rattle.definition.specs.Retag.{childNode, withChild, initRefusal, afterInit, reborrowRefusal, afterReborrowIn, acceptReborrow, reborrow, retagWithoutNode, retag}
+use Rattle.definition.specs.Request.{request, followingLength, isMiscounted, badByte, badSettings, badMetadata, badRetag, isMalformed}
+use Rattle.definition.specs.Run.{retagWithMask, performRetag, perform, step, answers, final, wordsOf, cutRequests, requestsOf, performedCount, program}
+use Rattle.definition.specs.Permission.Protected.{No, Weak, Strong}
+use Rattle.definition.specs.Memory.AllocationKind.{Stack}
+
+-- ---- requests, by their words
+abbrev firstWord : ℕ → ℕ → ℕ → ℕ → ℕ → ℕ → ℕ
+firstWord kind allocation node hasProvenance exponent extra =
+    kind * 2 ^ 28 + allocation * 2 ^ 21 + node * 2 ^ 9 + hasProvenance * 2 ^ 8 + exponent * 2 ^ 3 + extra
+
+-- below 2^32: through node n of allocation a, at an address, with the length or fourth word
+abbrev through : ℕ → ℕ → ℕ → ℕ → ℕ → ℕ → ℕ → List ℕ → List ℕ
+through kind a n exponent extra address fourth more = firstWord kind a n 1 exponent extra ∷ 0 ∷ address ∷ fourth ∷ more
+
+abbrev allocateAt : ℕ → ℕ → ℕ → List ℕ
+allocateAt kind address len = firstWord 0 0 0 0 0 kind ∷ 0 ∷ address ∷ len ∷ []
+
+abbrev freeHeap : ℕ → ℕ → ℕ → ℕ → List ℕ
+freeHeap a n address len = through 1 a n 0 1 address len []
+
+abbrev load : ℕ → ℕ → ℕ → ℕ → List ℕ
+load a n address len = through 2 a n 0 0 address len []
+
+abbrev store : ℕ → ℕ → ℕ → List ℕ → List ℕ
+store a n address bytes = through 3 a n 0 0 address (length bytes) bytes
+
+-- an initialised byte
+abbrev byte : ℕ → ℕ
+byte value = 0x80000000 + value
+
+-- a retag; 0 shared, 1 mutable, 2 box, with unpin and freeze
+abbrev borrow : ℕ → ℕ → ℕ → ℕ → List ℕ → List ℕ
+borrow pointer a n address layout = through 4 a n 0 pointer address (0x60000000 + length layout) layout
+
+-- the same at function entry, in frame f
+abbrev argument : ℕ → ℕ → ℕ → ℕ → ℕ → List ℕ → List ℕ
+argument f pointer a n address layout = through 4 a n 0 pointer address (0xe0000000 + f * 2 ^ 23 + length layout) layout
+
+abbrev call : ℕ → List ℕ
+call f = firstWord 5 0 0 0 0 0 ∷ 0 ∷ 0 ∷ f ∷ []
+
+abbrev return : ℕ → List ℕ
+return f = firstWord 6 0 0 0 0 0 ∷ 0 ∷ 0 ∷ f ∷ []
+
+abbrev leakCheckNow : List ℕ
+leakCheckNow = firstWord 9 0 0 0 0 0 ∷ 0 ∷ 0 ∷ 0 ∷ []
+
+-- layouts: sized; sized with a cell at its first byte
+abbrev sized : ℕ → List ℕ
+sized len = 0 ∷ len ∷ []
+
+abbrev cellFirst : ℕ → List ℕ
+cellFirst len = 0 ∷ (0x400000 + len) ∷ 0x00000001 ∷ []
+
+-- ---- what a list of requests comes to
+abbrev refusals : List (List ℕ) → List ℕ
+refusals wss = map (λ x. x .refusal) (answers empty wss)
+
+abbrev nodesAfter : ℕ → List (List ℕ) → List Node
+nodesAfter a wss = getD (final empty wss .memory) a (newAllocation Stack 0 0 0) .nodes
+
+-- the rows, as their codes
+abbrev rows : List (List ℕ) → List (List ℕ)
+rows wss = map (λ x. map code (x .permissions)) (nodesAfter 0 wss)
+
+abbrev marks : List (List ℕ) → List Protected
+marks wss = map (λ x. x .protected) (nodesAfter 0 wss)
+
+-- ---- the runs
+-- a protected argument, used and used again
+abbrev protectedRun : List (List ℕ)
+protectedRun =
+    allocateAt 1 16 2 ∷ call 3 ∷ call 3 ∷ argument 3 1 0 0 16 (sized 2)
+    ∷ load 0 0 16 1
+    ∷ store 0 1 16 (byte 1 ∷ [])
+    ∷ store 0 1 17 (byte 2 ∷ [])
+    ∷ load 0 0 17 1
+    ∷ store 0 0 16 (byte 3 ∷ [])
+    ∷ store 0 0 17 (byte 4 ∷ [])
+    ∷ []
+
+-- and released, and freed
+abbrev returnedRun : List (List ℕ)
+returnedRun =
+    protectedRun
+    ++ (return 3 ∷ return 3 ∷ leakCheckNow ∷ freeHeap 0 1 17 2 ∷ freeHeap 0 1 16 3 ∷ freeHeap 0 1 16 2 ∷ leakCheckNow
+    ∷ load 0 0 16 1
+    ∷ load 0 0 16 0
+    ∷ load 1 0 16 0
+    ∷ load 0 2 16 0
+    ∷ [])
+
+-- node 2, below the protected node 1, is written
+abbrev familyRun : List (List ℕ)
+familyRun =
+    allocateAt 1 16 1 ∷ call 0 ∷ argument 0 1 0 0 16 (sized 1) ∷ borrow 1 0 1 16 (sized 1) ∷ store 0 2 16 (byte 1 ∷ []) ∷ []
+
+-- a deallocation under a protector: strong for a reference, weak for a box
+abbrev dyingRun : ℕ → List (List ℕ)
+dyingRun pointer = allocateAt 1 16 1 ∷ call 0 ∷ argument 0 pointer 0 0 16 (sized 1) ∷ store 0 1 16 (byte 1 ∷ []) ∷ freeHeap 0 1 16 1 ∷ []
+
+-- a reference at function entry that was never used locally: the deallocation's write makes it Unique
+abbrev unusedRun : List (List ℕ)
+unusedRun = allocateAt 1 16 1 ∷ call 0 ∷ argument 0 1 0 0 17 (sized 0) ∷ freeHeap 0 1 16 1 ∷ freeHeap 0 0 16 1 ∷ []
+
+-- a sibling's write disables
+abbrev siblingsRun : List (List ℕ)
+siblingsRun =
+    allocateAt 1 16 4 ∷ borrow 1 0 0 16 (sized 4) ∷ borrow 1 0 0 16 (sized 4) ∷ store 0 1 16 (byte 1 ∷ [])
+    ∷ load 0 2 16 1
+    ∷ store 0 2 16 (byte 1 ∷ [])
+    ∷ through 1 0 0 0 0 16 4 []
+    ∷ through 1 0 0 1 1 16 4 []
+    ∷ through 2 0 0 1 0 17 1 []
+    ∷ load 0 0 19 2
+    ∷ (firstWord 2 0 0 0 0 0 ∷ 0 ∷ 16 ∷ 1 ∷ [])
+    ∷ (firstWord 2 0 0 0 0 0 ∷ 0 ∷ 16 ∷ 0 ∷ [])
+    ∷ (firstWord 2 0 1 0 0 0 ∷ 0 ∷ 16 ∷ 0 ∷ [])
+    ∷ allocateAt 1 19 4
+    ∷ (firstWord 10 0 0 0 0 0 ∷ 0 ∷ 0 ∷ 0 ∷ [])
+    ∷ borrow 1 0 0 16 []
+    ∷ []
+
+-- zero-length retags below the start and past the end; allocations up to the bound
+abbrev emptiesRun : List (List ℕ)
+emptiesRun =
+    allocateAt 1 16 1 ∷ borrow 0 0 0 15 (sized 0) ∷ borrow 0 0 0 99 (sized 0) ∷ allocateAt 0 1024 4096 ∷ allocateAt 0 1024 4095 ∷ []
+
+-- node 1: byte 0 in a cell, byte 1 disabled by the root's write; node 2: protected, written at byte 0. Then a retag of both bytes through node 1
+abbrev crossedRun : List (List ℕ)
+crossedRun =
+    allocateAt 1 16 2 ∷ borrow 1 0 0 16 (cellFirst 2) ∷ call 0 ∷ argument 0 1 0 0 16 (sized 1)
+    ∷ store 0 2 16 (byte 1 ∷ [])
+    ∷ store 0 0 17 (byte 1 ∷ [])
+    ∷ borrow 1 0 1 16 (sized 2)
+    ∷ []
+
+-- protected references with a cell: mutable, then shared
+abbrev celledRun : List (List ℕ)
+celledRun = allocateAt 1 16 2 ∷ call 0 ∷ argument 0 1 0 0 16 (cellFirst 2) ∷ argument 0 0 0 0 16 (cellFirst 2) ∷ []
+
+-- retags that add no node: extra 3, a mutable reference that isn't unpin without layout words, zero length without provenance
+abbrev noNodeRun : List (List ℕ)
+noNodeRun =
+    allocateAt 1 16 2 ∷ through 4 0 0 0 3 16 0 [] ∷ through 4 0 0 0 1 16 0 [] ∷ (firstWord 4 0 0 0 0 0 ∷ 0 ∷ 16 ∷ 2 ∷ sized 0) ∷ []
+
+-- so many nodes below each other
+abbrev chainRun : ℕ → List (List ℕ)
+chainRun zero = allocateAt 1 16 1 ∷ []
+chainRun (suc n) = chainRun n ++ (borrow 1 0 n 16 (sized 1) ∷ [])
+
+pub record Cases : Type 0 where
+  -- 2 for a frame opened while open; 20, 21, 22, 23
+  pub protected-refusals : refusals protectedRun ≡ 0 ∷ 0 ∷ 2 ∷ 0 ∷ 0 ∷ 20 ∷ 0 ∷ 21 ∷ 22 ∷ 23 ∷ []
+  pub protected-rows : rows protectedRun ≡ (3 ∷ 3 ∷ []) ∷ (10 ∷ 11 ∷ []) ∷ []
+  -- 2 for a frame used unopened; 25, 10, 12, 8, 4. "a zero-length load refused as dead" is a slip
+  pub returned-refusals : refusals returnedRun ≡ 0 ∷ 0 ∷ 2 ∷ 0 ∷ 0 ∷ 20 ∷ 0 ∷ 21 ∷ 22 ∷ 23 ∷ 0 ∷ 2 ∷ 25 ∷ 10 ∷ 12 ∷ 0 ∷ 0 ∷ 8 ∷ 0 ∷ 4 ∷ 4 ∷ []
+  -- a read is released at one byte and a write at the other, and the mark is gone
+  pub returned-rows : rows (protectedRun ++ (return 3 ∷ [])) ≡ (3 ∷ 3 ∷ []) ∷ (1 ∷ 3 ∷ []) ∷ []
+  pub returned-marks : marks (protectedRun ++ (return 3 ∷ [])) ≡ No ∷ No ∷ []
+  -- "reaching descendants at release" is a slip: node 2 stays Unique
+  pub family-rows : rows (familyRun ++ (return 0 ∷ [])) ≡ (3 ∷ []) ∷ (3 ∷ []) ∷ (3 ∷ []) ∷ []
+  -- 24 under a strong protector; a weak one does not prevent it, and its mark stays when the frame ends
+  pub strong-refusals : refusals (dyingRun 1) ≡ 0 ∷ 0 ∷ 0 ∷ 0 ∷ 24 ∷ []
+  pub weak-refusals : refusals (dyingRun 2 ++ (return 0 ∷ [])) ≡ 0 ∷ 0 ∷ 0 ∷ 0 ∷ 0 ∷ 0 ∷ []
+  pub weak-marks : marks (dyingRun 2 ++ (return 0 ∷ [])) ≡ No ∷ Weak ∷ []
+  pub weak-rows : rows (dyingRun 2 ++ (return 0 ∷ [])) ≡ (3 ∷ []) ∷ (3 ∷ []) ∷ []
+  -- 24 on the permissions as the write left them: through node 1 it is refused, through the root it is not
+  pub unused-refusals : refusals unusedRun ≡ 0 ∷ 0 ∷ 0 ∷ 24 ∷ 0 ∷ []
+  -- 17, 19, 11, 13, 6, 9, 7; a name without provenance is 2; 5; kinds from 10 on are 2; a layout of no words is 3. 18 is in Stars
+  pub siblings-refusals : refusals siblingsRun ≡ 0 ∷ 0 ∷ 0 ∷ 0 ∷ 17 ∷ 19 ∷ 11 ∷ 13 ∷ 6 ∷ 9 ∷ 7 ∷ 0 ∷ 2 ∷ 5 ∷ 2 ∷ 3 ∷ []
+  -- 14, and 15
+  pub empties-refusals : refusals emptiesRun ≡ 0 ∷ 14 ∷ 0 ∷ 15 ∷ 0 ∷ []
+  -- 16, which no run reaches: the root is not protected
+  pub unprotected-entry : endCallRefusal (final empty (allocateAt 1 16 1 ∷ []) .memory) (record { allocation = 0; node = 0 } ∷ []) ≡ 16
+  -- 5 before 15; a load of more than 4,096 bytes is no 2, a store of more is
+  pub large-refusals : refusals (allocateAt 1 0 0xffffffff ∷ allocateAt 1 1 0xffffffff ∷ allocateAt 1 16 1 ∷ load 0 0 16 5000 ∷ store 0 0 16 (replicate 4097 0) ∷ store 0 0 16 (replicate 4096 0) ∷ []) ≡ 5 ∷ 15 ∷ 0 ∷ 9 ∷ 2 ∷ 9 ∷ []
+  -- "Visiting node by node in a retag" is a slip: it would meet 17 at node 1 before 21 at node 2
+  pub crossed-refusals : refusals crossedRun ≡ 0 ∷ 0 ∷ 0 ∷ 0 ∷ 0 ∷ 0 ∷ 21 ∷ []
+  pub crossed-rows : rows crossedRun ≡ (3 ∷ 3 ∷ []) ∷ (2 ∷ 5 ∷ []) ∷ (11 ∷ 14 ∷ []) ∷ []
+  -- "ReservedIm for a protected cell byte" is a slip: it is Reserved, and was read; a shared cell byte is Cell, and was not
+  pub celled-rows : rows celledRun ≡ (3 ∷ 3 ∷ []) ∷ (8 ∷ 10 ∷ []) ∷ (6 ∷ 13 ∷ []) ∷ []
+  pub celled-entries : entries (frameAt (final empty celledRun) 0) ≡ record { allocation = 0; node = 1 } ∷ record { allocation = 0; node = 2 } ∷ []
+  -- an end call releases all its entries, and closes its frame
+  pub released-rows : rows (celledRun ++ (return 0 ∷ [])) ≡ (3 ∷ 3 ∷ []) ∷ (1 ∷ 1 ∷ []) ∷ (0 ∷ 4 ∷ []) ∷ []
+  pub released-frame : frameAt (final empty (celledRun ++ (return 0 ∷ []))) 0 ≡ frameAt empty 0
+  -- the same pointer
+  pub no-node : map (λ x. x .pointer) (answers empty noNodeRun) ≡ some (record { allocation = 0; node = 0 }) ∷ some (record { allocation = 0; node = 0 }) ∷ some (record { allocation = 0; node = 0 }) ∷ none ∷ []
+  -- masks: three elements with a cell in each; a tuple with a slice; a count of 2^30 - 1 at size 0, and at size 1; eight tuples, and nine; empty cells, and cells that go back
+  pub slice-mask : freezeMask (0x40000003 ∷ 0x40400002 ∷ 0x00010001 ∷ []) ≡ some (true ∷ false ∷ true ∷ false ∷ true ∷ false ∷ [])
+  pub tuple-mask : freezeMask (0x40000002 ∷ 0xc0000003 ∷ 0x40400001 ∷ 0x00000001 ∷ []) ≡ some (true ∷ true ∷ true ∷ false ∷ false ∷ [])
+  pub empty-elements : freezeMask (0x7fffffff ∷ 0x40000000 ∷ []) ≡ some []
+  pub many-elements : freezeMask (0x7fffffff ∷ 0x40000001 ∷ []) ≡ none
+  pub eight-tuples : freezeMask (0 ∷ replicate 8 0xc0000000 ++ (1 ∷ [])) ≡ some (true ∷ [])
+  pub nine-tuples : freezeMask (0 ∷ replicate 9 0xc0000000 ++ (1 ∷ [])) ≡ none
+  pub empty-cells : freezeMask (0 ∷ 0x00c00006 ∷ 0x00040000 ∷ 0x00040000 ∷ 0x00040002 ∷ []) ≡ some (true ∷ true ∷ true ∷ true ∷ false ∷ false ∷ [])
+  pub cells-back : freezeMask (0 ∷ 0x00800006 ∷ 0x00040002 ∷ 0x00040000 ∷ []) ≡ none
+  -- the words behind a refused request are the next one's; one to three bytes at the end are one of their own
+  pub cut-requests : requestsOf (replicate 16 0 ++ (1 ∷ 2 ∷ [])) ≡ (0 ∷ 0 ∷ 0 ∷ 0 ∷ []) ∷ [] ∷ []
+  pub cut-refusals : refusals ((0x30000000 ∷ 0 ∷ 0 ∷ 2 ∷ 7 ∷ []) ∷ [] ∷ leakCheckNow ∷ []) ≡ 2 ∷ 2 ∷ 0 ∷ []
+  -- the program stops after the first refusal: nothing but the refused allocation at address 0 is answered
+  pub stops : program (replicate 40 0) .0 ≡ record { refusal = 5; pointer = none; words = [] } ∷ []
+  -- forty-one nodes below each other; 4,096 bytes read at once
+  pub chain-length : length (rows (chainRun 40)) ≡ 41
+  pub whole-load : refusals (allocateAt 1 4096 4096 ∷ load 0 0 4096 4096 ∷ []) ≡ 0 ∷ 0 ∷ []
+
+pub cases : Cases
+unfolding firstRefusal tableFrom mapFrom mutateAt writeAt filter any sumOf refusal next isAboveWithin relation descendants preorder visitingOrder rowRefusal nodeRefusal visitRefusal nodeAfter visited cellsFit isFreeze nestedMask freezeMask wrappingOffset checkPtr accessRefusalIn accessRefusal afterAccessIn afterAccess loadedWords acceptAccess performAccess isPickable exceedsBounds newAllocation allocateRefusal acceptAllocate allocate deallocateRefusal afterDeallocateIn acceptDeallocate deallocate dereferenceable leakCheck newCall releaseRefusalIn releaseRefusal afterReleaseIn afterRelease releaseAllRefusal afterReleaseAll endCallRefusal acceptEndCall endCall childNode withChild initRefusal afterInit reborrowRefusal afterReborrowIn acceptReborrow reborrow retagWithoutNode retag request followingLength isMiscounted badByte badSettings badMetadata badRetag isMalformed retagWithMask performRetag perform step answers final wordsOf cutRequests requestsOf performedCount program
+cases =
+    record {
+      protected-refusals = refl;
+      protected-rows = refl;
+      returned-refusals = refl;
+      returned-rows = refl;
+      returned-marks = refl;
+      family-rows = refl;
+      strong-refusals = refl;
+      weak-refusals = refl;
+      weak-marks = refl;
+      weak-rows = refl;
+      unused-refusals = refl;
+      siblings-refusals = refl;
+      empties-refusals = refl;
+      unprotected-entry = refl;
+      large-refusals = refl;
+      crossed-refusals = refl;
+      crossed-rows = refl;
+      celled-rows = refl;
+      celled-entries = refl;
+      released-rows = refl;
+      released-frame = refl;
+      no-node = refl;
+      slice-mask = refl;
+      tuple-mask = refl;
+      empty-elements = refl;
+      many-elements = refl;
+      eight-tuples = refl;
+      nine-tuples = refl;
+      empty-cells = refl;
+      cells-back = refl;
+      cut-requests = refl;
+      cut-refusals = refl;
+      stops = refl;
+      chain-length = refl;
+      whole-load = refl;
+    }
