@@ -18,7 +18,7 @@ use Rattle.definition.specs.Refusal.{neverMade, misaligned, missingProve
 use Rattle.definition.specs.Permission.{AccessKind}
 use Rattle.definition.specs.Permission.AccessKind.{Read, Write}
 use Rattle.definition.specs.Tree.{Node, visitRefusal, visited}
-use Rattle.definition.specs.Memory.{Memory, Allocation, noAllocation, allocationAt, size, Provenance, ThinPointer, Answer, givesWords, unlessRefused, wasMade, namesNeverMade, hasNone, isLive, isMisaligned, allocationOf, target, offset, isOutside, checkPtr, MemoryAccess, accessVisit, accessRefusalIn, accessRefusal, afterAccessIn, afterAccess, loadedWords, acceptAccess, performAccess}
+use Rattle.definition.specs.Memory.{Memory, Allocation, noAllocation, allocationAt, size, Provenance, ThinPointer, Answer, givesWords, unlessRefused, wasMade, namesNeverMade, hasNone, isLive, isMisaligned, allocationOf, target, offset, isOutside, checkPtr, MemoryAccess, visitOf, accessRefusalIn, accessRefusal, afterAccessIn, afterAccess, loadedWords, acceptAccess, performAccess}
 use Rattle.definition.proofs.Booleans.{and-left, and-right, or-later, or-left, or-right, when-none}
 use Rattle.definition.proofs.Permissions.{Calm}
 use Rattle.definition.proofs.Lists.{mutate-length, mutate-kept, mutate-commute, mutate-again, write-none, write-length, write-commute, part-before, part-behind}
@@ -117,7 +117,7 @@ module _ (t u : MemoryAccess) (a : Allocation) where
 
   -- the refusals of the tree
   abbrev inTree : Allocation → ℕ
-  inTree x = if eqb (u .len) 0 then 0 else visitRefusal (accessVisit (u .kind) (u .pointer) (u .len) x) (x .nodes)
+  inTree x = if eqb (u .len) 0 then 0 else visitRefusal (visitOf u x) (x .nodes)
 
   tree-kept : a .address ≤ from t → ((Empty u → ⊥) → Aside t u) → checkPtr a (u .pointer) 0 (u .len) ≡ 0 → inTree (afterAccessIn t a) ≡ inTree a
   unfolding afterAccessIn
@@ -126,7 +126,7 @@ module _ (t u : MemoryAccess) (a : Allocation) where
         | yes z ↦ rw (eq-eqb (u .len) 0 z)
         | no z ↦
             rw (ne-eqb (u .len) 0 z)
-            (visit-refused (accessVisit (t .kind) (t .pointer) (t .len) a) (accessVisit (u .kind) (u .pointer) (u .len) a)
+            (visit-refused (visitOf t a) (visitOf u a)
             (calm-visits t u a it (inside a (u .pointer) (u .len) z e) (ind z)) (a .nodes))
       ]
 
@@ -153,19 +153,19 @@ module _ (t u : MemoryAccess) (a : Allocation) where
   allocation-commute it iu f g ind =
       ap₂ {C = Allocation} (λ (ws : List ℕ) (ns : List Node). record { state = a .state; kind = a .kind; exponent = a .exponent; address = a .address; words = ws; nodes = ns })
       (words-commute t u a it iu f g ind)
-      (visited-commute (accessVisit (t .kind) (t .pointer) (t .len) a) (accessVisit (u .kind) (u .pointer) (u .len) a) (calm-visits t u a it iu ind) (a .nodes))
+      (visited-commute (visitOf t a) (visitOf u a) (calm-visits t u a it iu ind) (a .nodes))
 
 allocation-again : (t : MemoryAccess) (a : Allocation) → a .address ≤ from t → t .kind ≡ Read → t .bytes ≡ [] → afterAccessIn t (afterAccessIn t a) ≡ afterAccessIn t a
 unfolding afterAccessIn
 allocation-again t a it x y =
     ap₂ {C = Allocation} (λ (ws : List ℕ) (ns : List Node). record { state = a .state; kind = a .kind; exponent = a .exponent; address = a .address; words = ws; nodes = ns })
     (rw y (write-none (offset a (t .pointer)) (writeAt (offset a (t .pointer)) [] (a .words))))
-    (visited-again (accessVisit (t .kind) (t .pointer) (t .len) a) (calm-visits t t a it it (reads x x y y)) (a .nodes))
+    (visited-again (visitOf t a) (calm-visits t t a it it (reads x x y y)) (a .nodes))
 
 -- ---- the memory
 allocation-nodes : (t : MemoryAccess) (a : Allocation) → length (afterAccessIn t a .nodes) ≡ length (a .nodes)
 unfolding afterAccessIn
-allocation-nodes t a = visited-length (accessVisit (t .kind) (t .pointer) (t .len) a) (a .nodes)
+allocation-nodes t a = visited-length (visitOf t a) (a .nodes)
 
 wasMade-kept : (t : MemoryAccess) (n : ℕ) (m : Memory) (x : Provenance) → wasMade (mutateAt n (afterAccessIn t) m) x ≡ wasMade m x
 wasMade-kept t n m x =
@@ -183,7 +183,7 @@ module _ (t : MemoryAccess) (m : Memory) where
   starts e z =
       let a = target m (t .pointer) in
       let p = checkPtr a (t .pointer) 0 (t .len) in
-      let rest = if eqb (t .len) 0 then 0 else visitRefusal (accessVisit (t .kind) (t .pointer) (t .len) a) (a .nodes) in
+      let rest = if eqb (t .len) 0 then 0 else visitRefusal (visitOf t a) (a .nodes) in
       inside a (t .pointer) (t .len) z
       (or-left p rest
       (or-right (misaligned when isMisaligned (from t) (t .exponent)) (p or rest)

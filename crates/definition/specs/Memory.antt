@@ -6,14 +6,14 @@ use mathlib.Core.Option.{Option, none, some}
 use mathlib.Core.List.{List, [], _∷_, _++_}
 use lib.Dec.{eqb, leb, ltb}
 use lib.ListN.{length, getD, take, drop, replicate}
-use Rattle.definition.specs.Notation.{if_then_else_, _when_, _or_, mutateAt, writeAt, any, sumOf, inRange}
+use Rattle.definition.specs.Notation.{if_then_else_, _when_, _or_, mutateAt, writeAt, any, sumOf}
 use Rattle.definition.specs.Refusal.{neverMade, failsPick, misaligned, missingProvenance, deadAllocation, outOfBounds, awayFromStart, anotherKind, anotherSize, anotherAlignment, sizeExceeded, strongProtector, memoryLeak}
 use Rattle.definition.specs.Permission.{AccessKind, Permission, preventsDeallocation, isStrong}
 use Rattle.definition.specs.Permission.AccessKind.{Read, Write}
 use Rattle.definition.specs.Permission.Permission.{Unprot}
 use Rattle.definition.specs.Permission.PermissionUnprot.{Unique}
 use Rattle.definition.specs.Permission.Protected.{No}
-use Rattle.definition.specs.Tree.{Node, Visit, visitRefusal, visited}
+use Rattle.definition.specs.Tree.{Node, Visit, accessVisit, visitRefusal, visited}
 
 -- ---- pointers
 -- `Provenance`, which is also a frame's entry: "entries of allocation and node"
@@ -155,14 +155,9 @@ pub record MemoryAccess : Type 0 where
   pub exponent : ℕ
   pub bytes : List ℕ
 
--- the access of `len` bytes at a pointer, through the pointer's node
-abbrev pub accessVisit : AccessKind → ThinPointer → ℕ → Allocation → Visit
-accessVisit kind p len a =
-    record {
-      accessed = nodeOf (p .provenance);
-      accessAt = λ b. if inRange (offset a p) len b then some kind else none;
-      spared = none;
-    }
+-- its visit of an allocation
+abbrev pub visitOf : MemoryAccess → Allocation → Visit
+visitOf x a = accessVisit (x .kind) (nodeOf (x .pointer .provenance)) (offset a (x .pointer)) (x .len)
 
 abbrev pub isMisaligned : ℕ → ℕ → Bool
 isMisaligned address exponent = not (eqb (address % 2 ^ exponent) 0)
@@ -172,7 +167,7 @@ unfoldable pub accessRefusalIn : MemoryAccess → Allocation → ℕ
 accessRefusalIn x a =
     misaligned when isMisaligned (x .pointer .address) (x .exponent)
     or checkPtr a (x .pointer) 0 (x .len)
-    or (if eqb (x .len) 0 then 0 else visitRefusal (accessVisit (x .kind) (x .pointer) (x .len) a) (a .nodes))
+    or (if eqb (x .len) 0 then 0 else visitRefusal (visitOf x a) (a .nodes))
 
 unfoldable pub accessRefusal : MemoryAccess → Memory → ℕ
 accessRefusal x m = neverMade when namesNeverMade m (x .pointer .provenance) or accessRefusalIn x (target m (x .pointer))
@@ -182,7 +177,7 @@ unfoldable pub afterAccessIn : MemoryAccess → Allocation → Allocation
 afterAccessIn x a =
     changed a (a .state)
     (writeAt (offset a (x .pointer)) (x .bytes) (a .words))
-    (visited (accessVisit (x .kind) (x .pointer) (x .len) a) (a .nodes))
+    (visited (visitOf x a) (a .nodes))
 
 -- the memory afterwards; at length zero nothing is touched
 unfoldable pub afterAccess : MemoryAccess → Memory → Memory
@@ -277,7 +272,7 @@ nodePreventsDeallocation x = isStrong (x .protected) && any preventsDeallocation
 
 -- the write to all bytes
 abbrev pub writeAll : ThinPointer → Allocation → Visit
-writeAll p a = accessVisit Write (record { address = a .address; provenance = p .provenance }) (size a) a
+writeAll p a = accessVisit Write (nodeOf (p .provenance)) 0 (size a)
 
 unfoldable pub deallocateRefusal : Memory → ThinPointer → AllocationKind → ℕ → ℕ → ℕ
 deallocateRefusal m p kind len exponent =

@@ -246,7 +246,7 @@ cellPerm SharedRef protected = mkPerm protected Cell Cell
 cellPerm MutableRef protected = mkPerm protected ReservedIm (Reserved noLocalRead noForeignRead)
 cellPerm Box protected = mkPerm protected ReservedIm (Reserved noLocalRead noForeignRead)
 
--- `init_access`: "each wrapped byte but Cell is read"
+-- `init_access`: "each inside byte but Cell is read"
 abbrev pub initAccess : Permission → Option AccessKind
 initAccess (Unprot Cell) = none
 initAccess (Unprot Reserved) = some Read

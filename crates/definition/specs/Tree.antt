@@ -5,7 +5,7 @@ use mathlib.Core.Option.{Option, none, some}
 use mathlib.Core.List.{List, [], _∷_, _++_, map}
 use lib.Dec.{eqb}
 use lib.ListN.{getD}
-use Rattle.definition.specs.Notation.{if_then_else_, _or_, firstRefusal, mapFrom, filter}
+use Rattle.definition.specs.Notation.{if_then_else_, _or_, firstRefusal, mapFrom, filter, inRange}
 use Rattle.definition.specs.Permission.{AccessKind, NodeRelation, Permission, Protected, refusalBy, nextBy}
 use Rattle.definition.specs.Permission.NodeRelation.{Local, Foreign}
 use Rattle.definition.specs.Permission.Protected.{No}
@@ -70,6 +70,11 @@ pub record Visit : Type 0 where
   pub accessed : ℕ
   pub accessAt : ℕ → Option AccessKind
   pub spared : Option ℕ
+
+-- one access of `len` bytes from `start` on, through a node
+abbrev pub accessVisit : AccessKind → ℕ → ℕ → ℕ → Visit
+accessVisit kind node start len =
+    record { accessed = node; accessAt = λ b. if inRange start len b then some kind else none; spared = none }
 
 -- "each with its bytes ascending": the first refusal in a row whose first byte is b
 unfoldable pub rowRefusal : (ℕ → Option AccessKind) → NodeRelation → ℕ → List Permission → ℕ
