@@ -113,12 +113,6 @@ module _ {A : Type 0} (P : ℕ → A → Type 0) where
 
 -- ---- one element changed
 module _ {A : Type 0} (f : A → A) (d : A) where
-  pub mutated-at : (n : ℕ) (l : List A) → n < length l → getD (mutateAt n f l) n d ≡ f (getD l n d)
-  unfolding mutateAt
-  mutated-at n [] b = absurd (omega arith)
-  mutated-at zero (x ∷ xs) b = refl
-  mutated-at (suc n) (x ∷ xs) b = mutated-at n xs (omega arith)
-
   module _ (g : A → ℕ) where
     -- a number that f does not lower is at every place what it was, or more
     pub mutated-least : ((x : A) → g x ≤ g (f x)) → (n k : ℕ) (l : List A) → g (getD l k d) ≤ g (getD (mutateAt n f l) k d)

@@ -1,9 +1,21 @@
 -- The laws of the definition.
+-- general: Booleans, lists
 pub mod Booleans
 pub mod Lists
+pub mod Counts
 pub mod Alls
+pub mod Places
+-- permissions, trees and visits
 pub mod Permissions
 pub mod Visits
+pub mod Trees
+pub mod Order
+pub mod Turns
+pub mod Recursion
+pub mod Ranges
+pub mod Leaves
+pub mod Retags
+-- requests and runs
 pub mod Accesses
 pub mod Leaks
 pub mod Exchanges

@@ -3,9 +3,9 @@ use Prim.Native.Nat.{ℕ, zero, suc, _+_, _≤_, _<_}
 use mathlib.Core.Path.{_≡_, refl, sym, ap, ap₂, _∙_}
 use mathlib.Core.Bool.{Bool, true, false}
 use mathlib.Core.List.{List, [], _∷_, _++_, map}
-use native.Mathlib.Nat.{zero-add}
+use native.Mathlib.Nat.{zero-add, add-zero, add-suc, suc-add}
 use native.Mathlib.Omega.{arith}
-use lib.ListN.{length, getD, take, drop}
+use lib.ListN.{length, getD, take, drop, set}
 use Rattle.definition.specs.Notation.{_or_, if_then_else_, firstRefusal, tableFrom, mapFrom, mutateAt, writeAt, sumOf}
 use Rattle.definition.proofs.Booleans.{or-assoc}
 
@@ -21,12 +21,35 @@ module _ {A : Type 0} where
   first-append f [] ys = refl
   first-append f (x ∷ xs) ys = ap (λ (n : ℕ). f x or n) (first-append f xs ys) ∙ sym (or-assoc (f x) (firstRefusal f xs) (firstRefusal f ys))
 
+  pub first-none : (f : A → ℕ) → ((x : A) → f x ≡ 0) → (l : List A) → firstRefusal f l ≡ 0
+  unfolding firstRefusal
+  first-none f e [] = refl
+  first-none f e (x ∷ xs) = ap₂ _or_ (e x) (first-none f e xs)
+
 -- ---- each element with its number
 module _ {A : Type 0} where
   pub each-same : {B : Type 0} (f g : ℕ → A → B) → ((n : ℕ) (x : A) → f n x ≡ g n x) → (n : ℕ) (l : List A) → mapFrom n f l ≡ mapFrom n g l
   unfolding mapFrom
   each-same f g h n [] = refl
   each-same f g h n (x ∷ xs) = ap₂ _∷_ (h n x) (each-same f g h (suc n) xs)
+
+  -- functions that agree at the numbers of the list
+  pub each-same-below : {B : Type 0} (f g : ℕ → A → B) (n : ℕ) (l : List A) → ((k : ℕ) (x : A) → k < n + length l → f k x ≡ g k x) → mapFrom n f l ≡ mapFrom n g l
+  unfolding mapFrom
+  each-same-below f g n [] h = refl
+  each-same-below f g n (x ∷ xs) h = ap₂ _∷_ (h n x (omega arith)) (each-same-below f g (suc n) xs (λ k y l. h k y (omega arith)))
+
+  pub each-append : {B : Type 0} (f : ℕ → A → B) (n : ℕ) (xs ys : List A) → mapFrom n f (xs ++ ys) ≡ mapFrom n f xs ++ mapFrom (n + length xs) f ys
+  unfolding mapFrom
+  each-append f n [] ys = ap (λ (k : ℕ). mapFrom k f ys) (sym (add-zero n))
+  each-append f n (x ∷ xs) ys =
+      ap {B = List _} (λ l. f n x ∷ l) (each-append f (suc n) xs ys ∙ ap (λ (k : ℕ). mapFrom (suc n) f xs ++ mapFrom k f ys) (suc-add n (length xs) ∙ sym (add-suc n (length xs))))
+
+  -- the numbers counted by the function
+  pub each-shift : {B : Type 0} (f : ℕ → A → B) (n : ℕ) (l : List A) → mapFrom (suc n) f l ≡ mapFrom n (λ k. f (suc k)) l
+  unfolding mapFrom
+  each-shift f n [] = refl
+  each-shift f n (x ∷ xs) = ap {B = List _} (λ l. f (suc n) x ∷ l) (each-shift f (suc n) xs)
 
   -- one after another
   pub each-then : (f g h : ℕ → A → A) → ((n : ℕ) (x : A) → g n (f n x) ≡ h n x) → (n : ℕ) (l : List A) → mapFrom n g (mapFrom n f l) ≡ mapFrom n h l
@@ -137,3 +160,17 @@ module _ {A : Type 0} where
   part-behind (suc o) l zero (y ∷ ys) (x ∷ xs) h = part-behind o l zero ys xs (omega arith)
   part-behind zero l (suc n) ys (x ∷ xs) h = absurd (omega arith)
   part-behind (suc o) l (suc n) ys (x ∷ xs) h = part-behind o l n ys xs (omega arith)
+
+  -- ---- a loop in place: the elements before i are new, the others still old
+  pub loop-get : (new old : List A) (d : A) (i : ℕ) → length new ≡ length old → i < length old → getD (take i new ++ drop i old) i d ≡ getD old i d
+  loop-get new [] d i e l = absurd (omega arith)
+  loop-get [] (y ∷ old) d i e l = absurd (omega arith)
+  loop-get (x ∷ new) (y ∷ old) d zero e l = refl
+  loop-get (x ∷ new) (y ∷ old) d (suc i) e l = loop-get new old d i (omega arith) (omega arith)
+
+  pub loop-set : (new old : List A) (d : A) (i : ℕ) → length new ≡ length old → i < length old
+      → set (take i new ++ drop i old) i (getD new i d) ≡ take (suc i) new ++ drop (suc i) old
+  loop-set new [] d i e l = absurd (omega arith)
+  loop-set [] (y ∷ old) d i e l = absurd (omega arith)
+  loop-set (x ∷ new) (y ∷ old) d zero e l = refl
+  loop-set (x ∷ new) (y ∷ old) d (suc i) e l = ap (λ (l : List A). x ∷ l) (loop-set new old d i (omega arith) (omega arith))

@@ -20,7 +20,8 @@ use Rattle.definition.specs.Retag.{ReborrowSettings, withChild, initRefu
 use Rattle.definition.specs.Valid.{All, ValidAllocation, Valid, ValidFrame, ValidState}
 use Rattle.definition.proofs.Booleans.{not-not-false, or-neither, or-left, or-right, when-none}
 use Rattle.definition.proofs.Lists.{mutate-length}
-use Rattle.definition.proofs.Alls.{if-holds, outcome-holds, all-imp, all-set, all-append, all-at, mutated-at}
+use Rattle.definition.proofs.Alls.{if-holds, outcome-holds, all-imp, all-set, all-append, all-at}
+use Rattle.definition.proofs.Places.{mutate-here}
 use Rattle.definition.proofs.ValidTrees.{SettingsAgree, withChild-length, withChild-valid, init-valid, init-length}
 use Rattle.definition.proofs.ValidMemory.{MemoryKept, same-kept, Made, was-made, is-made, Succeeds, changed-valid, mutated-kept, release-all-kept, room}
 
@@ -162,7 +163,7 @@ module _ (w : ReborrowSettings) (agree : SettingsAgree w) (frame : ℕ) (p : Thi
           node =
               omega (
                 arith,
-                ap nodeCount (mutated-at (afterReborrowIn w p) noAllocation n m (parent .allocation)),
+                ap nodeCount (mutate-here (afterReborrowIn w p) noAllocation m n (parent .allocation)),
                 reborrow-succeeds w p (allocationAt m n) .nodes,
               );
         })

@@ -1,0 +1,41 @@
+-- What stands at a place of a list.
+use Prim.Native.Nat.{ℕ, zero, suc, _+_, _<_}
+use mathlib.Core.Path.{_≡_, refl, sym, ap, subst, _∙_}
+use mathlib.Core.List.{List, [], _∷_}
+use native.Mathlib.Nat.{zero-add, add-zero}
+use native.Mathlib.Omega.{arith}
+use lib.ListN.{length, getD}
+use Rattle.definition.specs.Notation.{mapFrom, mutateAt}
+use Rattle.definition.specs.Valid.{AllFrom}
+
+module _ {A : Type 0} where
+  -- what holds of each element and its number, holds of the one at place i
+  allFrom-place : (P : ℕ → A → Type 0) (d : A) (n : ℕ) (l : List A) → AllFrom n P l → (i : ℕ) → i < length l → P (n + i) (getD l i d)
+  allFrom-place P d n [] a i h = absurd (omega arith)
+  allFrom-place P d n (x ∷ xs) a zero h = subst (λ (k : ℕ). P k x) (sym (add-zero n)) (a .0)
+  allFrom-place P d n (x ∷ xs) a (suc i) h = subst (λ (k : ℕ). P k (getD xs i d)) (omega arith) (allFrom-place P d (suc n) xs (a .1) i (omega arith))
+
+  pub allFrom-at : (P : ℕ → A → Type 0) (d : A) (l : List A) → AllFrom 0 P l → (i : ℕ) → i < length l → P i (getD l i d)
+  allFrom-at P d l a i h = subst (λ (k : ℕ). P k (getD l i d)) (zero-add i) (allFrom-place P d 0 l a i h)
+
+  each-place : {B : Type 0} (f : ℕ → A → B) (d : A) (e : B) (n : ℕ) (l : List A) (i : ℕ) → i < length l → getD (mapFrom n f l) i e ≡ f (n + i) (getD l i d)
+  unfolding mapFrom
+  each-place f d e n [] i h = absurd (omega arith)
+  each-place f d e n (x ∷ xs) zero h = ap (λ (k : ℕ). f k x) (sym (add-zero n))
+  each-place f d e n (x ∷ xs) (suc i) h = each-place f d e (suc n) xs i (omega arith) ∙ ap (λ (k : ℕ). f k (getD xs i d)) (omega arith)
+
+  pub each-at : {B : Type 0} (f : ℕ → A → B) (d : A) (e : B) (l : List A) (i : ℕ) → i < length l → getD (mapFrom 0 f l) i e ≡ f i (getD l i d)
+  each-at f d e l i h = each-place f d e 0 l i h ∙ ap (λ (k : ℕ). f k (getD l i d)) (zero-add i)
+
+  pub mutate-here : (f : A → A) (d : A) (l : List A) (n : ℕ) → n < length l → getD (mutateAt n f l) n d ≡ f (getD l n d)
+  unfolding mutateAt
+  mutate-here f d [] n h = absurd (omega arith)
+  mutate-here f d (x ∷ xs) zero h = refl
+  mutate-here f d (x ∷ xs) (suc n) h = mutate-here f d xs n (omega arith)
+
+  -- only what f makes of the one element matters
+  pub mutate-same : (f g : A → A) (d : A) (l : List A) (n : ℕ) → f (getD l n d) ≡ g (getD l n d) → mutateAt n f l ≡ mutateAt n g l
+  unfolding mutateAt
+  mutate-same f g d [] n e = refl
+  mutate-same f g d (x ∷ xs) zero e = ap (λ (y : A). y ∷ xs) e
+  mutate-same f g d (x ∷ xs) (suc n) e = ap (λ (l : List A). x ∷ l) (mutate-same f g d xs n e)
