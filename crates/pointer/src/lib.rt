@@ -1,0 +1,106 @@
+// Pointers by value, and bytes as words. mem.rs: `ThinPointer`, `Provenance`, `AbstractByte`.
+// specs/Pointer.antt says what these values are in the definition.
+ghost use mathlib.Core.Path.{_≡_};
+ghost use Rattle.definition.specs.Memory.{wrappingOffset};
+ghost use Rattle.definition.specs.Request.{badByte};
+ghost use Rattle.pointer.specs.Pointer.{provenanceOf, thinPointerOf, back, ahead};
+ghost use Rattle.pointer.specs.Byte.{initialised, hasProvenance, positionOf, allocationOf, nodeOf, valueOf};
+
+// What a pointer may access: nothing, or an allocation, through one of its nodes.
+pub enum Provenance {
+    None,
+    Of { allocation: u32, node: u32 },
+}
+
+pub struct ThinPointer {
+    pub addr: u64,
+    pub provenance: Provenance,
+}
+
+impl ThinPointer {
+    // Offsets a pointer in bytes. "A pointer offset, in the library a signed 64-bit number, does wrap at 2^64."
+    pub fn wrapping_offset(self, offset: i64) -> ThinPointer
+        ensures { λ r. ⌜ thinPointerOf r ≡ wrappingOffset (thinPointerOf self) (back offset) (ahead offset) ⌝ }
+    {
+        let raised = std::num::wrapping_add_u64(self.addr, bytes_ahead(offset));
+        let addr = std::num::wrapping_sub_u64(raised, bytes_back(offset));
+        let provenance = self.provenance;
+        ThinPointer { addr, provenance }
+    }
+
+    // The same address, with another provenance.
+    pub fn with_provenance(self, provenance: Provenance) -> ThinPointer
+        ensures { λ r. ⌜ thinPointerOf r ≡ record { address = thinPointerOf self .address; provenance = provenanceOf provenance } ⌝ }
+    {
+        let addr = self.addr;
+        ThinPointer { addr, provenance }
+    }
+}
+
+// How many bytes a signed number reaches back.
+pub fn bytes_back(offset: i64) -> u64
+    ensures { λ r. ⌜ r ≡ back offset ⌝ }
+{
+    if offset < 0 {
+        (-1 - offset) as u64 + 1
+    } else {
+        0
+    }
+}
+
+// How many bytes a signed number reaches ahead.
+pub fn bytes_ahead(offset: i64) -> u64
+    ensures { λ r. ⌜ r ≡ ahead offset ⌝ }
+{
+    if offset < 0 { 0 } else { offset as u64 }
+}
+
+// ---- a byte is a word (specs/Byte.antt)
+// A word that is no byte: "An uninitialised byte is 0; without provenance the middle fields are 0."
+pub fn bad_byte(word: u32) -> bool
+    ensures { λ r. ⌜ r ≡ badByte word ⌝ }
+{
+    if !is_initialised(word) {
+        return word != 0;
+    }
+    if has_provenance(word) {
+        return false;
+    }
+    (word >> 8) % 0x40_0000 != 0
+}
+
+pub fn is_initialised(word: u32) -> bool
+    ensures { λ r. ⌜ r ≡ initialised word ⌝ }
+{
+    (word >> 31) % 2 == 1
+}
+
+pub fn has_provenance(word: u32) -> bool
+    ensures { λ r. ⌜ r ≡ hasProvenance word ⌝ }
+{
+    (word >> 30) % 2 == 1
+}
+
+pub fn position(word: u32) -> u32
+    ensures { λ r. ⌜ r ≡ positionOf word ⌝ }
+{
+    (word >> 27) % 0x8
+}
+
+pub fn allocation(word: u32) -> u32
+    ensures { λ r. ⌜ r ≡ allocationOf word ⌝ }
+{
+    (word >> 20) % 0x80
+}
+
+pub fn node(word: u32) -> u32
+    ensures { λ r. ⌜ r ≡ nodeOf word ⌝ }
+{
+    (word >> 8) % 0x1000
+}
+
+pub fn value(word: u32) -> u8
+    ensures { λ r. ⌜ r ≡ valueOf word ⌝ }
+{
+    (word % 0x100) as u8
+}
