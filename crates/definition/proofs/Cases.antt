@@ -209,8 +209,9 @@ pub record Cases : Type 0 where
   pub nine-tuples : freezeMask (0 ∷ replicate 9 0xc0000000 ++ (1 ∷ [])) ≡ none
   pub empty-cells : freezeMask (0 ∷ 0x00c00006 ∷ 0x00040000 ∷ 0x00040000 ∷ 0x00040002 ∷ []) ≡ some (true ∷ true ∷ true ∷ true ∷ false ∷ false ∷ [])
   pub cells-back : freezeMask (0 ∷ 0x00800006 ∷ 0x00040002 ∷ 0x00040000 ∷ []) ≡ none
-  -- the words behind a refused request are the next one's; one to three bytes at the end are one of their own
+  -- one to three bytes behind the last whole request are one of their own; a request that is cut short takes them along
   pub cut-requests : requestsOf (replicate 16 0 ++ (1 ∷ 2 ∷ [])) ≡ (0 ∷ 0 ∷ 0 ∷ 0 ∷ []) ∷ [] ∷ []
+  pub cut-short : requestsOf (replicate 12 0 ++ (1 ∷ 2 ∷ [])) ≡ (0 ∷ 0 ∷ 0 ∷ []) ∷ []
   pub cut-refusals : refusals ((0x30000000 ∷ 0 ∷ 0 ∷ 2 ∷ 7 ∷ []) ∷ [] ∷ leakCheckNow ∷ []) ≡ 2 ∷ 2 ∷ 0 ∷ []
   -- the program stops after the first refusal: nothing but the refused allocation at address 0 is answered
   pub stops : program (replicate 40 0) .0 ≡ record { refusal = 5; pointer = none; words = [] } ∷ []
@@ -253,6 +254,7 @@ cases =
       empty-cells = refl;
       cells-back = refl;
       cut-requests = refl;
+      cut-short = refl;
       cut-refusals = refl;
       stops = refl;
       chain-length = refl;

@@ -1,11 +1,11 @@
 -- Every request of 32-bit words keeps a state well formed: so is whatever a run, and the program, comes to.
 use Prim.Native.Nat.{ℕ, zero, suc, _+_, _%_, _≤_, _<_}
 use mathlib.Core.Path.{_≡_, refl}
-use mathlib.Core.Bool.{false, _||_}
+use mathlib.Core.Bool.{Bool, true, false, not, _||_}
 use mathlib.Core.Option.{Option, none, some}
 use mathlib.Core.List.{List, [], _∷_}
 use native.Mathlib.Omega.{arith}
-use lib.Dec.{eqb}
+use lib.Dec.{eqb, ltb}
 use borrow.Author.Tests.{ltb-false}
 use lib.ListN.{length, take, drop}
 use Rattle.definition.specs.Notation.{if_then_else_, any, sumOf}
@@ -17,7 +17,7 @@ use Rattle.definition.specs.Frame.Frame.{Closed}
 use Rattle.definition.specs.Retag.{retagWithoutNode}
 use Rattle.definition.specs.Request.{Kind, Request, request, followingLength, pointer, allocationKind, frameNumber, safePointer, protectorOf, freeze, addsNoNode, settingsOf, loadOf, storeOf, isMiscounted, isMalformed, anyName, strayName, nonzero, badExponent, badAllocationKind, badByte}
 use Rattle.definition.specs.Request.Kind.{Allocate, Deallocate, Load, Store, Retag, NewCall, EndCall, Dereferenceable, SignedDereferenceable, LeakCheck, Unused}
-use Rattle.definition.specs.Run.{retagWithMask, performRetag, perform, step, IsWord, answers, final, wordsOf, cutRequests, requestsOfWords, requestsOf, performedCount, program}
+use Rattle.definition.specs.Run.{retagWithMask, performRetag, perform, step, IsWord, answers, final, wordsOf, restRequest, cutRequests, requestsOf, performedCount, program}
 use Rattle.definition.specs.Valid.{All, ValidByte, Valid, ValidFrame, ValidState}
 use Rattle.definition.proofs.Booleans.{or-neither}
 use Rattle.definition.proofs.Alls.{if-holds, all-both, all-append, all-replicate, all-take, all-drop, none-pass}
@@ -99,21 +99,24 @@ words-of-bytes (a ∷ b ∷ []) h = tt
 words-of-bytes (a ∷ b ∷ c ∷ []) h = tt
 words-of-bytes (a ∷ b ∷ c ∷ d ∷ bytes) h = (omega (arith, h .0, h .1 .0, h .1 .1 .0, h .1 .1 .1 .0), words-of-bytes bytes (h .1 .1 .1 .1))
 
-pub cut-requests-words : (most : ℕ) (ws : List ℕ) → All IsWord ws → All (All IsWord) (cutRequests most ws)
+rest-words : (rest : Bool) → All (All IsWord) (restRequest rest)
+rest-words true = (tt, tt)
+rest-words false = tt
+
+pub cut-requests-words : (most : ℕ) (rest : Bool) (ws : List ℕ) → All IsWord ws → All (All IsWord) (cutRequests most rest ws)
 unfolding cutRequests
-cut-requests-words zero ws h = tt
-cut-requests-words (suc most) [] h = tt
-cut-requests-words (suc most) (w ∷ ws) h =
+cut-requests-words zero rest ws h = rest-words rest
+cut-requests-words (suc most) rest [] h = rest-words rest
+cut-requests-words (suc most) rest (w ∷ ws) h =
     let n : ℕ = 4 + followingLength (request (w ∷ ws)) in
-    (all-take IsWord n (w ∷ ws) h, cut-requests-words most (drop n (w ∷ ws)) (all-drop IsWord n (w ∷ ws) h))
+    if-holds (All (All IsWord)) (ltb (length (w ∷ ws)) n) ((w ∷ ws) ∷ []) (take n (w ∷ ws) ∷ cutRequests most rest (drop n (w ∷ ws)))
+    (λ e. (h, tt))
+    (λ e. (all-take IsWord n (w ∷ ws) h, cut-requests-words most rest (drop n (w ∷ ws)) (all-drop IsWord n (w ∷ ws) h)))
 
 pub requests-of-bytes : (bytes : List ℕ) → All IsByte bytes → All (All IsWord) (requestsOf bytes)
 unfolding requestsOf
 requests-of-bytes bytes h =
-    let rest : List (List ℕ) = [] ∷ [] in
-    all-append (All IsWord) (requestsOfWords (wordsOf bytes)) (if eqb (length bytes % 4) 0 then [] else rest)
-    (cut-requests-words (length (wordsOf bytes)) (wordsOf bytes) (words-of-bytes bytes h))
-    (if-holds (All (All IsWord)) (eqb (length bytes % 4) 0) [] rest (λ e. tt) (λ e. (tt, tt)))
+    cut-requests-words (length (wordsOf bytes)) (not (eqb (length bytes % 4) 0)) (wordsOf bytes) (words-of-bytes bytes h)
 
 pub valid-program : (bytes : List ℕ) → All IsByte bytes → ValidState (program bytes .1)
 unfolding program

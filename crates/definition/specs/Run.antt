@@ -1,9 +1,9 @@
 -- One request, a list of requests, and the program's run. Document 01: "A run and its requests", "Lists whose order may change".
 use Prim.Native.Nat.{ℕ, zero, suc, _+_, _*_, _%_, _^_, _<_}
-use mathlib.Core.Bool.{Bool, true, false, _||_}
+use mathlib.Core.Bool.{Bool, true, false, not, _||_}
 use mathlib.Core.Option.{Option, none, some}
-use mathlib.Core.List.{List, [], _∷_, _++_}
-use lib.Dec.{eqb}
+use mathlib.Core.List.{List, [], _∷_}
+use lib.Dec.{eqb, ltb}
 use lib.ListN.{length, take, drop}
 use Rattle.definition.specs.Notation.{if_then_else_}
 use Rattle.definition.specs.Refusal.{malformed, withoutMask}
@@ -69,21 +69,23 @@ wordsOf (a ∷ b ∷ []) = []
 wordsOf (a ∷ b ∷ c ∷ []) = []
 wordsOf (a ∷ b ∷ c ∷ d ∷ bytes) = (a * 2 ^ 24 + b * 2 ^ 16 + c * 2 ^ 8 + d) ∷ wordsOf bytes
 
--- the requests of a run's words, each with its own; what is left at the end is one too (decision 13). There are no more requests than words
-unfoldable pub cutRequests : ℕ → List ℕ → List (List ℕ)
-cutRequests zero ws = []
-cutRequests (suc most) [] = []
-cutRequests (suc most) (w ∷ ws) =
+-- "Input that ends inside a request": one to three bytes behind the last whole request are a request without words, which no kind has, and so is
+-- refused with 2 (decisions 13 and 53)
+abbrev pub restRequest : Bool → List (List ℕ)
+restRequest true = [] ∷ []
+restRequest false = []
+
+-- the requests of a run's words, each with its own; the last may be cut short. `rest`: bytes are left behind the words. There are no more requests than words
+unfoldable pub cutRequests : ℕ → Bool → List ℕ → List (List ℕ)
+cutRequests zero rest ws = restRequest rest
+cutRequests (suc most) rest [] = restRequest rest
+cutRequests (suc most) rest (w ∷ ws) =
     let n = 4 + followingLength (request (w ∷ ws)) in
-    take n (w ∷ ws) ∷ cutRequests most (drop n (w ∷ ws))
+    if ltb (length (w ∷ ws)) n then (w ∷ ws) ∷ []
+    else take n (w ∷ ws) ∷ cutRequests most rest (drop n (w ∷ ws))
 
-abbrev pub requestsOfWords : List ℕ → List (List ℕ)
-requestsOfWords ws = cutRequests (length ws) ws
-
--- one to three bytes at the end are a request without words, which no kind has: it is refused with 2 (decision 53)
 unfoldable pub requestsOf : List ℕ → List (List ℕ)
-requestsOf bytes =
-    requestsOfWords (wordsOf bytes) ++ (if eqb (length bytes % 4) 0 then [] else [] ∷ [])
+requestsOf bytes = let ws = wordsOf bytes in cutRequests (length ws) (not (eqb (length bytes % 4) 0)) ws
 
 -- how many requests the program performs: it "stops after the first refusal"
 unfoldable pub performedCount : List Answer → ℕ

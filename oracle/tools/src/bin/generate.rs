@@ -1,0 +1,69 @@
+//! Writes generated runs and counts what they reach.
+
+use runs::coverage::{self, Coverage};
+use runs::exchange::exchange;
+use runs::random::Random;
+use runs::{generate, reference, words};
+use std::collections::BTreeMap;
+use std::fs::File;
+use std::io::{BufWriter, Write};
+use tools::arguments::Arguments;
+use tools::framing;
+
+const USAGE: &str = "usage: generate [--seed S] [--count N] [--from I] [--out FILE] [--lists] [--counts]
+  Runs I to I + N - 1 of the seed, written to FILE, each as a 32-bit length and its bytes.
+  --lists   lists with exchanged neighbours instead: for each, three parts are written: the list, the
+            list after the exchanges, and the exchanges as 32-bit numbers, each the first of two places
+  --counts  print which refusals, pairs of code and access, and layouts were reached";
+
+fn main() -> std::io::Result<()> {
+    let arguments = Arguments::read();
+    if arguments.has("--help") {
+        println!("{USAGE}");
+        return Ok(());
+    }
+    let seed = arguments.number("--seed", 1);
+    let count = arguments.number("--count", 1000);
+    let from = arguments.number("--from", 0);
+    let mut out: Box<dyn Write> = match arguments.text("--out") {
+        Some(path) => Box::new(BufWriter::new(File::create(path)?)),
+        None => Box::new(std::io::sink()),
+    };
+    let mut reached = Coverage::default();
+    let mut origins: BTreeMap<&str, u64> = BTreeMap::new();
+    for index in from..from + count {
+        let lists = arguments.has("--lists");
+        let (origin, bytes) = if lists {
+            ("list", write_exchanged(&mut out, seed, index)?)
+        } else {
+            let run = generate::run(seed, index);
+            framing::write(&mut out, &run.bytes)?;
+            (run.origin, run.bytes)
+        };
+        *origins.entry(origin).or_default() += 1;
+        if arguments.has("--counts") {
+            let (_, mut covered) = coverage::during(|| reference::output(&bytes, lists));
+            covered.runs = 1;
+            reached.add(&covered);
+        }
+    }
+    out.flush()?;
+    println!("seed {seed}, runs {from} to {}: {origins:?}", from + count - 1);
+    if arguments.has("--counts") {
+        print!("{}", reached.report());
+        std::process::exit(!reached.missing_refusals().is_empty() as i32);
+    }
+    Ok(())
+}
+
+/// Both lists and the places; gives back the first list.
+fn write_exchanged(out: &mut impl Write, seed: u64, index: u64) -> std::io::Result<Vec<u8>> {
+    let list = generate::list(seed, index);
+    let exchanged = exchange(&mut Random::new(!seed, index), &list, 20);
+    let first = words::bytes(&list);
+    let places: Vec<u32> = exchanged.places.iter().map(|&place| place as u32).collect();
+    framing::write(out, &first)?;
+    framing::write(out, &words::bytes(&exchanged.list))?;
+    framing::write(out, &words::bytes(&[places]))?;
+    Ok(first)
+}
