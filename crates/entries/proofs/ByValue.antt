@@ -1,0 +1,45 @@
+-- Lists by value: one entry more, an entry at a place, the definition's list there and back, and a lent list loaded.
+use Prim.Native.Nat.{ℕ, _+_, _-_, _<_, _≤_}
+use mathlib.Core.Path.{_≡_, refl, sym, ap, _∙_}
+use mathlib.Core.List.{List, [], _∷_, _++_, map, map-append}
+use native.Mathlib.Nat.{suc-ne-zero, suc-inj}
+use native.Mathlib.Numerals.{add-one}
+use native.Mathlib.Omega.{arith}
+use lib.ListN.{length, getD, take, set, replicate, length-append, length-map, length-replicate, List·getD-map}
+use lib.Seq.{take-suc-set, take-at, getD-take}
+use Rattle.definition.specs.Memory.{Provenance}
+use Rattle.entries.specs.List.{provenanceOf, entryOf, noEntry, firstOf, entriesOf, placed, byValue, laid, loaded}
+use Rattle.entries.specs.declared.Entry.{Entry}
+
+pub first-append : (list : List Entry) (n : ℕ) (e : Entry) → n < length list
+    → firstOf (n + 1) (set list n e) ≡ firstOf n list ++ (provenanceOf e ∷ [])
+first-append list n e h = rw (add-one, take-suc-set list n e h) (map-append provenanceOf (take n list) (e ∷ []))
+
+pub first-at : (list : List Entry) (n i : ℕ) → i < n
+    → provenanceOf (getD list i noEntry) ≡ getD (firstOf n list) i (provenanceOf noEntry)
+first-at list n i h = ap provenanceOf (sym (getD-take n list i noEntry h)) ∙ sym (List·getD-map provenanceOf (take n list) i noEntry)
+
+-- ---- the definition's list by value, and back
+pub placed-length : (es : List Provenance) → length es ≤ 64 → length (placed es) ≡ 64
+unfolding placed
+placed-length es h = simp (length-append, length-map, length-replicate) (omega arith)
+
+pub there-and-back : (es : List Provenance) → map provenanceOf (map entryOf es) ≡ es
+there-and-back [] = refl
+there-and-back (e ∷ es) = ap (λ (l : List Provenance). e ∷ l) (there-and-back es)
+
+pub by-value : (es : List Provenance) → entriesOf (byValue es) ≡ es
+unfolding placed
+by-value es =
+    ap (map provenanceOf) (take-at (map entryOf es) (replicate (64 - length es) noEntry) (length es) (length-map es entryOf))
+    ∙ there-and-back es
+
+-- ---- a lent list of 64 entries is loaded as it is
+laid-all : (xs ds : List Entry) → length xs ≡ length ds → laid xs ds ≡ xs
+laid-all [] [] e = refl
+laid-all [] (d ∷ ds) e = absurd (suc-ne-zero (length ds) (sym e))
+laid-all (x ∷ xs) [] e = absurd (suc-ne-zero (length xs) e)
+laid-all (x ∷ xs) (d ∷ ds) e = ap {B = List Entry} (λ r. x ∷ r) (laid-all xs ds (suc-inj e))
+
+pub loaded-all : (xs : List Entry) → length xs ≡ 64 → loaded xs ≡ xs
+loaded-all xs e = laid-all xs (replicate 64 noEntry) (e ∙ sym (length-replicate 64 noEntry))

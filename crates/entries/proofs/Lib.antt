@@ -1,0 +1,8 @@
+pub mod Lists
+pub mod ByValue
+pub mod Fill
+pub mod FrameWords
+pub mod Frames
+pub mod FromValid
+pub mod Rows
+pub mod Lent

@@ -1,0 +1,6 @@
+pub mod Any
+pub mod Matches
+pub mod Calls
+pub mod Signed
+pub mod Words
+pub mod WellFormed

@@ -1,0 +1,441 @@
+// One request: its words to its fields, and refusal 2. Document 01: "A run and its requests".
+// specs/Fields.antt says what these values are in the definition.
+ghost use mathlib.Core.Path.{_≡_};
+ghost use mathlib.Core.List.{List};
+ghost use Prim.Native.Nat.{ℕ, _<_, _*_, _+_, _%_, _^_};
+ghost use lib.ListN.{getD, drop};
+ghost use Rattle.definition.specs.Notation.{any};
+ghost use Rattle.definition.specs.Frame.{State};
+ghost use Rattle.definition.specs.Request.{requestKinds, request, pointer, bit, functionEntry, unpin, freeze, frameNumber, layoutLength};
+ghost use Rattle.definition.specs.Request.{isSafe, isPinned, addsNoNode, safePointer, entryProtector, protectorOf, bytesBack, bytesAhead, followingLength, isMiscounted};
+ghost use Rattle.definition.specs.Request.{anyName, strayName, badByte, badSettings, badMetadata, badRetag, badCall, isMalformed};
+ghost use Rattle.definition.specs.Request.Kind.{Allocate, Deallocate, Load, Store, Retag, NewCall, EndCall, Dereferenceable, LeakCheck, Unused};
+ghost use Rattle.pointer.specs.Pointer.{thinPointerOf, back, ahead};
+ghost use Rattle.permission.specs.Codes as permission;
+ghost use Rattle.request.specs.Fields.{kindOf, requestOf, fieldsOf, anyField, openIn, frameUsed};
+use permission::Protected;
+use permission::SafePointer;
+use pointer::Provenance;
+use pointer::ThinPointer;
+
+pub enum Kind {
+    Allocate,
+    Deallocate,
+    Load,
+    Store,
+    Retag,
+    NewCall,
+    EndCall,
+    Dereferenceable,
+    SignedDereferenceable,
+    LeakCheck,
+    Unused,
+}
+
+// The fields of a request's first four words. The words that follow stay where they are lent (`following`).
+pub struct Request {
+    pub kind: Kind,
+    pub allocation: u32,
+    pub node: u32,
+    pub has_provenance: bool,
+    pub exponent: u32,
+    pub extra: u32,
+    pub address: u64,
+    pub fourth: u32,
+}
+
+// ---- the words
+fn wide(x: u32) -> usize
+    ensures { λ r. ⌜ r ≡ x ⌝ }
+{
+    x as usize
+}
+
+// A word that is missing reads as 0; `is_miscounted` finds that it is missing.
+fn word_at(words: &[u32], i: usize) -> u32
+    ensures { λ r. ⌜ r ≡ getD (now (words .entry)) i 0 ⌝ }
+{
+    if i < words.len() { words[i] } else { 0 }
+}
+
+fn kind_at(number: u32) -> Kind
+    ensures { λ r. ⌜ kindOf r ≡ getD requestKinds number Unused ⌝ }
+{
+    match number {
+        0 => Kind::Allocate,
+        1 => Kind::Deallocate,
+        2 => Kind::Load,
+        3 => Kind::Store,
+        4 => Kind::Retag,
+        5 => Kind::NewCall,
+        6 => Kind::EndCall,
+        7 => Kind::Dereferenceable,
+        8 => Kind::SignedDereferenceable,
+        9 => Kind::LeakCheck,
+        _ => Kind::Unused,
+    }
+}
+
+fn address_of(high: u32, low: u32) -> u64
+    ensures { λ r. ⌜ r ≡ high * 2 ^ 32 + low ⌝ }
+{
+    (high as u64) * 0x1_0000_0000 + (low as u64)
+}
+
+// The words behind the fourth: a store's bytes, a retag's layout.
+pub fn following(words: &[u32]) -> &[u32]
+    ensures { λ r. ⌜ now r ≡ drop 4 (now (words .entry)) ⌝ }
+{
+    let n = words.len();
+    if n < 4 {
+        return &words[n..];
+    }
+    &words[4..]
+}
+
+// "Box at function entry is weak, references strong."
+fn entry_protector(p: SafePointer) -> Protected
+    ensures { λ r. ⌜ permission.protector r ≡ entryProtector (permission.safePointer p) ⌝ }
+{
+    match p {
+        SafePointer::SharedRef => Protected::Strong,
+        SafePointer::MutableRef => Protected::Strong,
+        SafePointer::Box => Protected::Weak,
+    }
+}
+
+impl Request {
+    pub fn of(words: &[u32]) -> Request
+        ensures { λ r. ⌜ requestOf r (drop 4 (now (words .entry))) ≡ request (now (words .entry)) ⌝ }
+    {
+        let first = word_at(words, 0);
+        let kind = kind_at(first >> 28);
+        let address = address_of(word_at(words, 1), word_at(words, 2));
+        let fourth = word_at(words, 3);
+        Request {
+            kind,
+            allocation: (first >> 21) % 0x80,
+            node: (first >> 9) % 0x1000,
+            has_provenance: (first >> 8) % 2 == 1,
+            exponent: (first >> 3) % 0x20,
+            extra: first % 8,
+            address,
+            fourth,
+        }
+    }
+
+    pub fn pointer(self) -> ThinPointer
+        ensures { λ r. ⌜ thinPointerOf r ≡ pointer (fieldsOf self) ⌝ }
+    {
+        let addr = self.address;
+        if self.has_provenance {
+            let provenance = Provenance::Of {
+                allocation: self.allocation,
+                node: self.node,
+            };
+            return ThinPointer { addr, provenance };
+        }
+        let provenance = Provenance::None;
+        ThinPointer { addr, provenance }
+    }
+
+    // ---- a retag's fourth word
+    pub fn function_entry(self) -> bool
+        ensures { λ r. ⌜ r ≡ functionEntry (fieldsOf self) ⌝ }
+    {
+        let fourth = self.fourth;
+        (fourth >> 31) % 2 == 1
+    }
+
+    pub fn unpin(self) -> bool
+        ensures { λ r. ⌜ r ≡ unpin (fieldsOf self) ⌝ }
+    {
+        let fourth = self.fourth;
+        (fourth >> 30) % 2 == 1
+    }
+
+    pub fn freeze(self) -> bool
+        ensures { λ r. ⌜ r ≡ freeze (fieldsOf self) ⌝ }
+    {
+        let fourth = self.fourth;
+        (fourth >> 29) % 2 == 1
+    }
+
+    fn zero_bit(self) -> bool
+        ensures { λ r. ⌜ r ≡ bit 28 (self .fourth) ⌝ }
+    {
+        let fourth = self.fourth;
+        (fourth >> 28) % 2 == 1
+    }
+
+    pub fn frame_number(self) -> usize
+        ensures { λ r. ⌜ r ≡ frameNumber (fieldsOf self) ⌝ }
+    {
+        let fourth = self.fourth;
+        wide((fourth >> 23) % 0x20)
+    }
+
+    pub fn layout_length(self) -> usize
+        ensures { λ r. ⌜ r ≡ layoutLength (fieldsOf self) ⌝ }
+    {
+        let fourth = self.fourth;
+        wide(fourth % 0x80_0000)
+    }
+
+    // ---- a retag's pointer
+    // A reference or a box.
+    pub fn is_safe(self) -> bool
+        ensures { λ r. ⌜ r ≡ isSafe (fieldsOf self) ⌝ }
+    {
+        self.extra < 3
+    }
+
+    // "a mutable reference that isn't unpin"
+    pub fn is_pinned(self) -> bool
+        ensures { λ r. ⌜ r ≡ isPinned (fieldsOf self) ⌝ }
+    {
+        (self.extra == 1) & !self.unpin()
+    }
+
+    pub fn adds_no_node(self) -> bool
+        ensures { λ r. ⌜ r ≡ addsNoNode (fieldsOf self) ⌝ }
+    {
+        !self.is_safe() | self.is_pinned()
+    }
+
+    // Read where the pointer is safe.
+    pub fn safe_pointer(self) -> SafePointer
+        ensures { λ r. ⌜ permission.safePointer r ≡ safePointer (fieldsOf self) ⌝ }
+    {
+        let extra = self.extra;
+        match extra {
+            0 => SafePointer::SharedRef,
+            1 => SafePointer::MutableRef,
+            _ => SafePointer::Box,
+        }
+    }
+
+    pub fn protector(self) -> Protected
+        ensures { λ r. ⌜ permission.protector r ≡ protectorOf (fieldsOf self) ⌝ }
+    {
+        if self.function_entry() {
+            return entry_protector(self.safe_pointer());
+        }
+        Protected::No
+    }
+
+    // ---- a signed length, "in two's complement"
+    pub fn bytes_back(self) -> u64
+        ensures { λ r. ⌜ r ≡ bytesBack (self .fourth) ⌝ }
+    {
+        let fourth = self.fourth;
+        if fourth < 0x8000_0000 {
+            return 0;
+        }
+        0x1_0000_0000 - (fourth as u64)
+    }
+
+    pub fn bytes_ahead(self) -> u64
+        ensures { λ r. ⌜ r ≡ bytesAhead (self .fourth) ⌝ }
+    {
+        let fourth = self.fourth;
+        if fourth < 0x8000_0000 {
+            return fourth as u64;
+        }
+        0
+    }
+
+    // The length itself.
+    pub fn signed_length(self) -> i64
+        ensures { λ r. ⌜ (back r ≡ bytesBack (self .fourth)) × (ahead r ≡ bytesAhead (self .fourth)) ⌝ }
+    {
+        let fourth = self.fourth;
+        if fourth < 0x8000_0000 {
+            return fourth as i64;
+        }
+        (fourth as i64) - 0x1_0000_0000
+    }
+
+    // ---- how many words follow the fourth, and which frame is used
+    pub fn following_length(self) -> usize
+        ensures { λ r. ⌜ ((ws : List ℕ) → r ≡ followingLength (requestOf self ws)) ⌝ }
+    {
+        let kind = self.kind;
+        match kind {
+            Kind::Store => wide(self.fourth),
+            Kind::Retag => {
+                if self.is_safe() {
+                    self.layout_length()
+                } else {
+                    0
+                }
+            }
+            _ => 0,
+        }
+    }
+
+    // New calls, end calls and retags at function entry use a frame. The caller looks it up and says whether it is open (`is_malformed`).
+    pub fn frame_used(self) -> usize
+        ensures { λ r. ⌜ (r ≡ frameUsed self) × (r < 32) ⌝ }
+    {
+        let kind = self.kind;
+        match kind {
+            Kind::Retag => self.frame_number(),
+            _ => wide(self.fourth % 32),
+        }
+    }
+}
+
+// "Input that ends inside a request falls under 2; so does, in the program, a store or retag with more than 4,096 words after its fourth."
+pub fn is_miscounted(words: &[u32]) -> bool
+    ensures { λ r. ⌜ r ≡ isMiscounted (now (words .entry)) ⌝ }
+{
+    let n = Request::of(words).following_length();
+    if 4096 < n {
+        return true;
+    }
+    words.len() != 4 + n
+}
+
+// ---- 2, field by field. Tests are joined by `|` and `&`, which evaluate both sides: a function then has one way through.
+fn any_name(q: Request) -> bool
+    ensures { λ r. ⌜ r ≡ anyName (fieldsOf q) ⌝ }
+{
+    (q.allocation != 0) | (q.node != 0) | q.has_provenance
+}
+
+fn stray_name(q: Request) -> bool
+    ensures { λ r. ⌜ r ≡ strayName (fieldsOf q) ⌝ }
+{
+    !q.has_provenance & ((q.allocation != 0) | (q.node != 0))
+}
+
+fn any_field(q: Request) -> bool
+    ensures { λ r. ⌜ r ≡ anyField (fieldsOf q) ⌝ }
+{
+    any_name(q) | (q.exponent != 0) | (q.extra != 0) | (q.address != 0)
+}
+
+pub fn any_bad_byte(bytes: &[u32]) -> bool
+    ensures { λ r. ⌜ r ≡ any badByte (now (bytes .entry)) ⌝ }
+{
+    let mut i = 0;
+    while i < bytes.len() {
+        if pointer::bad_byte(bytes[i]) {
+            return true;
+        }
+        i += 1;
+    }
+    false
+}
+
+fn bad_settings(q: Request, opened: bool) -> bool
+    ensures { λ r. ⌜ ((s : State) (ws : List ℕ) → openIn s (frameNumber (fieldsOf q)) ≡ opened → r ≡ badSettings s (requestOf q ws)) ⌝ }
+{
+    if q.function_entry() {
+        return q.zero_bit() | !opened;
+    }
+    q.zero_bit() | (q.frame_number() != 0)
+}
+
+fn bad_metadata(following: &[u32]) -> bool
+    ensures { λ r. ⌜ r ≡ badMetadata (now (following .entry)) ⌝ }
+{
+    if following.len() == 0 {
+        return false;
+    }
+    let word = following[0];
+    let kind = word >> 30;
+    (kind == 3) | ((kind != 1) & (word % 0x4000_0000 != 0))
+}
+
+fn bad_retag(q: Request, following: &[u32], opened: bool) -> bool
+    ensures { λ r. ⌜ ((s : State) → openIn s (frameNumber (fieldsOf q)) ≡ opened → r ≡ badRetag s (requestOf q (now (following .entry)))) ⌝ }
+{
+    if q.is_safe() {
+        return bad_settings(q, opened) | (!q.is_pinned() & bad_metadata(following));
+    }
+    q.fourth != 0
+}
+
+fn bad_call(q: Request) -> bool
+    ensures { λ r. ⌜ r ≡ badCall (fieldsOf q) ⌝ }
+{
+    any_field(q) | !(q.fourth < 32)
+}
+
+// ---- 2, kind by kind
+fn malformed_allocate(q: Request) -> bool
+    ensures { λ r. ⌜ ((s : State) (ws : List ℕ) → r ≡ isMalformed Allocate s (requestOf q ws)) ⌝ }
+{
+    any_name(q) | (q.exponent > 29) | (q.extra > 4)
+}
+
+fn malformed_deallocate(q: Request) -> bool
+    ensures { λ r. ⌜ ((s : State) (ws : List ℕ) → r ≡ isMalformed Deallocate s (requestOf q ws)) ⌝ }
+{
+    stray_name(q) | (q.exponent > 29) | (q.extra > 4)
+}
+
+fn malformed_load(q: Request) -> bool
+    ensures { λ r. ⌜ ((s : State) (ws : List ℕ) → r ≡ isMalformed Load s (requestOf q ws)) ⌝ }
+{
+    stray_name(q) | (q.exponent > 29) | (q.extra != 0)
+}
+
+fn malformed_store(q: Request, following: &[u32]) -> bool
+    ensures { λ r. ⌜ ((s : State) → r ≡ isMalformed Store s (requestOf q (now (following .entry)))) ⌝ }
+{
+    malformed_load(q) | any_bad_byte(following)
+}
+
+fn malformed_retag(q: Request, following: &[u32], opened: bool) -> bool
+    ensures { λ r. ⌜ ((s : State) → openIn s (frameNumber (fieldsOf q)) ≡ opened → r ≡ isMalformed Retag s (requestOf q (now (following .entry)))) ⌝ }
+{
+    stray_name(q) | (q.exponent != 0) | (q.extra > 5) | bad_retag(q, following, opened)
+}
+
+fn malformed_new_call(q: Request, opened: bool) -> bool
+    ensures { λ r. ⌜ ((s : State) (ws : List ℕ) → openIn s (q .fourth % 32) ≡ opened → r ≡ isMalformed NewCall s (requestOf q ws)) ⌝ }
+{
+    bad_call(q) | opened
+}
+
+fn malformed_end_call(q: Request, opened: bool) -> bool
+    ensures { λ r. ⌜ ((s : State) (ws : List ℕ) → openIn s (q .fourth % 32) ≡ opened → r ≡ isMalformed EndCall s (requestOf q ws)) ⌝ }
+{
+    bad_call(q) | !opened
+}
+
+// Of both dereference tests.
+fn malformed_dereferenceable(q: Request) -> bool
+    ensures { λ r. ⌜ ((s : State) (ws : List ℕ) → r ≡ isMalformed Dereferenceable s (requestOf q ws)) ⌝ }
+{
+    stray_name(q) | (q.exponent != 0) | (q.extra != 0)
+}
+
+fn malformed_leak_check(q: Request) -> bool
+    ensures { λ r. ⌜ ((s : State) (ws : List ℕ) → r ≡ isMalformed LeakCheck s (requestOf q ws)) ⌝ }
+{
+    any_field(q) | (q.fourth != 0)
+}
+
+// Whether the request falls under 2, its number of words apart. `opened` says whether the frame that it uses is open.
+pub fn is_malformed(q: Request, following: &[u32], opened: bool) -> bool
+    ensures { λ r. ⌜ ((s : State) → openIn s (frameUsed q) ≡ opened → r ≡ isMalformed (kindOf (q .kind)) s (requestOf q (now (following .entry)))) ⌝ }
+{
+    let kind = q.kind;
+    match kind {
+        Kind::Allocate => malformed_allocate(q),
+        Kind::Deallocate => malformed_deallocate(q),
+        Kind::Load => malformed_load(q),
+        Kind::Store => malformed_store(q, following),
+        Kind::Retag => malformed_retag(q, following, opened),
+        Kind::NewCall => malformed_new_call(q, opened),
+        Kind::EndCall => malformed_end_call(q, opened),
+        Kind::Dereferenceable => malformed_dereferenceable(q),
+        Kind::SignedDereferenceable => malformed_dereferenceable(q),
+        Kind::LeakCheck => malformed_leak_check(q),
+        Kind::Unused => true,
+    }
+}
