@@ -1,0 +1,4 @@
+pub mod Any
+pub mod Tests
+pub mod Points
+pub mod Leak

@@ -1,0 +1,30 @@
+-- 4 is passed before `check_ptr` is called.
+use mathlib.Core.Path.{_∙_, sym, ap}
+use borrow.Author.Needs.{needs}
+use Rattle.definition.specs.Memory.{dereferenceable, refusedWith}
+use Rattle.bounds.proofs.within_reach.Statement.{statement}
+use Rattle.bounds.proofs.within_reach.Tie as tie
+
+never-made-requires : tie.Need-never-made-requires
+never-made-requires c κs = search needs
+
+returns : tie.Need-returns
+unfolding dereferenceable
+returns c = λ m words h. rw (sym (c .before .never-made .ensures m h) ∙ c .if1 .taken)
+
+check-ptr-requires : tie.Need-check-ptr-requires
+check-ptr-requires c κs = let (m, h) = c .before .before .before .pre in (m, record { records = h; made = sym (c .before .never-made .ensures m h) ∙ c .if1 .left })
+
+refused-with-requires : tie.Need-refused-with-requires
+refused-with-requires c κs = search needs
+
+returns-2 : tie.Need-returns-2
+unfolding dereferenceable
+returns-2 c = λ m words h.
+    let e = sym (c .before .before .before .never-made .ensures m h) ∙ c .before .before .if1 .left in
+    rw e (c .refused-with .ensures words ∙ ap refusedWith (c .before .check-ptr .ensures m (record { records = h; made = e })))
+
+pub within-reach-spec : {M : Type 1} → statement M
+within-reach-spec =
+    tie.close
+    (tie.spec never-made-requires returns check-ptr-requires refused-with-requires returns-2)

@@ -1,0 +1,81 @@
+-- What a load and a store ask and what they leave, said of each memory that the buffers hold.
+use Prim.Native.Nat.{ℕ, _+_, _-_, _≤_, _<_}
+use mathlib.Core.Path.{_≡_}
+use mathlib.Core.Bool.{false}
+use mathlib.Core.List.{List, []}
+use lib.Dec.{eqb}
+use lib.ListN.{length}
+use Rattle.definition.specs.Notation.{if_then_else_, _when_, _or_}
+use Rattle.definition.specs.Refusal.{neverMade, misaligned}
+use Rattle.definition.specs.Permission.{AccessKind}
+use Rattle.definition.specs.Permission.AccessKind.{Read, Write}
+use Rattle.definition.specs.Tree.{Visit, accessVisit}
+use Rattle.definition.specs.Memory.{ThinPointer, Memory, MemoryAccess, allocationOf, allocationAt, target, offset, size, nodeCount, namesNeverMade, isMisaligned, checkPtr, accessRefusal, performAccess}
+use Rattle.answer.specs.Answer.{answerOf}
+use Rattle.answer.specs.declared.Answer.{Answer}
+use Rattle.answer.specs.declared.Answer.the-variants.{Refused, Leak, Accepted, Pointer, Words}
+use Rattle.tables.specs.Encoding.{wordsOf, codesOf, held}
+use Rattle.tables.specs.Held.{startOf}
+
+-- ---- the definition's accesses
+abbrev pub accessOf : AccessKind → ThinPointer → ℕ → ℕ → List ℕ → MemoryAccess
+accessOf kind p len exponent bytes = record { kind = kind; pointer = p; len = len; exponent = exponent; bytes = bytes }
+
+abbrev pub loadOf : ThinPointer → ℕ → ℕ → MemoryAccess
+loadOf p len exponent = accessOf Read p len exponent []
+
+abbrev pub storeOf : ThinPointer → List ℕ → ℕ → MemoryAccess
+storeOf p bytes exponent = accessOf Write p (length bytes) exponent bytes
+
+-- ---- before the tree is visited
+-- 4, 6 and 7 to 9
+unfoldable pub boundsRefusal : ThinPointer → ℕ → ℕ → Memory → ℕ
+boundsRefusal p len exponent m =
+    neverMade when namesNeverMade m (p .provenance)
+    or misaligned when isMisaligned (p .address) exponent
+    or checkPtr (target m p) p 0 len
+
+-- 4 and 7 to 9 were passed
+pub record Checked (m : Memory) (p : ThinPointer) (len : ℕ) : Type 0 where
+  pub made : namesNeverMade m (p .provenance) ≡ false
+  pub inside : checkPtr (target m p) p 0 len ≡ 0
+
+-- node and bytes are in allocation n
+pub record Reached (m : Memory) (n node address len : ℕ) : Type 0 where
+  pub made : n < length m
+  pub inTree : node < nodeCount (allocationAt m n)
+  pub above : allocationAt m n .address ≤ address
+  pub within : address + len ≤ allocationAt m n .address + size (allocationAt m n)
+
+-- an access of these bytes of it
+abbrev pub visitAt : AccessKind → Memory → ℕ → ℕ → ℕ → ℕ → Visit
+visitAt kind m n node address len = accessVisit kind node (address - allocationAt m n .address) len
+
+-- where the bytes at a pointer start in the data; 0 where there are none
+unfoldable pub wordsStart : ThinPointer → ℕ → Memory → ℕ
+wordsStart p len m =
+    if eqb len 0 then 0 else startOf wordsOf m (allocationOf (p .provenance)) + offset (target m p) p
+
+-- ---- what they leave
+-- all but the words
+pub record Accessed (x : MemoryAccess) (m : Memory) (answer : ℕ) (C : List ℕ) : Type 0 where
+  pub refusal : answer ≡ accessRefusal x m
+  pub codes : C ≡ held 32768 codesOf (performAccess x m .1)
+
+-- the part of the data that an answer names lies within so many words
+abbrev pub WordsWithin : ℕ → Answer → Type 0
+WordsWithin total (Refused n) = Unit
+WordsWithin total (Leak n) = Unit
+WordsWithin total Accepted = Unit
+WordsWithin total (Pointer p) = Unit
+WordsWithin total (Words start len) = start + len ≤ total
+
+pub record Loaded (x : MemoryAccess) (m : Memory) (answer : Answer) (C : List ℕ) : Type 0 where
+  pub answers : answerOf answer (held 4096 wordsOf m) ≡ performAccess x m .0
+  pub inData : WordsWithin 4096 answer
+  pub codes : C ≡ held 32768 codesOf (performAccess x m .1)
+
+pub record Stored (x : MemoryAccess) (m : Memory) (answer : Answer) (W C : List ℕ) : Type 0 where
+  pub answers : (words : List ℕ) → answerOf answer words ≡ performAccess x m .0
+  pub words : W ≡ held 4096 wordsOf (performAccess x m .1)
+  pub codes : C ≡ held 32768 codesOf (performAccess x m .1)

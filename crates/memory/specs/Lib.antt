@@ -1,0 +1,4 @@
+pub mod Buffers
+pub mod Allocate
+pub mod Access
+pub mod Deallocate

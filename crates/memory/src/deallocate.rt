@@ -1,0 +1,122 @@
+// Deallocation: the tests of the pointer and the record, a write to all bytes, and 24 on what it leaves.
+use answer::Answer;
+use pointer::Provenance;
+use pointer::ThinPointer;
+use tables::Allocation;
+ghost use mathlib.Core.Path.{_≡_};
+ghost use Prim.Native.Nat.{_+_};
+ghost use Rattle.definition.specs.Memory.{Memory, AllocationKind, kindNumber};
+ghost use Rattle.pointer.specs.Pointer.{thinPointerOf};
+ghost use Rattle.tables.specs.Held.{Records};
+ghost use Rattle.memory.specs.Buffers.{HoldsMarked};
+ghost use Rattle.memory.specs.Deallocate.{recordRefusal, refusalThrough, NodeIn, WrittenAll, Deallocated};
+
+// 8 and 10 to 13.
+fn record_refusal(a: Allocation, addr: u64, kind: u64, len: u64, exponent: u64) -> u8
+    ensures { λ r. ⌜ r ≡ recordRefusal (a .state) (a .kind) (a .exponent) (a .address) (a .size) addr kind len exponent ⌝ }
+{
+    if a.state != 1 {
+        return 8;
+    }
+    if addr != a.address {
+        return 10;
+    }
+    if kind != a.kind {
+        return 11;
+    }
+    if len != a.size as u64 {
+        return 12;
+    }
+    if exponent != a.exponent {
+        return 13;
+    }
+    0
+}
+
+// 4, 8 and 10 to 13, through a provenance.
+fn deallocate_refusal(
+    allocs: &[u64],
+    allocation: u32,
+    node: u32,
+    addr: u64,
+    kind: u64,
+    len: u64,
+    exponent: u64,
+) -> u8
+    requires { ⌜ ((m : Memory) × Records m (now allocs)) ⌝ }
+    ensures { λ r. ⌜ ((m : Memory) → Records m (now (allocs .entry))
+        → r ≡ refusalThrough (record { allocation = allocation; node = node }) addr kind len exponent m) ⌝ }
+{
+    let provenance = Provenance::Of { allocation, node };
+    if bounds::never_made(allocs, provenance) {
+        return 4;
+    }
+    let a = tables::allocation_at(allocs, allocation as usize);
+    record_refusal(a, addr, kind, len, exponent)
+}
+
+// The write to all bytes of allocation n, through a node, and 24: a refusal leaves the codes as they were.
+fn write_all(
+    allocs: &[u64],
+    parents: &[u16],
+    protectors: &[u8],
+    codes: &mut [u8],
+    n: usize,
+    node: usize,
+) -> u8
+    requires { ⌜ ((m : Memory) × (HoldsMarked m (now allocs) (now parents) (now protectors) (now codes) × NodeIn m n node)) ⌝ }
+    ensures { λ r. ⌜ ((m : Memory) → HoldsMarked m (now (allocs .entry)) (now (parents .entry)) (now (protectors .entry)) (now (codes .entry)) → NodeIn m n node
+        → WrittenAll m n node r (now (codes .exit))) ⌝ }
+{
+    let a = tables::allocation_at(allocs, n);
+    let size = a.size;
+    let nodes = a.nodes;
+    let s = tables::starts_at(allocs, n);
+    let node_start = s.nodes;
+    let node_end = node_start + nodes;
+    let code_start = s.codes;
+    let code_end = code_start + nodes * size;
+    tree::deallocate(
+        &parents[node_start..node_end],
+        &protectors[node_start..node_end],
+        &mut codes[code_start..code_end],
+        size,
+        node,
+    )
+}
+
+// The kind is given by its number.
+pub fn deallocate(
+    allocs: &mut [u64],
+    parents: &[u16],
+    protectors: &[u8],
+    codes: &mut [u8],
+    p: ThinPointer,
+    kind: u64,
+    len: u64,
+    exponent: u64,
+) -> Answer
+    requires { ⌜ ((m : Memory) × HoldsMarked m (now allocs) (now parents) (now protectors) (now codes)) ⌝ }
+    ensures { λ r. ⌜ ((m : Memory) (k : AllocationKind) → HoldsMarked m (now (allocs .entry)) (now (parents .entry)) (now (protectors .entry)) (now (codes .entry))
+        → kind ≡ kindNumber k → Deallocated (thinPointerOf p) k len exponent m r (now (allocs .exit)) (now (codes .exit))) ⌝ }
+{
+    let addr = p.addr;
+    let provenance = p.provenance;
+    match provenance {
+        Provenance::None => Answer::Refused(7),
+        Provenance::Of { allocation, node } => {
+            let refused = deallocate_refusal(allocs, allocation, node, addr, kind, len, exponent);
+            if refused != 0 {
+                return Answer::Refused(refused);
+            }
+            let n = allocation as usize;
+            let prevented = write_all(allocs, parents, protectors, codes, n, node as usize);
+            if prevented != 0 {
+                return Answer::Refused(prevented);
+            }
+            let state = n * 6;
+            allocs[state] = 2;
+            Answer::Accepted
+        }
+    }
+}

@@ -1,0 +1,181 @@
+-- What a new allocation and a new node do to the buffers: each buffer by its focus law.
+use Prim.Native.Nat.{ℕ, _+_, _-_, _*_, _≤_, _<_}
+use mathlib.Core.Path.{_≡_, refl, sym, ap, _∙_}
+use mathlib.Core.Bool.{false}
+use mathlib.Core.List.{List, [], _∷_, _++_, append-nil}
+use native.Mathlib.Omega.{arith}
+use borrow.Rule.Slice.PartMut.{putMid, midOf}
+use lib.ListN.{length, drop, getD, set, replicate, length-append, length-replicate}
+use lib.Seq.{paste}
+use Rattle.definition.specs.Notation.{mutateAt}
+use Rattle.definition.specs.Permission.{code}
+use Rattle.definition.specs.Permission.Permission.{Unprot}
+use Rattle.definition.specs.Permission.PermissionUnprot.{Unique}
+use Rattle.definition.specs.Tree.{Node}
+use Rattle.definition.specs.Memory.{AllocationKind, Memory, allocationAt, kindNumber, exceedsBounds, ofAllocation, newAllocation}
+use Rattle.definition.specs.Retag.{ofNode}
+use Rattle.definition.proofs.ValidMemory.{Room, room}
+use Rattle.tables.specs.Encoding.{protectorNumber, recordOf, parentsOf, protectorsOf, wordsOf, rowOf, codesOf, concatMap, held, encode}
+use Rattle.tables.specs.Held.{buffers, Holds, startOf, Records, StartsAt, AllocationFits, Appended, inserted, withNode, Trees, NodeFits}
+use Rattle.tables.proofs.Parts.{map-snoc, map-replicate, put-paste}
+use Rattle.tables.proofs.Focus.{concat-append, length-held, focus-used, focus-same, focus-set, focus-insert, focus-append, focus-append-zeros}
+use Rattle.tables.proofs.Sizes.{length-parents, records-used, words-used, parents-used, protectors-used, codes-used}
+use Rattle.tables.proofs.Lookup.{record-start, start-more, start-all, allocs-length, nodes-at}
+use Rattle.tables.proofs.ReadBack.{holds-parents, holds-protectors, holds-words, encode-of}
+
+-- ---- an allocation more
+-- its row, and what else it has is zeros
+module _ (k : AllocationKind) (bytes exponent address : ℕ) where
+  new-row : codesOf (newAllocation k bytes exponent address) ≡ replicate bytes 3
+  unfolding codesOf concatMap newAllocation
+  new-row = append-nil _ ∙ map-replicate code bytes (Unprot Unique)
+
+  new-record : recordOf (newAllocation k bytes exponent address) ≡ 1 ∷ kindNumber k ∷ exponent ∷ address ∷ bytes ∷ 1 ∷ []
+  unfolding newAllocation
+  new-record = ap (λ (z : ℕ). 1 ∷ kindNumber k ∷ exponent ∷ address ∷ z ∷ 1 ∷ []) (length-replicate bytes 0)
+
+  new-zeros : (wordsOf (newAllocation k bytes exponent address) ≡ replicate bytes 0)
+      × (parentsOf (newAllocation k bytes exponent address) ≡ replicate 1 0)
+      × (protectorsOf (newAllocation k bytes exponent address) ≡ replicate 1 0)
+  unfolding newAllocation parentsOf protectorsOf
+  new-zeros = (refl, refl, refl)
+
+module _ {m : Memory} {A C : List ℕ} {bytes : ℕ} (ok : AllocationFits m A C bytes) where
+  allocation-room : Room m (ofAllocation bytes)
+  allocation-room = room m (ofAllocation bytes) (ok .room)
+
+  pub record-room : length m * 6 + 6 ≤ length A
+  record-room = omega (arith, allocs-length (ok .records), allocation-room .allocations)
+
+  pub append-record : (k : AllocationKind) (exponent address : ℕ)
+      → paste A (length m * 6) (1 ∷ kindNumber k ∷ exponent ∷ address ∷ bytes ∷ 1 ∷ []) 6 ≡ held 768 recordOf (m ++ (newAllocation k bytes exponent address ∷ []))
+  append-record k exponent address =
+      let x = newAllocation k bytes exponent address in
+      ap (λ (t : List ℕ). paste A (length m * 6) t 6) (sym (new-record k bytes exponent address))
+      ∙ ap (λ (t : List ℕ). paste t (length m * 6) (recordOf x) 6) (ok .records .allocs)
+      ∙ ap (λ (n : ℕ). paste (held 768 recordOf m) n (recordOf x) 6) (sym (records-used m))
+      ∙ focus-append 768 recordOf m x (omega (arith, records-used m, allocation-room .allocations))
+
+  module _ {w n c : ℕ} (s : StartsAt m (length m) w n c) where
+    code-start : c ≡ length (concatMap codesOf m)
+    code-start = s .codes ∙ start-all codesOf m
+
+    code-room : length (concatMap codesOf m) + bytes ≤ 32768
+    code-room = omega (arith, codes-used m (ok .records .valid .each), allocation-room .codes)
+
+    pub row-room : c + bytes ≤ length C
+    row-room = omega (arith, code-start, code-room, ap length (ok .codes), length-held 32768 codesOf m (omega (arith, code-room)))
+
+    pub append-row : (k : AllocationKind) (exponent address : ℕ) → putMid c (length C - c) C (replicate bytes 3 ++ drop bytes (midOf c (length C - c) C))
+        ≡ held 32768 codesOf (m ++ (newAllocation k bytes exponent address ∷ []))
+    append-row k exponent address =
+        let x = newAllocation k bytes exponent address in
+        let r : List ℕ = replicate bytes 3 in
+        let lr : length r ≡ bytes = length-replicate bytes 3 in
+        let cx : codesOf x ≡ r = new-row k bytes exponent address in
+        ap (λ (z : ℕ). putMid c (length C - c) C (r ++ drop z (midOf c (length C - c) C))) (sym lr)
+        ∙ put-paste C r c (omega (arith, row-room))
+        ∙ ap (λ (t : List ℕ). paste t c r (length r)) (ok .codes)
+        ∙ ap (λ (z : ℕ). paste (held 32768 codesOf m) z r (length r)) code-start
+        ∙ ap (λ (t : List ℕ). paste (held 32768 codesOf m) (length (concatMap codesOf m)) t (length t)) (sym cx)
+        ∙ focus-append 32768 codesOf m x (omega (arith, ap length cx, code-room))
+
+-- the five buffers after it: three stay as they are
+pub append-encode : (m : Memory) (A P R W C A′ C′ : List ℕ) (n : ℕ) (k : AllocationKind) (bytes exponent address : ℕ) → Holds m (buffers A P R W C)
+    → exceedsBounds m (ofAllocation bytes) ≡ false → Appended m (newAllocation k bytes exponent address) n A′ C′
+    → buffers A′ P R W C′ ≡ encode (m ++ (newAllocation k bytes exponent address ∷ []))
+append-encode m A P R W C A′ C′ n k bytes exponent address h e s =
+    let x = newAllocation k bytes exponent address in
+    let r : Room m (ofAllocation bytes) = room m (ofAllocation bytes) e in
+    let z = new-zeros k bytes exponent address in
+    let lw : length (concatMap wordsOf m) + bytes ≤ 4096 = omega (arith, words-used m, r .words) in
+    let lp : length (concatMap parentsOf m) + 1 ≤ 1024 = omega (arith, parents-used m, r .nodes) in
+    let lr : length (concatMap protectorsOf m) + 1 ≤ 1024 = omega (arith, protectors-used m, r .nodes) in
+    encode-of (m ++ (x ∷ []))
+    (s .allocs)
+    (holds-parents h ∙ sym (focus-append-zeros 1024 parentsOf m x 1 (z .1) lp))
+    (holds-protectors h ∙ sym (focus-append-zeros 1024 protectorsOf m x 1 (z .2) lr))
+    (holds-words h ∙ sym (focus-append-zeros 4096 wordsOf m x bytes (z .0) lw))
+    (s .codes)
+
+-- ---- a node more
+module _ {m : Memory} {a : ℕ} {x : Node} {A P R C : List ℕ} {pa pr : ℕ} (row : List ℕ) (ok : NodeFits m a x A P R C pa pr row) where
+  pub fits-records : Records m A
+  fits-records = record { valid = ok .valid; allocs = ok .trees .allocs }
+
+  node-room : Room m (ofNode (allocationAt m a))
+  node-room = room m (ofNode (allocationAt m a)) (ok .room)
+
+  parents-room : length (concatMap parentsOf m) + 1 ≤ 1024
+  parents-room = omega (arith, parents-used m, node-room .nodes)
+
+  protectors-room : length (concatMap protectorsOf m) + 1 ≤ 1024
+  protectors-room = omega (arith, protectors-used m, node-room .nodes)
+
+  codes-room : length (concatMap codesOf m) + length row ≤ 32768
+  codes-room = omega (arith, codes-used m (ok .valid .each), node-room .codes, ok .wide)
+
+  pub count-in : a * 6 + 5 < length A
+  count-in = omega (arith, allocs-length fits-records, ok .made, ok .valid .bounded .allocations)
+
+  pub count-small : getD A (a * 6 + 5) 0 ≤ 1024
+  count-small = omega (arith, nodes-at fits-records a (ok .made), length-parents (allocationAt m a), focus-used 1024 parentsOf m a (ok .made), parents-room)
+
+  new-count : set A (a * 6 + 5) (getD A (a * 6 + 5) 0 + 1) ≡ held 768 recordOf (mutateAt a (withNode x) m)
+  new-count =
+      let e : startOf recordOf m a ≡ a * 6 = record-start m a (omega (arith, ok .made)) in
+      let y = allocationAt m a in
+      let n : length (y .nodes ++ (x ∷ [])) ≡ getD A (a * 6 + 5) 0 + 1 = length-append (y .nodes) (x ∷ []) ∙ omega (arith, nodes-at fits-records a (ok .made)) in
+      ap (λ (v : ℕ). set A (a * 6 + 5) v) (sym n)
+      ∙ ap (λ (t : List ℕ). set t (a * 6 + 5) (length (y .nodes ++ (x ∷ [])))) (ok .trees .allocs)
+      ∙ ap (λ (k : ℕ). set (held 768 recordOf m) (k + 5) (length (y .nodes ++ (x ∷ [])))) (sym e)
+      ∙ focus-set 768 recordOf m a (ok .made) (withNode x) 5 (length (y .nodes ++ (x ∷ []))) (omega arith) refl
+
+  module _ {w n c : ℕ} (s : StartsAt m (a + 1) w n c) where
+    parents-place : n ≡ startOf parentsOf m a + length (parentsOf (allocationAt m a))
+    parents-place = s .parents ∙ start-more parentsOf m a (ok .made)
+
+    protectors-place : n ≡ startOf protectorsOf m a + length (protectorsOf (allocationAt m a))
+    protectors-place = s .protectors ∙ start-more protectorsOf m a (ok .made)
+
+    codes-place : c ≡ startOf codesOf m a + length (codesOf (allocationAt m a))
+    codes-place = s .codes ∙ start-more codesOf m a (ok .made)
+
+    pub parents-in : n + 1 ≤ length P
+    parents-in = omega (arith, parents-place, focus-used 1024 parentsOf m a (ok .made), parents-room, ap length (ok .trees .parents), length-held 1024 parentsOf m (omega (arith, parents-room)))
+
+    pub protectors-in : n + 1 ≤ length R
+    protectors-in = omega (arith, protectors-place, focus-used 1024 protectorsOf m a (ok .made), protectors-room, ap length (ok .trees .protectors), length-held 1024 protectorsOf m (omega (arith, protectors-room)))
+
+    pub codes-in : c + length row ≤ length C
+    codes-in = omega (arith, codes-place, focus-used 32768 codesOf m a (ok .made), codes-room, ap length (ok .trees .codes), length-held 32768 codesOf m (omega (arith, codes-room)))
+
+    new-parents : inserted P n (pa ∷ []) ≡ held 1024 parentsOf (mutateAt a (withNode x) m)
+    unfolding parentsOf
+    new-parents =
+        rw (ok .trees .parents, parents-place, ok .is-parent)
+        (focus-insert 1024 parentsOf m a (ok .made) (withNode x) (x .parent ∷ []) parents-room (map-snoc (λ (t : Node). t .parent) (allocationAt m a .nodes) x))
+
+    new-protectors : inserted R n (pr ∷ []) ≡ held 1024 protectorsOf (mutateAt a (withNode x) m)
+    unfolding protectorsOf
+    new-protectors =
+        rw (ok .trees .protectors, protectors-place, ok .is-protector)
+        (focus-insert 1024 protectorsOf m a (ok .made) (withNode x) (protectorNumber (x .protected) ∷ []) protectors-room
+        (map-snoc (λ (t : Node). protectorNumber (t .protected)) (allocationAt m a .nodes) x))
+
+    new-codes : inserted C c row ≡ held 32768 codesOf (mutateAt a (withNode x) m)
+    unfolding codesOf concatMap
+    new-codes =
+        rw (ok .trees .codes, codes-place)
+        (focus-insert 32768 codesOf m a (ok .made) (withNode x) row codes-room
+        (concat-append rowOf (allocationAt m a .nodes) (x ∷ [])
+        ∙ ap (λ (t : List ℕ). codesOf (allocationAt m a) ++ t) (append-nil (rowOf x) ∙ sym (ok .is-row))))
+
+    pub new-trees : Trees (mutateAt a (withNode x) m) (set A (a * 6 + 5) (getD A (a * 6 + 5) 0 + 1)) (inserted P n (pa ∷ [])) (inserted R n (pr ∷ [])) (inserted C c row)
+    new-trees = record { allocs = new-count; parents = new-parents; protectors = new-protectors; codes = new-codes }
+
+-- the five buffers after it: the words stay as they are
+pub node-encode : (m : Memory) (a : ℕ) (x : Node) (A P R W C A′ P′ R′ C′ : List ℕ) → Holds m (buffers A P R W C) → a < length m
+    → Trees (mutateAt a (withNode x) m) A′ P′ R′ C′ → buffers A′ P′ R′ W C′ ≡ encode (mutateAt a (withNode x) m)
+node-encode m a x A P R W C A′ P′ R′ C′ h made t =
+    encode-of (mutateAt a (withNode x) m) (t .allocs) (t .parents) (t .protectors) (holds-words h ∙ sym (focus-same 4096 wordsOf m a made (withNode x) refl)) (t .codes)

@@ -1,0 +1,102 @@
+-- An allocation's parts of the five buffers, as they are lent on and come back: reading one gives the field, and what is written
+-- into one is the memory with that field changed.
+use Prim.Native.Nat.{ℕ, _+_, _*_, _≤_, _<_}
+use mathlib.Core.Path.{_≡_, refl, sym, ap, _∙_}
+use mathlib.Core.List.{List}
+use native.Mathlib.Nat.{add-zero}
+use native.Mathlib.Omega.{arith}
+use borrow.Rule.Slice.PartMut.{putMid}
+use lib.ListN.{length, take, drop, set}
+use lib.Seq.{paste}
+use Rattle.definition.specs.Notation.{mutateAt, writeAt}
+use Rattle.definition.specs.Memory.{Allocation, Memory, size, nodeCount, codeCount, allocationAt}
+use Rattle.tables.specs.Encoding.{Buffers, recordOf, parentsOf, protectorsOf, wordsOf, codesOf, held}
+use Rattle.tables.specs.Held.{startOf, Holds, StartsAt}
+use Rattle.tables.proofs.Parts.{write-paste}
+use Rattle.tables.proofs.Focus.{focus-room, focus-part, focus-same, focus-mutate, focus-paste, focus-set}
+use Rattle.tables.proofs.Sizes.{length-parents, length-protectors, codes-at}
+use Rattle.tables.proofs.Lookup.{record-start}
+use Rattle.tables.proofs.ReadBack.{holds-allocs, holds-parents, holds-protectors, holds-words, holds-codes}
+
+-- one buffer b that holds the parts f; allocation a's starts at p and has k numbers
+module _ (total : ℕ) (f : Allocation → List ℕ) (m : Memory) (a : ℕ) (made : a < length m) (b : List ℕ) (h : b ≡ held total f m)
+    (p k : ℕ) (starts : p ≡ startOf f m a) (long : k ≡ length (f (allocationAt m a))) where
+  lent-room : p + k ≤ length b
+  lent-room = rw (h, starts, long) (focus-room total f m a made)
+
+  lent-part : take k (drop p b) ≡ f (allocationAt m a)
+  lent-part = rw (h, starts, long) (focus-part total f m a made)
+
+  given-part : (g : Allocation → Allocation) (new : List ℕ) → length new ≡ k → f (g (allocationAt m a)) ≡ new
+      → putMid p k b new ≡ held total f (mutateAt a g m)
+  given-part g new l e = rw (h, starts, long) (focus-mutate total f m a made g new (l ∙ long) e)
+
+-- each of the five
+module _ {m : Memory} {b : Buffers} (h : Holds m b) {a : ℕ} (made : a < length m) where
+  -- ---- the record: g changes number j of it
+  pub given-number : (g : Allocation → Allocation) (j v : ℕ) → j < 6 → recordOf (g (allocationAt m a)) ≡ set (recordOf (allocationAt m a)) j v
+      → set (b .allocs) (a * 6 + j) v ≡ held 768 recordOf (mutateAt a g m)
+  given-number g j v l e =
+      rw (holds-allocs h, ← record-start m a (omega arith)) (focus-set 768 recordOf m a made g j v l e)
+
+  pub given-state : (g : Allocation → Allocation) (v : ℕ) → recordOf (g (allocationAt m a)) ≡ set (recordOf (allocationAt m a)) 0 v
+      → set (b .allocs) (a * 6) v ≡ held 768 recordOf (mutateAt a g m)
+  given-state g v e = ap (λ (k : ℕ). set (b .allocs) k v) (sym (add-zero (a * 6))) ∙ given-number g 0 v (omega arith) e
+
+  -- ---- a buffer whose part stays
+  pub same-allocs : (g : Allocation → Allocation) → recordOf (g (allocationAt m a)) ≡ recordOf (allocationAt m a) → b .allocs ≡ held 768 recordOf (mutateAt a g m)
+  same-allocs g e = holds-allocs h ∙ sym (focus-same 768 recordOf m a made g e)
+
+  pub same-parents : (g : Allocation → Allocation) → parentsOf (g (allocationAt m a)) ≡ parentsOf (allocationAt m a) → b .parents ≡ held 1024 parentsOf (mutateAt a g m)
+  same-parents g e = holds-parents h ∙ sym (focus-same 1024 parentsOf m a made g e)
+
+  pub same-protectors : (g : Allocation → Allocation) → protectorsOf (g (allocationAt m a)) ≡ protectorsOf (allocationAt m a) → b .protectors ≡ held 1024 protectorsOf (mutateAt a g m)
+  same-protectors g e = holds-protectors h ∙ sym (focus-same 1024 protectorsOf m a made g e)
+
+  pub same-words : (g : Allocation → Allocation) → wordsOf (g (allocationAt m a)) ≡ wordsOf (allocationAt m a) → b .words ≡ held 4096 wordsOf (mutateAt a g m)
+  same-words g e = holds-words h ∙ sym (focus-same 4096 wordsOf m a made g e)
+
+  pub same-codes : (g : Allocation → Allocation) → codesOf (g (allocationAt m a)) ≡ codesOf (allocationAt m a) → b .codes ≡ held 32768 codesOf (mutateAt a g m)
+  same-codes g e = holds-codes h ∙ sym (focus-same 32768 codesOf m a made g e)
+
+  -- ---- parts, lent and given back
+  module _ {w n c : ℕ} (s : StartsAt m a w n c) where
+    pub parents-room : n + nodeCount (allocationAt m a) ≤ length (b .parents)
+    parents-room = lent-room 1024 parentsOf m a made (b .parents) (holds-parents h) n _ (s .parents) (sym (length-parents (allocationAt m a)))
+
+    pub parents-part : take (nodeCount (allocationAt m a)) (drop n (b .parents)) ≡ parentsOf (allocationAt m a)
+    parents-part = lent-part 1024 parentsOf m a made (b .parents) (holds-parents h) n _ (s .parents) (sym (length-parents (allocationAt m a)))
+
+    pub protectors-room : n + nodeCount (allocationAt m a) ≤ length (b .protectors)
+    protectors-room = lent-room 1024 protectorsOf m a made (b .protectors) (holds-protectors h) n _ (s .protectors) (sym (length-protectors (allocationAt m a)))
+
+    pub protectors-part : take (nodeCount (allocationAt m a)) (drop n (b .protectors)) ≡ protectorsOf (allocationAt m a)
+    protectors-part = lent-part 1024 protectorsOf m a made (b .protectors) (holds-protectors h) n _ (s .protectors) (sym (length-protectors (allocationAt m a)))
+
+    pub given-protectors : (g : Allocation → Allocation) (new : List ℕ) → length new ≡ nodeCount (allocationAt m a) → protectorsOf (g (allocationAt m a)) ≡ new
+        → putMid n (nodeCount (allocationAt m a)) (b .protectors) new ≡ held 1024 protectorsOf (mutateAt a g m)
+    given-protectors = given-part 1024 protectorsOf m a made (b .protectors) (holds-protectors h) n _ (s .protectors) (sym (length-protectors (allocationAt m a)))
+
+    pub words-room : w + size (allocationAt m a) ≤ length (b .words)
+    words-room = lent-room 4096 wordsOf m a made (b .words) (holds-words h) w _ (s .words) refl
+
+    pub words-part : take (size (allocationAt m a)) (drop w (b .words)) ≡ allocationAt m a .words
+    words-part = lent-part 4096 wordsOf m a made (b .words) (holds-words h) w _ (s .words) refl
+
+    -- bytes written into the words, as the definition writes them
+    pub given-words : (g : Allocation → Allocation) (off : ℕ) (bytes : List ℕ) → off + length bytes ≤ size (allocationAt m a)
+        → g (allocationAt m a) .words ≡ writeAt off bytes (allocationAt m a .words)
+        → paste (b .words) (w + off) bytes (length bytes) ≡ held 4096 wordsOf (mutateAt a g m)
+    given-words g off bytes l e =
+        rw (holds-words h, s .words)
+        (focus-paste 4096 wordsOf m a made g off bytes (length bytes) l (omega arith) (e ∙ write-paste off bytes (allocationAt m a .words) l))
+
+    pub codes-room : c + codeCount (allocationAt m a) ≤ length (b .codes)
+    codes-room = lent-room 32768 codesOf m a made (b .codes) (holds-codes h) c _ (s .codes) (sym (codes-at m (h .valid) a made))
+
+    pub codes-part : take (codeCount (allocationAt m a)) (drop c (b .codes)) ≡ codesOf (allocationAt m a)
+    codes-part = lent-part 32768 codesOf m a made (b .codes) (holds-codes h) c _ (s .codes) (sym (codes-at m (h .valid) a made))
+
+    pub given-codes : (g : Allocation → Allocation) (new : List ℕ) → length new ≡ codeCount (allocationAt m a) → codesOf (g (allocationAt m a)) ≡ new
+        → putMid c (codeCount (allocationAt m a)) (b .codes) new ≡ held 32768 codesOf (mutateAt a g m)
+    given-codes = given-part 32768 codesOf m a made (b .codes) (holds-codes h) c _ (s .codes) (sym (codes-at m (h .valid) a made))

@@ -1,0 +1,9 @@
+pub mod Parts
+pub mod Moves
+pub mod Ranges
+pub mod Focus
+pub mod Sizes
+pub mod Lookup
+pub mod ReadBack
+pub mod Grown
+pub mod Lent

@@ -1,0 +1,154 @@
+-- What the records say of the memory that they are the records of.
+use Prim.Native.Nat.{ℕ, zero, suc, _+_, _-_, _*_, _≤_, _<_}
+use mathlib.Core.Path.{_≡_, refl, sym, ap, _∙_}
+use mathlib.Core.List.{List, [], _∷_, _++_, append-nil}
+use native.Mathlib.Nat.{add-zero}
+use native.Mathlib.Numerals.{add-one}
+use native.Mathlib.Omega.{arith}
+use borrow.Author.Tests.{eq-eqb, ne-eqb}
+use lib.ListN.{length, take, drop, getD, replicate, length-append}
+use lib.Seq.{take-suc, take-length, length-take-le, getD-append-add, getD-drop, drop-drop}
+use Rattle.definition.specs.Memory.{Liveness, Allocation, Memory, noAllocation, allocationAt, kindNumber, size, nodeCount}
+use Rattle.definition.specs.Memory.Liveness.{Live, Dead}
+use Rattle.definition.specs.Valid.{Valid}
+use Rattle.tables.specs.Encoding.{stateNumber, recordOf, wordsOf, parentsOf, protectorsOf, codesOf, concatMap, pad, held}
+use Rattle.tables.specs.Decoding.{madeIn}
+use Rattle.tables.specs.Held.{startOf, Records, StartsAt, Used}
+use Rattle.tables.proofs.Parts.{zero-at}
+use Rattle.tables.proofs.Focus.{concat-append, focus-get, focus-used, length-held}
+use Rattle.tables.proofs.Sizes.{length-parents, length-protectors, records-used, words-used, parents-used, codes-used, records-fit, words-fit, parents-fit, codes-fit, codes-at}
+
+pub record-start : (m : Memory) (a : ℕ) → a ≤ length m → startOf recordOf m a ≡ a * 6
+record-start m a h = records-used (take a m) ∙ ap (λ (k : ℕ). k * 6) (length-take-le a m h)
+
+pub state-made : (s : Liveness) → stateNumber s ≡ 0 → ⊥
+state-made Live e = omega arith
+state-made Dead e = omega arith
+
+made-records : (m : Memory) (k z : ℕ) → length m ≤ k → madeIn k (concatMap recordOf m ++ replicate z 0) ≡ length m
+unfolding madeIn concatMap
+made-records [] zero z h = refl
+made-records [] (suc k) z h = rw (eq-eqb _ _ (zero-at z 0))
+made-records (a ∷ m) zero z h = absurd (omega arith)
+made-records (a ∷ m) (suc k) z h = rw (ne-eqb (stateNumber (a .state)) 0 (state-made (a .state))) (ap suc (made-records m k z (omega arith)))
+
+module _ {m : Memory} {A : List ℕ} (h : Records m A) where
+  pub allocs-length : length A ≡ 768
+  allocs-length = ap length (h .allocs) ∙ length-held 768 recordOf m (records-fit m (h .valid))
+
+  pub made-count : madeIn 128 A ≡ length m
+  unfolding held pad
+  made-count =
+      ap (madeIn 128) (h .allocs) ∙ made-records m 128 (768 - length (concatMap recordOf m)) (h .valid .bounded .allocations)
+
+  -- behind the last record
+  pub state-behind : (a : ℕ) → length m ≤ a → getD A (a * 6) 0 ≡ 0
+  unfolding held pad
+  state-behind a l =
+      let Z : List ℕ = replicate (768 - length (concatMap recordOf m)) 0 in
+      let d = a * 6 - length (concatMap recordOf m) in
+      let e : a * 6 ≡ length (concatMap recordOf m) + d = omega (arith, records-used m) in
+      ap (λ (t : List ℕ). getD t (a * 6) 0) (h .allocs) ∙ ap (λ (k : ℕ). getD (concatMap recordOf m ++ Z) k 0) e
+      ∙ getD-append-add (concatMap recordOf m) Z d 0 ∙ zero-at (768 - length (concatMap recordOf m)) d
+
+  -- the numbers of one
+  module _ (a : ℕ) (made : a < length m) where
+    field-at : (q : ℕ) → q < 6 → getD A (a * 6 + q) 0 ≡ getD (recordOf (allocationAt m a)) q 0
+    field-at q k =
+        ap (λ (t : List ℕ). getD t (a * 6 + q) 0) (h .allocs)
+        ∙ ap (λ (s : ℕ). getD (held 768 recordOf m) (s + q) 0) (sym (record-start m a (omega arith)))
+        ∙ focus-get 768 recordOf m a made q k
+
+    pub state-at : getD A (a * 6) 0 ≡ stateNumber (allocationAt m a .state)
+    state-at = ap (λ (k : ℕ). getD A k 0) (sym (add-zero (a * 6))) ∙ field-at 0 (omega arith)
+
+    pub kind-at : getD A (a * 6 + 1) 0 ≡ kindNumber (allocationAt m a .kind)
+    kind-at = field-at 1 (omega arith)
+
+    pub exponent-at : getD A (a * 6 + 2) 0 ≡ allocationAt m a .exponent
+    exponent-at = field-at 2 (omega arith)
+
+    pub address-at : getD A (a * 6 + 3) 0 ≡ allocationAt m a .address
+    address-at = field-at 3 (omega arith)
+
+    pub size-at : getD A (a * 6 + 4) 0 ≡ size (allocationAt m a)
+    size-at = field-at 4 (omega arith)
+
+    pub nodes-at : getD A (a * 6 + 5) 0 ≡ nodeCount (allocationAt m a)
+    nodes-at = field-at 5 (omega arith)
+
+    -- it was made
+    pub state-nonzero : getD A (a * 6) 0 ≡ 0 → ⊥
+    state-nonzero e = state-made (allocationAt m a .state) (sym state-at ∙ e)
+
+    pub record-in : a * 6 + 6 ≤ length A
+    record-in = omega (arith, allocs-length, h .valid .bounded .allocations)
+
+-- ---- the loop that counts the records made: at i it counts those from record i on
+pub front-at : (A : List ℕ) (i q : ℕ) → getD (drop (i * 6) A) q 0 ≡ getD A (i * 6 + q) 0
+front-at A i q = getD-drop (i * 6) A q 0
+
+pub front-state : (A : List ℕ) (i : ℕ) → getD (drop (i * 6) A) 0 0 ≡ getD A (i * 6) 0
+front-state A i = front-at A i 0 ∙ ap (λ (k : ℕ). getD A k 0) (add-zero (i * 6))
+
+pub next-record : (A : List ℕ) (i : ℕ) → drop 6 (drop (i * 6) A) ≡ drop ((i + 1) * 6) A
+next-record A i = let e : i * 6 + 6 ≡ (i + 1) * 6 = omega arith in drop-drop 6 (i * 6) A ∙ ap (λ (k : ℕ). drop k A) e
+
+pub made-here : (A : List ℕ) (i : ℕ) → i < 128 → getD A (i * 6) 0 ≡ 0 → madeIn (128 - i) (drop (i * 6) A) ≡ 0
+unfolding madeIn
+made-here A i h e =
+    let k : 128 - i ≡ suc (128 - (i + 1)) = omega arith in
+    rw (k, eq-eqb (getD (drop (i * 6) A) 0 0) 0 (front-state A i ∙ e))
+
+pub made-next : (A : List ℕ) (i : ℕ) → i < 128 → (getD A (i * 6) 0 ≡ 0 → ⊥)
+    → madeIn (128 - i) (drop (i * 6) A) ≡ suc (madeIn (128 - (i + 1)) (drop ((i + 1) * 6) A))
+unfolding madeIn
+made-next A i h e =
+    let k : 128 - i ≡ suc (128 - (i + 1)) = omega arith in
+    rw (k, ne-eqb (getD (drop (i * 6) A) 0 0) 0 (λ q. e (sym (front-state A i) ∙ q))) (ap (λ (l : List ℕ). suc (madeIn (128 - (i + 1)) l)) (next-record A i))
+
+-- ---- the loop that adds up what stands before a record
+pub same-count : {m m′ : Memory} {A : List ℕ} → Records m A → Records m′ A → length m ≡ length m′
+same-count h h′ = sym (made-count h) ∙ made-count h′
+
+pub start-more : (f : Allocation → List ℕ) (m : Memory) (i : ℕ) → i < length m → startOf f m (i + 1) ≡ startOf f m i + length (f (allocationAt m i))
+unfolding concatMap
+start-more f m i h =
+    rw (add-one, take-suc m i noAllocation, concat-append f (take i m) (allocationAt m i ∷ []), append-nil (f (allocationAt m i)))
+    (length-append (concatMap f (take i m)) (f (allocationAt m i)))
+
+pub start-all : (f : Allocation → List ℕ) (m : Memory) → startOf f m (length m) ≡ length (concatMap f m)
+start-all f m = ap (λ (l : Memory). length (concatMap f l)) (take-length m)
+
+pub starts-none : (m : Memory) → StartsAt m 0 0 0 0
+unfolding concatMap
+starts-none m = record { words = refl; parents = refl; protectors = refl; codes = refl }
+
+module _ {m : Memory} {A : List ℕ} (h : Records m A) {i w n c : ℕ} (made : i < length m) (s : StartsAt m i w n c) where
+  row-codes : getD A (i * 6 + 5) 0 * getD A (i * 6 + 4) 0 ≡ length (codesOf (allocationAt m i))
+  row-codes = rw (nodes-at h i made, size-at h i made) (sym (codes-at m (h .valid) i made))
+
+  pub starts-more : StartsAt m (i + 1) (w + getD A (i * 6 + 4) 0) (n + getD A (i * 6 + 5) 0) (c + getD A (i * 6 + 5) 0 * getD A (i * 6 + 4) 0)
+  starts-more = record {
+    words = omega (arith, s .words, size-at h i made, start-more wordsOf m i made);
+    parents = omega (arith, s .parents, nodes-at h i made, start-more parentsOf m i made, length-parents (allocationAt m i));
+    protectors = omega (arith, s .protectors, nodes-at h i made, start-more protectorsOf m i made, length-protectors (allocationAt m i));
+    codes = omega (arith, s .codes, row-codes, start-more codesOf m i made);
+  }
+
+  -- within the buffers
+  pub words-within : w + getD A (i * 6 + 4) 0 ≤ 4096
+  words-within = omega (arith, s .words, size-at h i made, focus-used 4096 wordsOf m i made, words-fit m (h .valid))
+
+  pub nodes-within : n + getD A (i * 6 + 5) 0 ≤ 1024
+  nodes-within = omega (arith, s .parents, nodes-at h i made, length-parents (allocationAt m i), focus-used 1024 parentsOf m i made, parents-fit m (h .valid))
+
+  pub codes-within : c + getD A (i * 6 + 5) 0 * getD A (i * 6 + 4) 0 ≤ 32768
+  codes-within = omega (arith, s .codes, row-codes, focus-used 32768 codesOf m i made, codes-fit m (h .valid))
+
+pub used-all : (m : Memory) (w n c : ℕ) → Valid m → StartsAt m (length m) w n c → Used m w n c
+used-all m w n c v s = record {
+  words = s .words ∙ start-all wordsOf m ∙ words-used m;
+  nodes = s .parents ∙ start-all parentsOf m ∙ parents-used m;
+  codes = s .codes ∙ start-all codesOf m ∙ codes-used m (v .each);
+}

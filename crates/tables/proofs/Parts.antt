@@ -1,0 +1,118 @@
+-- General laws of lists: a part between what stands before and behind it, zeros, and one element of a list.
+use Prim.Native.Nat.{ℕ, zero, suc, _+_, _-_, _≤_, _<_}
+use mathlib.Core.Path.{_≡_, refl, sym, ap, _∙_}
+use mathlib.Core.List.{List, [], _∷_, _++_, append-assoc, append-nil, map}
+use native.Mathlib.Nat.{zero-add, suc-add, sub-zero, zero-sub, suc-sub-suc}
+use native.Mathlib.Omega.{arith}
+use borrow.Rule.Slice.PartMut.{putMid, midOf}
+use lib.ListN.{length, take, drop, getD, set, replicate, length-append, length-drop, length-replicate, drop-of-length-le}
+use lib.Seq.{take-append-add, drop-append-add, take-append-le, drop-append-le, take-at, drop-at, take-all, take-length, drop-drop, paste}
+use Rattle.definition.specs.Notation.{mutateAt, writeAt}
+use Rattle.definition.specs.Valid.{All}
+use Rattle.tables.specs.Held.{inserted}
+
+-- ---- one element
+module _ {X : Type 0} where
+  pub mutate-split : (n : ℕ) (g : X → X) (l : List X) (d : X) → n < length l → mutateAt n g l ≡ take n l ++ (g (getD l n d) ∷ drop (suc n) l)
+  unfolding mutateAt
+  mutate-split n g [] d h = absurd (omega arith)
+  mutate-split zero g (x ∷ l) d h = refl
+  mutate-split (suc n) g (x ∷ l) d h = ap (λ (t : List X). x ∷ t) (mutate-split n g l d (omega arith))
+
+  pub mutate-twice : (n : ℕ) (f g : X → X) (l : List X) → mutateAt n f (mutateAt n g l) ≡ mutateAt n (λ x. f (g x)) l
+  unfolding mutateAt
+  mutate-twice n f g [] = refl
+  mutate-twice zero f g (x ∷ l) = refl
+  mutate-twice (suc n) f g (x ∷ l) = ap (λ (t : List X). x ∷ t) (mutate-twice n f g l)
+
+  pub mutate-get : (n : ℕ) (g : X → X) (l : List X) (d : X) → n < length l → getD (mutateAt n g l) n d ≡ g (getD l n d)
+  unfolding mutateAt
+  mutate-get n g [] d h = absurd (omega arith)
+  mutate-get zero g (x ∷ l) d h = refl
+  mutate-get (suc n) g (x ∷ l) d h = mutate-get n g l d (omega arith)
+
+  pub all-at : (P : X → Type 0) (l : List X) (n : ℕ) (d : X) → All P l → n < length l → P (getD l n d)
+  all-at P [] n d a h = absurd (omega arith)
+  all-at P (x ∷ l) zero d a h = a .0
+  all-at P (x ∷ l) (suc n) d a h = all-at P l n d (a .1) (omega arith)
+
+pub map-snoc : {X : Type 0} (f : X → ℕ) (l : List X) (x : X) → map f (l ++ (x ∷ [])) ≡ map f l ++ (f x ∷ [])
+map-snoc f [] x = refl
+map-snoc f (y ∷ l) x = ap (λ (t : List ℕ). f y ∷ t) (map-snoc f l x)
+
+pub map-replicate : {X : Type 0} (f : X → ℕ) (n : ℕ) (x : X) → map f (replicate n x) ≡ replicate n (f x)
+map-replicate f zero x = refl
+map-replicate f (suc n) x = ap (λ (t : List ℕ). f x ∷ t) (map-replicate f n x)
+
+-- ---- zeros
+pub zero-at : (k i : ℕ) → _≡_ {A = ℕ} (getD (replicate k 0) i 0) 0
+zero-at zero i = refl
+zero-at (suc k) zero = refl
+zero-at (suc k) (suc i) = zero-at k i
+
+pub take-zeros : (k z : ℕ) → k ≤ z → _≡_ {A = List ℕ} (take k (replicate z 0)) (replicate k 0)
+take-zeros zero z h = refl
+take-zeros (suc k) zero h = absurd (omega arith)
+take-zeros (suc k) (suc z) h = ap (λ (l : List ℕ). 0 ∷ l) (take-zeros k z (omega arith))
+
+pub drop-zeros : (k z : ℕ) → _≡_ {A = List ℕ} (drop k (replicate z 0)) (replicate (z - k) 0)
+drop-zeros zero z = ap (λ (t : ℕ). replicate t 0) (sym (sub-zero z))
+drop-zeros (suc k) zero = ap (λ (t : ℕ). replicate t 0) (sym (zero-sub (suc k)))
+drop-zeros (suc k) (suc z) = drop-zeros k z ∙ ap (λ (t : ℕ). replicate t 0) (sym (suc-sub-suc z k))
+
+-- ---- a part x with l before and r behind
+pub set-after : (l x : List ℕ) (j v : ℕ) → set (l ++ x) (length l + j) v ≡ l ++ set x j v
+set-after [] x j v = ap (λ (k : ℕ). set x k v) (zero-add j)
+set-after (y ∷ l) x j v = rw suc-add (ap (λ (t : List ℕ). y ∷ t) (set-after l x j v))
+
+pub paste-after : (l x : List ℕ) (off : ℕ) (s : List ℕ) (n : ℕ) → paste (l ++ x) (length l + off) s n ≡ l ++ paste x off s n
+paste-after l x off s n =
+    let e : length l + off + n ≡ length l + (off + n) = omega arith in
+    rw (e, take-append-add, drop-append-add) (simp append-assoc)
+
+pub paste-before : (x r : List ℕ) (off : ℕ) (s : List ℕ) (n : ℕ) → off + n ≤ length x → paste (x ++ r) off s n ≡ paste x off s n ++ r
+paste-before x r off s n h =
+    let h′ : off ≤ length x = omega arith in
+    rw (take-append-le off x r h′, drop-append-le (off + n) x r h) (simp append-assoc)
+
+pub put-between : (l x r y : List ℕ) → putMid (length l) (length x) (l ++ (x ++ r)) y ≡ l ++ (y ++ r)
+put-between l x r y =
+    rw (take-at l (x ++ r) (length l) refl, drop-at l (x ++ r) (length l) refl, drop-at x r (length x) refl)
+
+-- what comes back of a part from p to the end, whose front a callee wrote as s: a paste of s at p
+pub put-paste : (d s : List ℕ) (p : ℕ) → p + length s ≤ length d
+    → putMid p (length d - p) d (s ++ drop (length s) (midOf p (length d - p) d)) ≡ paste d p s (length s)
+put-paste d s p h =
+    let l : length (drop p d) ≤ length d - p = simp length-drop (omega arith) in
+    rw (take-all _ (drop p d) l, drop-of-length-le (drop p d) l, append-nil, drop-drop, take-length s)
+    (sym (append-assoc (take p d) s (drop (p + length s) d)))
+
+-- the definition's way to write a run of elements
+pub write-paste : (n : ℕ) (ys xs : List ℕ) → n + length ys ≤ length xs → writeAt n ys xs ≡ paste xs n ys (length ys)
+unfolding writeAt
+write-paste zero [] [] h = refl
+write-paste zero (y ∷ ys) [] h = absurd (omega arith)
+write-paste (suc n) ys [] h = absurd (omega arith)
+write-paste zero [] (x ∷ xs) h = refl
+write-paste zero (y ∷ ys) (x ∷ xs) h =
+    rw (zero-add (suc (length ys))) (ap (λ (t : List ℕ). y ∷ t) (write-paste zero ys xs (omega arith) ∙ rw (zero-add (length ys))))
+write-paste (suc n) ys (x ∷ xs) h = rw (suc-add n (length ys)) (ap (λ (t : List ℕ). x ∷ t) (write-paste n ys xs (omega arith)))
+
+-- a row put in behind x, with zeros at the end
+pub insert-between : (l x r row : List ℕ) (z : ℕ) → length row ≤ z
+    → inserted (l ++ (x ++ (r ++ replicate z 0))) (length l + length x) row ≡ l ++ ((x ++ row) ++ (r ++ replicate (z - length row) 0))
+insert-between l x r row z h =
+    let q = length l + length x in
+    let b : l ++ (x ++ (r ++ replicate z 0)) ≡ (l ++ x) ++ (r ++ replicate z 0) = sym (append-assoc l x (r ++ replicate z 0)) in
+    let lq : length (l ++ x) ≡ q = length-append l x in
+    let k : length ((l ++ x) ++ (r ++ replicate z 0)) - (q + length row) ≡ length r + (z - length row) =
+    simp (length-append, length-replicate) (omega arith) in
+    rw (
+      b,
+      k,
+      take-at (l ++ x) (r ++ replicate z 0) q lq,
+      drop-at (l ++ x) (r ++ replicate z 0) q lq,
+      take-append-add r (replicate z 0) (z - length row),
+      take-zeros (z - length row) z (omega arith),
+    )
+    (simp append-assoc)

@@ -1,0 +1,89 @@
+-- The record and the row go to the first zeros of their buffers: the focus law of each.
+use Prim.Native.Nat.{ℕ, _-_, _*_}
+use mathlib.Core.Path.{_≡_, ap, _∙_}
+use mathlib.Core.List.{List, _∷_, []}
+use native.Mathlib.Omega.{arith}
+use denote.Ref.{now}
+use borrow.Rule.Slice.PartMut.{putMid}
+use borrow.Author.Needs.{needs}
+use lib.Seq.{paste}
+use lib.ListN.{length, length-take, length-drop}
+use Rattle.tables.proofs.Grown.{record-room, append-record, row-room, append-row}
+use Rattle.tables.proofs.Lookup.{allocs-length, made-count}
+use Rattle.tables.proofs.append_allocation.Statement.{statement}
+use Rattle.tables.proofs.append_allocation.Tie as tie
+
+made-count-requires : tie.Need-made-count-requires
+made-count-requires c κs = allocs-length (c .before .before .before .pre .1 .records)
+
+starts-at-requires : tie.Need-starts-at-requires
+starts-at-requires c κs =
+    let s = c .before .before .before .before .before in
+    (s .pre .0, (s .pre .1 .records, omega (arith, c .before .made-count .ensures ∙ made-count (s .pre .1 .records))))
+
+mul-p : tie.Need-mul-p
+mul-p c =
+    let s = c .before .before .before .before .before .before in
+    omega (arith, c .before .before .made-count .ensures ∙ made-count (s .pre .1 .records), s .pre .1 .records .valid .bounded .allocations)
+
+put-record-requires : tie.Need-put-record-requires
+put-record-requires c κs =
+    let s = c .before .before .before .before .before .before .before in
+    omega (arith, c .before .before .before .made-count .ensures ∙ made-count (s .pre .1 .records), record-room (s .pre .1))
+
+sub-fill : tie.Need-sub-fill
+sub-fill c =
+    let s = c .before .before .before .before .before .before .before .before .before .before in
+    omega (arith, row-room (s .pre .1) (rw (c .before .before .before .before .before .before .made-count .ensures ∙ made-count (s .pre .1 .records)) at (c .before .before .before .before .starts-at .ensures (s .pre .0) (s .pre .1 .records))))
+
+part-fill-start : tie.Need-part-fill-start
+part-fill-start c =
+    let s = c .before .before .before .before .before .before .before .before .before .before in
+    omega (arith, row-room (s .pre .1) (rw (c .before .before .before .before .before .before .made-count .ensures ∙ made-count (s .pre .1 .records)) at (c .before .before .before .before .starts-at .ensures (s .pre .0) (s .pre .1 .records))))
+
+part-fill-end : tie.Need-part-fill-end
+part-fill-end c = search needs
+
+fill-requires : tie.Need-fill-requires
+fill-requires c κs =
+    let s = c .before .before .before .before .before .before .before .before .before .before .before in
+    simp (length-take, length-drop) (omega (arith, row-room (s .pre .1) (rw (c .before .before .before .before .before .before .before .made-count .ensures ∙ made-count (s .pre .1 .records)) at (c .before .before .before .before .before .starts-at .ensures (s .pre .0) (s .pre .1 .records)))))
+
+same-length : tie.Need-same-length
+same-length c = search needs
+
+same-length-2 : tie.Need-same-length-2
+same-length-2 c = search needs
+
+returns : tie.Need-returns
+returns c = λ m k ok e.
+    let a = c .before .before .before .before .before .before .before .before .before .before .before .before .before .before .args in
+    let n : c .before .before .before .before .before .before .before .before .before .before .made-count .result ≡ length m = c .before .before .before .before .before .before .before .before .before .before .made-count .ensures ∙ made-count (ok .records) in
+    let start = c .before .before .before .before .before .before .before .before .starts-at .result .codes in
+    record {
+      number = n;
+      allocs =
+          c .before .before .before .before .before .before .put-record .ensures
+          ∙ ap (λ (t : ℕ). paste (now (a .allocs)) (t * 6) (1 ∷ a .kind ∷ a .exponent ∷ a .address ∷ a .size ∷ 1 ∷ []) 6) n
+          ∙ ap (λ (t : ℕ). paste (now (a .allocs)) (length m * 6) (1 ∷ t ∷ a .exponent ∷ a .address ∷ a .size ∷ 1 ∷ []) 6) e
+          ∙ append-record ok k (a .exponent) (a .address);
+      codes =
+          ap (λ (l : List ℕ). putMid start (length (now (a .codes)) - start) (now (a .codes)) l) (c .before .before .fill .ensures)
+          ∙ append-row ok (rw n at (c .before .before .before .before .before .before .before .before .starts-at .ensures m (ok .records))) k (a .exponent) (a .address);
+    }
+
+pub append-allocation-spec : {M : Type 1} → statement M
+append-allocation-spec =
+    tie.close
+    (tie.spec
+    made-count-requires
+    starts-at-requires
+    mul-p
+    put-record-requires
+    sub-fill
+    part-fill-start
+    part-fill-end
+    fill-requires
+    same-length
+    same-length-2
+    returns)

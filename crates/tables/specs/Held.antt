@@ -1,0 +1,85 @@
+-- What the contracts say of buffers that hold a memory.
+use Prim.Native.Nat.{ℕ, _+_, _-_, _<_}
+use mathlib.Core.Path.{_≡_}
+use mathlib.Core.Bool.{false}
+use mathlib.Core.List.{List, [], _∷_, _++_}
+use lib.ListN.{length, take, drop}
+use Rattle.definition.specs.Notation.{sumOf}
+use Rattle.definition.specs.Tree.{Node}
+use Rattle.definition.specs.Memory.{Allocation, Memory, allocationAt, changed, size, nodeCount, codeCount, exceedsBounds, ofAllocation}
+use Rattle.definition.specs.Retag.{ofNode}
+use Rattle.definition.specs.Valid.{Valid}
+use Rattle.tables.specs.Encoding.{Buffers, protectorNumber, recordOf, rowOf, parentsOf, protectorsOf, wordsOf, codesOf, concatMap, held, encode}
+
+abbrev pub buffers : List ℕ → List ℕ → List ℕ → List ℕ → List ℕ → Buffers
+buffers A P R W C = record { allocs = A; parents = P; protectors = R; words = W; codes = C }
+
+-- the five buffers hold m
+pub record Holds (m : Memory) (b : Buffers) : Type 0 where
+  pub valid : Valid m
+  pub equal : b ≡ encode m
+
+-- some memory is held: what refusal 1 tests
+abbrev pub WellFormed : Buffers → Type 0
+WellFormed b = (m : Memory) × Holds m b
+
+-- the records alone are those of m
+pub record Records (m : Memory) (A : List ℕ) : Type 0 where
+  pub valid : Valid m
+  pub allocs : A ≡ held 768 recordOf m
+
+-- where allocation a's part of the buffer of f starts
+abbrev pub startOf : (Allocation → List ℕ) → Memory → ℕ → ℕ
+startOf f m a = length (concatMap f (take a m))
+
+-- w words, n nodes and c codes stand before those of allocation a
+pub record StartsAt (m : Memory) (a w n c : ℕ) : Type 0 where
+  pub words : w ≡ startOf wordsOf m a
+  pub parents : n ≡ startOf parentsOf m a
+  pub protectors : n ≡ startOf protectorsOf m a
+  pub codes : c ≡ startOf codesOf m a
+
+-- m has w words, n nodes and c codes
+pub record Used (m : Memory) (w n c : ℕ) : Type 0 where
+  pub words : w ≡ sumOf size m
+  pub nodes : n ≡ sumOf nodeCount m
+  pub codes : c ≡ sumOf codeCount m
+
+-- ---- an allocation more
+-- there is room in m for an allocation of so many bytes
+pub record AllocationFits (m : Memory) (A C : List ℕ) (bytes : ℕ) : Type 0 where
+  pub records : Records m A
+  pub codes : C ≡ held 32768 codesOf m
+  pub room : exceedsBounds m (ofAllocation bytes) ≡ false
+
+-- x is number n, and what changes of the buffers
+pub record Appended (m : Memory) (x : Allocation) (n : ℕ) (A C : List ℕ) : Type 0 where
+  pub number : n ≡ length m
+  pub allocs : A ≡ held 768 recordOf (m ++ (x ∷ []))
+  pub codes : C ≡ held 32768 codesOf (m ++ (x ∷ []))
+
+-- ---- a node more
+-- c with row put in at q: what stood there and behind moves up, and as much falls off the end
+abbrev pub inserted : List ℕ → ℕ → List ℕ → List ℕ
+inserted c q row = take q c ++ (row ++ take (length c - (q + length row)) (drop q c))
+
+abbrev pub withNode : Node → Allocation → Allocation
+withNode x a = changed a (a .state) (a .words) (a .nodes ++ (x ∷ []))
+
+-- the buffers that a new node changes hold m's trees
+pub record Trees (m : Memory) (A P R C : List ℕ) : Type 0 where
+  pub allocs : A ≡ held 768 recordOf m
+  pub parents : P ≡ held 1024 parentsOf m
+  pub protectors : R ≡ held 1024 protectorsOf m
+  pub codes : C ≡ held 32768 codesOf m
+
+-- there is room for a node x in allocation a of m; its parent, its protector's number and its row
+pub record NodeFits (m : Memory) (a : ℕ) (x : Node) (A P R C : List ℕ) (parent protector : ℕ) (row : List ℕ) : Type 0 where
+  pub valid : Valid m
+  pub trees : Trees m A P R C
+  pub made : a < length m
+  pub is-parent : parent ≡ x .parent
+  pub is-protector : protector ≡ protectorNumber (x .protected)
+  pub is-row : row ≡ rowOf x
+  pub wide : length row ≡ size (allocationAt m a)
+  pub room : exceedsBounds m (ofNode (allocationAt m a)) ≡ false

@@ -1,0 +1,256 @@
+// How five lent buffers hold a memory: looking an allocation up, making one, giving it a node.
+//
+// `allocs` has six numbers for each allocation: state (0 never made, 1 live, 2 dead), kind, alignment exponent, address,
+// size, number of nodes. `parents` and `protectors` have a number for each node, `words` one for each byte, `codes` a row of
+// `size` codes for each node. Each is contiguous by allocation, and zero behind the last.
+ghost use mathlib.Core.Path.{_≡_};
+ghost use mathlib.Core.List.{_∷_, [], _++_};
+ghost use Prim.Native.Nat.{ℕ, _+_, _-_, _*_, _<_, _≤_};
+ghost use lib.ListN.{length, getD, take, drop, replicate};
+ghost use lib.Seq.{paste};
+ghost use Rattle.definition.specs.Notation.{mutateAt};
+ghost use Rattle.definition.specs.Tree.{Node};
+ghost use Rattle.definition.specs.Memory.{Memory, AllocationKind, kindNumber, isMisaligned, rangesOverlap, newAllocation};
+ghost use Rattle.tables.specs.Decoding.{madeIn};
+ghost use Rattle.tables.specs.Held.{inserted, withNode, Records, StartsAt, Used, AllocationFits, Appended, NodeFits, Trees};
+
+// An allocation's record.
+pub struct Allocation {
+    pub state: u64,
+    pub kind: u64,
+    pub exponent: u64,
+    pub address: u64,
+    pub size: usize,
+    pub nodes: usize,
+}
+
+pub fn allocation_at(allocs: &[u64], a: usize) -> Allocation
+    requires { ⌜ a * 6 + 6 ≤ length (now allocs) ⌝ }
+    ensures { λ r. ⌜ r ≡ record {
+      state = getD (now (allocs .entry)) (a * 6) 0;
+      kind = getD (now (allocs .entry)) (a * 6 + 1) 0;
+      exponent = getD (now (allocs .entry)) (a * 6 + 2) 0;
+      address = getD (now (allocs .entry)) (a * 6 + 3) 0;
+      size = getD (now (allocs .entry)) (a * 6 + 4) 0;
+      nodes = getD (now (allocs .entry)) (a * 6 + 5) 0;
+    } ⌝ }
+{
+    let p = a * 6;
+    Allocation {
+        state: allocs[p],
+        kind: allocs[p + 1],
+        exponent: allocs[p + 2],
+        address: allocs[p + 3],
+        size: allocs[p + 4] as usize,
+        nodes: allocs[p + 5] as usize,
+    }
+}
+
+// How many allocations were made.
+pub fn made_count(allocs: &[u64]) -> usize
+    requires { ⌜ length (now allocs) ≡ 768 ⌝ }
+    ensures { λ r. ⌜ r ≡ madeIn 128 (now (allocs .entry)) ⌝ }
+{
+    let mut i: usize = 0;
+    while i < 128 {
+        if allocs[i * 6] == 0 {
+            return i;
+        }
+        i += 1;
+    }
+    i
+}
+
+// Where the parts of an allocation start: in `words`, in `parents` and `protectors`, in `codes`.
+pub struct Starts {
+    pub words: usize,
+    pub nodes: usize,
+    pub codes: usize,
+}
+
+// One pass over the records before allocation a, which may be the next one to be made.
+pub fn starts_at(allocs: &[u64], a: usize) -> Starts
+    requires { ⌜ ((m : Memory) × (Records m (now allocs) × (a ≤ length m))) ⌝ }
+    ensures { λ r. ⌜ ((m : Memory) → Records m (now (allocs .entry)) → StartsAt m a (r .words) (r .nodes) (r .codes)) ⌝ }
+{
+    let mut words: usize = 0;
+    let mut nodes: usize = 0;
+    let mut codes: usize = 0;
+    let mut i: usize = 0;
+    while i < a {
+        let size = allocs[i * 6 + 4] as usize;
+        let count = allocs[i * 6 + 5] as usize;
+        words += size;
+        nodes += count;
+        codes += count * size;
+        i += 1;
+    }
+    Starts {
+        words,
+        nodes,
+        codes,
+    }
+}
+
+// How much of the buffers is used, by the living and the dead.
+pub fn used(allocs: &[u64]) -> Starts
+    requires { ⌜ ((m : Memory) × Records m (now allocs)) ⌝ }
+    ensures { λ r. ⌜ ((m : Memory) → Records m (now (allocs .entry)) → Used m (r .words) (r .nodes) (r .codes)) ⌝ }
+{
+    let count = made_count(allocs);
+    starts_at(allocs, count)
+}
+
+// ---- addresses
+// `overlaps`, of two ranges: "Touching ranges don't overlap unless they start equal, even at size 0."
+pub fn ranges_overlap(address: u64, len: u64, other: u64, span: u64) -> bool
+    ensures { λ r. ⌜ r ≡ rangesOverlap address len other span ⌝ }
+{
+    if address < other {
+        return len > other - address;
+    }
+    if address > other {
+        return span > address - other;
+    }
+    true
+}
+
+// The address is no multiple of the alignment, 2 to the exponent.
+pub fn is_misaligned(address: u64, exponent: u64) -> bool
+    requires { ⌜ exponent < 64 ⌝ }
+    ensures { λ r. ⌜ r ≡ isMisaligned address exponent ⌝ }
+{
+    let alignment = 1u64 << exponent;
+    address % alignment != 0
+}
+
+// ---- tables
+// Copies src to the front of dst.
+pub fn copy_row(dst: &mut [u8], src: &[u8])
+    requires { ⌜ length (now src) ≤ length (now dst) ⌝ }
+    ensures { λ _. ⌜ now (dst .exit) ≡ now (src .entry) ++ drop (length (now (src .entry))) (now (dst .entry)) ⌝ }
+{
+    let mut i: usize = 0;
+    while i < src.len() {
+        dst[i] = src[i];
+        i += 1;
+    }
+}
+
+// Moves what is at p and behind up by w; the last w go.
+pub fn shift_right(c: &mut [u8], p: usize, w: usize)
+    requires { ⌜ p + w ≤ length (now c) ⌝ }
+    ensures { λ _. ⌜ now (c .exit) ≡ take (p + w) (now (c .entry)) ++ take (length (now (c .entry)) - (p + w)) (drop p (now (c .entry))) ⌝ }
+{
+    let low = p + w;
+    let mut i: usize = c.len();
+    while low < i {
+        i -= 1;
+        c[i] = c[i - w];
+    }
+}
+
+// Puts row in at p: what is there and behind moves up.
+pub fn insert_row(c: &mut [u8], p: usize, row: &[u8])
+    requires { ⌜ p + length (now row) ≤ length (now c) ⌝ }
+    ensures { λ _. ⌜ now (c .exit) ≡ inserted (now (c .entry)) p (now (row .entry)) ⌝ }
+{
+    shift_right(c, p, row.len());
+    copy_row(&mut c[p..], row);
+}
+
+// The same in a table of parents, by one.
+pub fn shift_one(c: &mut [u16], p: usize)
+    requires { ⌜ p + 1 ≤ length (now c) ⌝ }
+    ensures { λ _. ⌜ now (c .exit) ≡ take (p + 1) (now (c .entry)) ++ take (length (now (c .entry)) - (p + 1)) (drop p (now (c .entry))) ⌝ }
+{
+    let low = p + 1;
+    let mut i: usize = c.len();
+    while low < i {
+        i -= 1;
+        c[i] = c[i - 1];
+    }
+}
+
+pub fn insert_one(c: &mut [u16], p: usize, x: u16)
+    requires { ⌜ p + 1 ≤ length (now c) ⌝ }
+    ensures { λ _. ⌜ now (c .exit) ≡ inserted (now (c .entry)) p (x ∷ []) ⌝ }
+{
+    shift_one(c, p);
+    c[p] = x;
+}
+
+// Sets the first n to x.
+pub fn fill(d: &mut [u8], n: usize, x: u8)
+    requires { ⌜ n ≤ length (now d) ⌝ }
+    ensures { λ _. ⌜ now (d .exit) ≡ replicate n x ++ drop n (now (d .entry)) ⌝ }
+{
+    let mut i: usize = 0;
+    while i < n {
+        d[i] = x;
+        i += 1;
+    }
+}
+
+// Writes the record of a live allocation with one node at p.
+pub fn put_record(allocs: &mut [u64], p: usize, kind: u64, exponent: u64, address: u64, size: usize)
+    requires { ⌜ p + 6 ≤ length (now allocs) ⌝ }
+    ensures { λ _. ⌜ now (allocs .exit) ≡ paste (now (allocs .entry)) p (1 ∷ kind ∷ exponent ∷ address ∷ size ∷ 1 ∷ []) 6 ⌝ }
+{
+    allocs[p] = 1;
+    allocs[p + 1] = kind;
+    allocs[p + 2] = exponent;
+    allocs[p + 3] = address;
+    allocs[p + 4] = size as u64;
+    allocs[p + 5] = 1;
+}
+
+// Makes an allocation behind the others, and returns its number. Its words are uninitialised, its root has parent 0 and no
+// protector: these are zeros, which stand there already.
+pub fn append_allocation(
+    allocs: &mut [u64],
+    codes: &mut [u8],
+    kind: u64,
+    exponent: u64,
+    address: u64,
+    size: usize,
+) -> usize
+    requires { ⌜ ((m : Memory) × AllocationFits m (now allocs) (now codes) size) ⌝ }
+    ensures { λ r. ⌜ ((m : Memory) (k : AllocationKind) → AllocationFits m (now (allocs .entry)) (now (codes .entry)) size → kind ≡ kindNumber k
+        → Appended m (newAllocation k size exponent address) r (now (allocs .exit)) (now (codes .exit))) ⌝ }
+{
+    let n = made_count(allocs);
+    let s = starts_at(allocs, n);
+    let start = s.codes;
+    let p = n * 6;
+    put_record(allocs, p, kind, exponent, address, size);
+    fill(&mut codes[start..], size, 3);
+    n
+}
+
+// Gives allocation a a node behind its others, with its parent, its protector's number and its row of codes.
+pub fn insert_node(
+    allocs: &mut [u64],
+    parents: &mut [u16],
+    protectors: &mut [u8],
+    codes: &mut [u8],
+    a: usize,
+    parent: u16,
+    protector: u8,
+    row: &[u8],
+)
+    requires { ⌜ ((m : Memory) × ((x : Node) × NodeFits m a x (now allocs) (now parents) (now protectors) (now codes) parent protector (now row))) ⌝ }
+    ensures { λ _. ⌜ ((m : Memory) (x : Node)
+        → NodeFits m a x (now (allocs .entry)) (now (parents .entry)) (now (protectors .entry)) (now (codes .entry)) parent protector (now (row .entry))
+        → Trees (mutateAt a (withNode x) m) (now (allocs .exit)) (now (parents .exit)) (now (protectors .exit)) (now (codes .exit))) ⌝ }
+{
+    let behind = starts_at(allocs, a + 1);
+    let node = behind.nodes;
+    let code = behind.codes;
+    insert_one(parents, node, parent);
+    let mark = [protector; 1];
+    insert_row(protectors, node, &mark);
+    insert_row(codes, code, row);
+    let p = a * 6 + 5;
+    allocs[p] += 1;
+}

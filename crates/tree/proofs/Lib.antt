@@ -1,0 +1,11 @@
+pub mod Loops
+pub mod Steps
+pub mod Rows
+pub mod Places
+pub mod Walks
+pub mod Held
+pub mod Meaning
+pub mod Inits
+pub mod Visits
+pub mod Releases
+pub mod Strong

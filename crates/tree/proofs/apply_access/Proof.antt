@@ -1,0 +1,36 @@
+use mathlib.Core.Path.{_≡_, refl, sym, ap, _∙_}
+use Rattle.tree.proofs.Meaning.{means-refusal, means-after}
+use Rattle.tree.proofs.Visits.{held-ready, means-bytes}
+use native.Mathlib.Omega.{arith}
+use borrow.Author.Needs.{needs}
+use Rattle.tree.proofs.apply_access.Statement.{statement}
+use Rattle.tree.proofs.apply_access.Tie as tie
+use Rattle.tree.proofs.apply_access.Reads as reads
+use Rattle.tree.proofs.apply_access.Lts as lts
+use Rattle.tree.proofs.apply_from.Reads as apply-from-reads
+
+-- src/lib.rt:249:32
+slice-aggregate-apply-from : tie.Need-slice-aggregate-apply-from
+slice-aggregate-apply-from c = search needs
+
+-- src/lib.rt:249:5
+apply-from-requires : tie.Need-apply-from-requires
+apply-from-requires c κs = 
+    let s = c .before .before .before .before in
+    (held-ready _ (s .pre .0 .0) _ _ (s .pre .0 .1) (s .pre .1 .0) (s .pre .1 .1), s .pre .0 .1 .root)
+
+-- src/lib.rt:235:1
+same-length : tie.Need-same-length
+same-length c = search needs
+
+-- src/lib.rt:235:1
+returns : tie.Need-returns
+returns c = 
+    let s = c .before .before .before .before .before .before .before in
+    λ nodes holds.
+    c .before .before .apply-from .ensures
+    ∙ means-after _ _ _ _ (means-bytes (s .args .parents .now) (holds .root) (s .args .width) (s .args .kind) (s .args .node) (s .args .from) (s .args .len) _) nodes (s .args .codes .now) holds
+
+pub apply-access-spec : {M : Type 1} → statement M
+apply-access-spec =
+    tie.close (tie.spec slice-aggregate-apply-from apply-from-requires same-length returns)

@@ -1,0 +1,72 @@
+use Prim.Native.Nat.{ℕ, _+_, _-_, _*_, _≤_}
+use mathlib.Core.Path.{_≡_, ap, ap₂, _∙_}
+use mathlib.Core.List.{List, _++_}
+use native.Mathlib.Omega.{arith}
+use lib.ListN.{length, take, drop}
+use lib.Seq.{slice}
+use Rattle.definition.specs.Permission.{NodeRelation}
+use Rattle.tree.specs.Walk.{rowRefusal, nodeRefusal, nodeAfter, rowAfter}
+use Rattle.tree.proofs.Places.{row-in, width-of}
+use borrow.Author.Needs.{needs}
+use Rattle.tree.proofs.check_node.Statement.{statement}
+use Rattle.tree.proofs.check_node.Tie as tie
+use Rattle.tree.proofs.check_node.Reads as reads
+use Rattle.tree.proofs.check_node.Lts as lts
+use Rattle.tree.proofs.check_row.Reads as check-row-reads
+use Rattle.tree.proofs.relation.Reads as relation-reads
+
+-- row n ends within the table
+ends : (s : lts.Start (relation-reads.Asked, relation-reads.Learnt, check-row-reads.Asked, check-row-reads.Learnt) reads.Pre reads.Post)
+    → s .args .n * s .args .v .width + s .args .v .width ≤ length (s .args .codes .now)
+ends s = row-in (s .args .v) (s .args .parents .now) (s .args .codes .now) (s .args .n) (s .pre .0) (s .pre .1)
+
+-- src/lib.rt:138:17
+mul-start : tie.Need-mul-start
+mul-start c = omega (arith, ends (c .before .before .before))
+
+-- src/lib.rt:139:15
+add-end : tie.Need-add-end
+add-end c = omega (arith, ends (c .before .before .before))
+
+-- src/lib.rt:140:9
+relation-requires : tie.Need-relation-requires
+relation-requires c κs = search needs
+
+-- src/lib.rt:141:15
+sub-check-row : tie.Need-sub-check-row
+sub-check-row c = search needs
+
+-- src/lib.rt:141:15
+part-check-row-start : tie.Need-part-check-row-start
+part-check-row-start c = search needs
+
+-- src/lib.rt:141:15
+part-check-row-end : tie.Need-part-check-row-end
+part-check-row-end c = ends (c .before .before .before .before)
+
+-- src/lib.rt:141:5
+check-row-requires : tie.Need-check-row-requires
+check-row-requires c κs = search needs
+
+-- src/lib.rt:132:1
+returns : tie.Need-returns
+unfolding nodeRefusal
+returns c =
+    let s = c .before .before .before .before .before .before in
+    let at = s .args .n * s .args .v .width in
+    c .check-row .ensures
+    ∙ ap₂ (λ (r : NodeRelation) (w : ℕ). rowRefusal (s .args .v) (s .args .starts .now) r (take w (drop at (s .args .codes .now))))
+    (c .before .before .relation .ensures) (width-of at (s .args .v .width))
+
+pub check-node-spec : {M : Type 1} → statement M
+check-node-spec =
+    tie.close
+    (tie.spec
+    mul-start
+    add-end
+    relation-requires
+    sub-check-row
+    part-check-row-start
+    part-check-row-end
+    check-row-requires
+    returns)

@@ -1,0 +1,72 @@
+-- The walk over the allocations: what its calls say of the lists that are left, at allocation i with so many nodes, words and codes before it.
+use Prim.Native.Nat.{ℕ, _+_, _-_, _*_, _≤_, _<_}
+use mathlib.Core.Path.{_≡_, sym, ap₂, _∙_}
+use mathlib.Core.Bool.{Bool, true, false}
+use mathlib.Core.List.{List}
+use native.Mathlib.Omega.{arith}
+use lib.ListN.{length, getD, take, drop, length-drop}
+use Rattle.tables.proofs.Lookup.{front-at}
+use Rattle.wellformed.specs.WellFormed.{Front, badAllocation, badRest, badAllocations}
+use Rattle.wellformed.proofs.Tests.{rest-is}
+use Rattle.wellformed.proofs.Turns.{or-taken, or-left, allocations-turn, allocations-end}
+use Rattle.wellformed.proofs.Sound.{Tested, tested}
+
+module _ (A P R W C : List ℕ) (i node word code : ℕ) where
+  -- a part that goes on to the end, as the callee has it
+  part : List ℕ → ℕ → List ℕ
+  part l p = take (length l - p) (drop p l)
+
+  parts-allocation : badAllocation (part A (i * 6)) (part P node) (part R node) (part W word) (part C code)
+      ≡ badAllocation (drop (i * 6) A) (drop node P) (drop node R) (drop word W) (drop code C)
+  unfolding part
+  parts-allocation = rw (rest-is A (i * 6), rest-is P node, rest-is R node, rest-is W word, rest-is C code)
+
+  -- the front is a record's
+  pub walk-front : i * 6 + 6 ≤ length A → length P ≤ 1024 → length W ≤ 4096
+      → Front (take (length A - i * 6) (drop (i * 6) A)) (take (length P - node) (drop node P)) (take (length W - word) (drop word W))
+  walk-front la lp lw =
+      rw (rest-is A (i * 6), rest-is P node, rest-is W word)
+      (record { allocs = simp length-drop (omega arith); parents = simp length-drop (omega arith); words = simp length-drop (omega arith) })
+
+  module _ (count : ℕ) (r : Bool)
+      (answer : r
+      ≡ badAllocation (take (length A - i * 6) (drop (i * 6) A)) (take (length P - node) (drop node P)) (take (length R - node) (drop node R))
+      (take (length W - word) (drop word W)) (take (length C - code) (drop code C))) where
+    front : badAllocation (drop (i * 6) A) (drop node P) (drop node R) (drop word W) (drop code C) ≡ r
+    unfolding part
+    front = sym (answer ∙ parts-allocation)
+
+    pub walk-bad : i < count → r ≡ true → badAllocations (count - i) (drop (i * 6) A) (drop node P) (drop node R) (drop word W) (drop code C) ≡ true
+    walk-bad h e = allocations-turn count i node word code A P R W C h ∙ or-taken _ _ (front ∙ e)
+
+    pub walk-on : i < count → r ≡ false
+        → badAllocations (count - (i + 1)) (drop ((i + 1) * 6) A) (drop (node + getD A (i * 6 + 5) 0) P) (drop (node + getD A (i * 6 + 5) 0) R)
+        (drop (word + getD A (i * 6 + 4) 0) W) (drop (code + getD A (i * 6 + 5) 0 * getD A (i * 6 + 4) 0) C)
+        ≡ badAllocations (count - i) (drop (i * 6) A) (drop node P) (drop node R) (drop word W) (drop code C)
+    walk-on h e = sym (allocations-turn count i node word code A P R W C h ∙ or-left _ _ (front ∙ e))
+
+    -- there is room for its parts
+    module _ (e : r ≡ false) where
+      test : Tested (drop (i * 6) A) (drop node P) (drop node R) (drop word W) (drop code C)
+      test = tested (drop (i * 6) A) (drop node P) (drop node R) (drop word W) (drop code C) (front ∙ e)
+
+      pub walk-parents : node ≤ length P → node + getD A (i * 6 + 5) 0 ≤ length P
+      walk-parents h = omega (arith, front-at A i 5, test .room-parents, length-drop node P)
+
+      pub walk-protectors : node ≤ length R → node + getD A (i * 6 + 5) 0 ≤ length R
+      walk-protectors h = omega (arith, front-at A i 5, test .room-protectors, length-drop node R)
+
+      pub walk-words : word ≤ length W → word + getD A (i * 6 + 4) 0 ≤ length W
+      walk-words h = omega (arith, front-at A i 4, test .room-words, length-drop word W)
+
+      pub walk-codes : code ≤ length C → code + getD A (i * 6 + 5) 0 * getD A (i * 6 + 4) 0 ≤ length C
+      walk-codes h = omega (arith, ap₂ _*_ (front-at A i 5) (front-at A i 4), test .room-codes, length-drop code C)
+
+  -- behind the last
+  pub walk-rest : (count : ℕ) → count ≤ i
+      → badRest (take (length A - i * 6) (drop (i * 6) A)) (take (length P - node) (drop node P)) (take (length R - node) (drop node R))
+      (take (length W - word) (drop word W)) (take (length C - code) (drop code C))
+      ≡ badAllocations (count - i) (drop (i * 6) A) (drop node P) (drop node R) (drop word W) (drop code C)
+  walk-rest count h =
+      rw (rest-is A (i * 6), rest-is P node, rest-is R node, rest-is W word, rest-is C code)
+      (sym (allocations-end count i (drop (i * 6) A) (drop node P) (drop node R) (drop word W) (drop code C) h))

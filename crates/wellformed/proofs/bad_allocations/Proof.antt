@@ -1,0 +1,285 @@
+-- At i the answer is that for the allocations from i on, whose parts stand at the front of what is left.
+use Prim.Native.Nat.{ℕ, _≤_, _-_, _*_}
+use mathlib.Core.Path.{_≡_, sym, ap, _∙_}
+use native.Mathlib.Nat.{sub-zero}
+use native.Mathlib.Omega.{arith}
+use borrow.Author.Needs.{needs}
+use lib.ListN.{length, drop}
+use Rattle.wellformed.proofs.Walk.{walk-front, walk-bad, walk-on, walk-parents, walk-protectors, walk-words, walk-codes, walk-rest}
+use Rattle.wellformed.specs.WellFormed.{badAllocations}
+use Rattle.wellformed.proofs.bad_allocations.Statement.{statement}
+use Rattle.wellformed.proofs.bad_allocations.Tie as tie
+
+abbrev Inv-loop : tie.InvT-loop
+Inv-loop allocs parents protectors words codes count i₀ node₀ word₀ code₀ i node word code = (i ≤ count) × (node ≤ length parents) × (node ≤ length protectors) × (word ≤ length words) × (code ≤ length codes) × (badAllocations (count - i) (drop (i * 6) allocs) (drop node parents) (drop node protectors) (drop word words) (drop code codes) ≡ badAllocations count allocs parents protectors words codes)
+
+abbrev μ-loop : tie.MeasureT-loop
+μ-loop allocs parents protectors words codes count i₀ node₀ word₀ code₀ i node word code = count - i
+
+loop-holds : tie.Need-loop-holds Inv-loop μ-loop
+loop-holds c = let a = c .before .before .before .before .before .args in (
+  omega arith,
+  omega arith,
+  omega arith,
+  omega arith,
+  omega arith,
+  ap (λ (k : ℕ). badAllocations k (a .allocs .now) (a .parents .now) (a .protectors .now) (a .words .now) (a .codes .now)) (sub-zero (a .count)),
+)
+
+mul-p : tie.Need-mul-p Inv-loop μ-loop
+mul-p c = omega arith
+
+mul-bad-allocation : tie.Need-mul-bad-allocation Inv-loop μ-loop
+mul-bad-allocation c = omega arith
+
+sub-bad-allocation : tie.Need-sub-bad-allocation Inv-loop μ-loop
+sub-bad-allocation c = omega arith
+
+part-bad-allocation-start : tie.Need-part-bad-allocation-start Inv-loop μ-loop
+part-bad-allocation-start c = omega arith
+
+part-bad-allocation-end : tie.Need-part-bad-allocation-end Inv-loop μ-loop
+part-bad-allocation-end c = omega arith
+
+mul-bad-allocation-2 : tie.Need-mul-bad-allocation-2 Inv-loop μ-loop
+mul-bad-allocation-2 c = omega arith
+
+sub-bad-allocation-2 : tie.Need-sub-bad-allocation-2 Inv-loop μ-loop
+sub-bad-allocation-2 c = omega arith
+
+part-bad-allocation-start-2 : tie.Need-part-bad-allocation-start-2 Inv-loop μ-loop
+part-bad-allocation-start-2 c = omega arith
+
+part-bad-allocation-end-2 : tie.Need-part-bad-allocation-end-2 Inv-loop μ-loop
+part-bad-allocation-end-2 c = omega arith
+
+sub-bad-allocation-3 : tie.Need-sub-bad-allocation-3 Inv-loop μ-loop
+sub-bad-allocation-3 c = omega arith
+
+part-bad-allocation-start-3 : tie.Need-part-bad-allocation-start-3 Inv-loop μ-loop
+part-bad-allocation-start-3 c = omega arith
+
+part-bad-allocation-end-3 : tie.Need-part-bad-allocation-end-3 Inv-loop μ-loop
+part-bad-allocation-end-3 c = omega arith
+
+mul-bad-allocation-3 : tie.Need-mul-bad-allocation-3 Inv-loop μ-loop
+mul-bad-allocation-3 c = omega arith
+
+sub-bad-allocation-4 : tie.Need-sub-bad-allocation-4 Inv-loop μ-loop
+sub-bad-allocation-4 c = omega arith
+
+part-bad-allocation-start-4 : tie.Need-part-bad-allocation-start-4 Inv-loop μ-loop
+part-bad-allocation-start-4 c = omega arith
+
+part-bad-allocation-end-4 : tie.Need-part-bad-allocation-end-4 Inv-loop μ-loop
+part-bad-allocation-end-4 c = omega arith
+
+sub-bad-allocation-5 : tie.Need-sub-bad-allocation-5 Inv-loop μ-loop
+sub-bad-allocation-5 c = omega arith
+
+part-bad-allocation-start-5 : tie.Need-part-bad-allocation-start-5 Inv-loop μ-loop
+part-bad-allocation-start-5 c = omega arith
+
+part-bad-allocation-end-5 : tie.Need-part-bad-allocation-end-5 Inv-loop μ-loop
+part-bad-allocation-end-5 c = omega arith
+
+bad-allocation-requires : tie.Need-bad-allocation-requires Inv-loop μ-loop
+bad-allocation-requires c κs =
+    let s = c .before .before .before .before .before .before .before .before .before .before .before .before in
+    let at = c .before .before .before .before .before .before in
+    walk-front (s .args .allocs .now) (s .args .parents .now) (s .args .protectors .now) (s .args .words .now) (s .args .codes .now) (at .loop .i) (at .loop .node) (at .loop .word) (at .loop .code) (omega (arith, s .pre .0)) (s .pre .1 .0) (s .pre .1 .1)
+
+returns : tie.Need-returns Inv-loop μ-loop
+returns c =
+    let s = c .before .before .before .before .before .before .before .before .before .before .before .before .before .before in
+    let at = c .before .before .before .before .before .before .before .before in
+    sym (walk-bad (s .args .allocs .now) (s .args .parents .now) (s .args .protectors .now) (s .args .words .now) (s .args .codes .now) (at .loop .i) (at .loop .node) (at .loop .word) (at .loop .code) (s .args .count) _ (c .before .bad-allocation .ensures) (omega arith) (c .if1 .taken)) ∙ at .loop .inv .5
+
+add-size : tie.Need-add-size Inv-loop μ-loop
+add-size c = omega arith
+
+mul-size : tie.Need-mul-size Inv-loop μ-loop
+mul-size c = omega arith
+
+shared-slice-read-size : tie.Need-shared-slice-read-size Inv-loop μ-loop
+shared-slice-read-size c = omega arith
+
+add-nodes : tie.Need-add-nodes Inv-loop μ-loop
+add-nodes c = omega arith
+
+mul-nodes : tie.Need-mul-nodes Inv-loop μ-loop
+mul-nodes c = omega arith
+
+shared-slice-read-nodes : tie.Need-shared-slice-read-nodes Inv-loop μ-loop
+shared-slice-read-nodes c = omega arith
+
+add-node : tie.Need-add-node Inv-loop μ-loop
+add-node c =
+    let s = c .before .before .before .before .before .before .before .before .before .before .before .before .before .before .before .before in
+    let at = c .before .before .before .before .before .before .before .before .before .before in
+    omega (arith, walk-parents (s .args .allocs .now) (s .args .parents .now) (s .args .protectors .now) (s .args .words .now) (s .args .codes .now) (at .loop .i) (at .loop .node) (at .loop .word) (at .loop .code) (s .args .count) _ (c .before .before .before .bad-allocation .ensures) (c .before .before .if1 .left) (at .loop .inv .1))
+
+add-word : tie.Need-add-word Inv-loop μ-loop
+add-word c =
+    let s = c .before .before .before .before .before .before .before .before .before .before .before .before .before .before .before .before in
+    let at = c .before .before .before .before .before .before .before .before .before .before in
+    omega (arith, walk-words (s .args .allocs .now) (s .args .parents .now) (s .args .protectors .now) (s .args .words .now) (s .args .codes .now) (at .loop .i) (at .loop .node) (at .loop .word) (at .loop .code) (s .args .count) _ (c .before .before .before .bad-allocation .ensures) (c .before .before .if1 .left) (at .loop .inv .3))
+
+mul-code : tie.Need-mul-code Inv-loop μ-loop
+mul-code c =
+    let s = c .before .before .before .before .before .before .before .before .before .before .before .before .before .before .before .before in
+    let at = c .before .before .before .before .before .before .before .before .before .before in
+    omega (arith, walk-codes (s .args .allocs .now) (s .args .parents .now) (s .args .protectors .now) (s .args .words .now) (s .args .codes .now) (at .loop .i) (at .loop .node) (at .loop .word) (at .loop .code) (s .args .count) _ (c .before .before .before .bad-allocation .ensures) (c .before .before .if1 .left) (at .loop .inv .4))
+
+add-code : tie.Need-add-code Inv-loop μ-loop
+add-code c =
+    let s = c .before .before .before .before .before .before .before .before .before .before .before .before .before .before .before .before in
+    let at = c .before .before .before .before .before .before .before .before .before .before in
+    omega (arith, walk-codes (s .args .allocs .now) (s .args .parents .now) (s .args .protectors .now) (s .args .words .now) (s .args .codes .now) (at .loop .i) (at .loop .node) (at .loop .word) (at .loop .code) (s .args .count) _ (c .before .before .before .bad-allocation .ensures) (c .before .before .if1 .left) (at .loop .inv .4))
+
+add-i : tie.Need-add-i Inv-loop μ-loop
+add-i c = omega arith
+
+loop-less : tie.Need-loop-less Inv-loop μ-loop
+loop-less c = omega arith
+
+loop-again : tie.Need-loop-again Inv-loop μ-loop
+loop-again c =
+    let s = c .before .before .before .before .before .before .before .before .before .before .before .before .before .before .before .before in
+    let at = c .before .before .before .before .before .before .before .before .before .before in (
+      omega arith,
+      walk-parents (s .args .allocs .now) (s .args .parents .now) (s .args .protectors .now) (s .args .words .now) (s .args .codes .now) (at .loop .i) (at .loop .node) (at .loop .word) (at .loop .code) (s .args .count) _ (c .before .before .before .bad-allocation .ensures) (c .before .before .if1 .left) (at .loop .inv .1),
+      walk-protectors (s .args .allocs .now) (s .args .parents .now) (s .args .protectors .now) (s .args .words .now) (s .args .codes .now) (at .loop .i) (at .loop .node) (at .loop .word) (at .loop .code) (s .args .count) _ (c .before .before .before .bad-allocation .ensures) (c .before .before .if1 .left) (at .loop .inv .2),
+      walk-words (s .args .allocs .now) (s .args .parents .now) (s .args .protectors .now) (s .args .words .now) (s .args .codes .now) (at .loop .i) (at .loop .node) (at .loop .word) (at .loop .code) (s .args .count) _ (c .before .before .before .bad-allocation .ensures) (c .before .before .if1 .left) (at .loop .inv .3),
+      walk-codes (s .args .allocs .now) (s .args .parents .now) (s .args .protectors .now) (s .args .words .now) (s .args .codes .now) (at .loop .i) (at .loop .node) (at .loop .word) (at .loop .code) (s .args .count) _ (c .before .before .before .bad-allocation .ensures) (c .before .before .if1 .left) (at .loop .inv .4),
+      walk-on (s .args .allocs .now) (s .args .parents .now) (s .args .protectors .now) (s .args .words .now) (s .args .codes .now) (at .loop .i) (at .loop .node) (at .loop .word) (at .loop .code) (s .args .count) _ (c .before .before .before .bad-allocation .ensures) (omega arith) (c .before .before .if1 .left) ∙ at .loop .inv .5,
+    )
+
+mul-p-2 : tie.Need-mul-p-2 Inv-loop μ-loop
+mul-p-2 c = omega arith
+
+mul-bad-rest : tie.Need-mul-bad-rest Inv-loop μ-loop
+mul-bad-rest c = omega arith
+
+sub-bad-rest : tie.Need-sub-bad-rest Inv-loop μ-loop
+sub-bad-rest c = omega arith
+
+part-bad-rest-start : tie.Need-part-bad-rest-start Inv-loop μ-loop
+part-bad-rest-start c = omega arith
+
+part-bad-rest-end : tie.Need-part-bad-rest-end Inv-loop μ-loop
+part-bad-rest-end c = omega arith
+
+mul-bad-rest-2 : tie.Need-mul-bad-rest-2 Inv-loop μ-loop
+mul-bad-rest-2 c = omega arith
+
+sub-bad-rest-2 : tie.Need-sub-bad-rest-2 Inv-loop μ-loop
+sub-bad-rest-2 c = omega arith
+
+part-bad-rest-start-2 : tie.Need-part-bad-rest-start-2 Inv-loop μ-loop
+part-bad-rest-start-2 c = omega arith
+
+part-bad-rest-end-2 : tie.Need-part-bad-rest-end-2 Inv-loop μ-loop
+part-bad-rest-end-2 c = omega arith
+
+sub-bad-rest-3 : tie.Need-sub-bad-rest-3 Inv-loop μ-loop
+sub-bad-rest-3 c = omega arith
+
+part-bad-rest-start-3 : tie.Need-part-bad-rest-start-3 Inv-loop μ-loop
+part-bad-rest-start-3 c = omega arith
+
+part-bad-rest-end-3 : tie.Need-part-bad-rest-end-3 Inv-loop μ-loop
+part-bad-rest-end-3 c = omega arith
+
+mul-bad-rest-3 : tie.Need-mul-bad-rest-3 Inv-loop μ-loop
+mul-bad-rest-3 c = omega arith
+
+sub-bad-rest-4 : tie.Need-sub-bad-rest-4 Inv-loop μ-loop
+sub-bad-rest-4 c = omega arith
+
+part-bad-rest-start-4 : tie.Need-part-bad-rest-start-4 Inv-loop μ-loop
+part-bad-rest-start-4 c = omega arith
+
+part-bad-rest-end-4 : tie.Need-part-bad-rest-end-4 Inv-loop μ-loop
+part-bad-rest-end-4 c = omega arith
+
+sub-bad-rest-5 : tie.Need-sub-bad-rest-5 Inv-loop μ-loop
+sub-bad-rest-5 c = omega arith
+
+part-bad-rest-start-5 : tie.Need-part-bad-rest-start-5 Inv-loop μ-loop
+part-bad-rest-start-5 c = omega arith
+
+part-bad-rest-end-5 : tie.Need-part-bad-rest-end-5 Inv-loop μ-loop
+part-bad-rest-end-5 c = omega arith
+
+bad-rest-requires : tie.Need-bad-rest-requires Inv-loop μ-loop
+bad-rest-requires c κs = omega arith
+
+returns-2 : tie.Need-returns-2 Inv-loop μ-loop
+returns-2 c =
+    let s = c .before .before .before .before .before .before .before .before .before .before .before .before .before in
+    let at = c .before .before .before .before .before .before .before in
+    c .bad-rest .ensures ∙ walk-rest (s .args .allocs .now) (s .args .parents .now) (s .args .protectors .now) (s .args .words .now) (s .args .codes .now) (at .loop .i) (at .loop .node) (at .loop .word) (at .loop .code) (s .args .count) (omega arith) ∙ at .loop .inv .5
+
+pub bad-allocations-spec : {M : Type 1} → statement M
+bad-allocations-spec =
+    tie.close
+    (tie.spec
+    Inv-loop
+    μ-loop
+    loop-holds
+    mul-p
+    mul-bad-allocation
+    sub-bad-allocation
+    part-bad-allocation-start
+    part-bad-allocation-end
+    mul-bad-allocation-2
+    sub-bad-allocation-2
+    part-bad-allocation-start-2
+    part-bad-allocation-end-2
+    sub-bad-allocation-3
+    part-bad-allocation-start-3
+    part-bad-allocation-end-3
+    mul-bad-allocation-3
+    sub-bad-allocation-4
+    part-bad-allocation-start-4
+    part-bad-allocation-end-4
+    sub-bad-allocation-5
+    part-bad-allocation-start-5
+    part-bad-allocation-end-5
+    bad-allocation-requires
+    returns
+    add-size
+    mul-size
+    shared-slice-read-size
+    add-nodes
+    mul-nodes
+    shared-slice-read-nodes
+    add-node
+    add-word
+    mul-code
+    add-code
+    add-i
+    loop-less
+    loop-again
+    mul-p-2
+    mul-bad-rest
+    sub-bad-rest
+    part-bad-rest-start
+    part-bad-rest-end
+    mul-bad-rest-2
+    sub-bad-rest-2
+    part-bad-rest-start-2
+    part-bad-rest-end-2
+    sub-bad-rest-3
+    part-bad-rest-start-3
+    part-bad-rest-end-3
+    mul-bad-rest-3
+    sub-bad-rest-4
+    part-bad-rest-start-4
+    part-bad-rest-end-4
+    sub-bad-rest-5
+    part-bad-rest-start-5
+    part-bad-rest-end-5
+    bad-rest-requires
+    returns-2)
