@@ -1,0 +1,4 @@
+pub mod Lent
+pub mod Releases
+pub mod EndCall
+pub mod LentCall

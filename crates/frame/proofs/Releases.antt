@@ -1,0 +1,240 @@
+-- What a release leaves as it is, the releases of a list one after another, and how the tables are put back after a refusal.
+use Prim.Native.Nat.{ℕ, zero, suc, _+_, _-_, _≤_, _<_}
+use mathlib.Core.Path.{_≡_, refl, sym, ap, subst, _∙_}
+use mathlib.Core.Bool.{Bool, true, false}
+use mathlib.Core.List.{List, [], _∷_, _++_}
+use native.Mathlib.Omega.{arith}
+use borrow.Author.Tests.{ne-eqb}
+use lib.Dec.{eqb}
+use lib.ListN.{length, getD, take, drop, replicate, length-map, take-append-drop}
+use lib.Seq.{length-take-le, take-at, drop-at, drop-cons}
+use Rattle.definition.specs.Notation.{if_then_else_, _or_, mutateAt}
+use Rattle.definition.specs.Tree.{Node, parents}
+use Rattle.definition.specs.Memory.{Allocation, Liveness, Memory, Provenance, kindNumber, size, wasMade}
+use Rattle.definition.specs.Memory.Liveness.{Live, Dead}
+use Rattle.definition.specs.Frame.{unprotectNode, releaseVisit, releasedNodes, releaseRefusal, afterReleaseIn, afterRelease, releaseAllRefusal, afterReleaseAll}
+use Rattle.definition.specs.Valid.{Valid}
+use Rattle.definition.proofs.Alls.{if-holds, all-imp}
+use Rattle.definition.proofs.Booleans.{or-left, or-right}
+use Rattle.definition.proofs.Lists.{mutate-map}
+use Rattle.definition.proofs.Visits.{visited-parents}
+use Rattle.definition.proofs.ValidTrees.{released-length}
+use Rattle.definition.proofs.ValidMemory.{release-kept}
+use Rattle.tables.specs.Encoding.{stateNumber, recordOf, parentsOf, protectorsOf, wordsOf, codesOf, concatMap, pad, held}
+use Rattle.tables.specs.Held.{Records, Used}
+use Rattle.tables.proofs.Focus.{length-held}
+use Rattle.tables.proofs.Sizes.{protectors-used, codes-used, protectors-fit, codes-fit}
+use Rattle.entries.specs.List.{provenanceOf, entriesOf}
+use Rattle.entries.specs.declared.Entries.{Entries}
+use Rattle.frame.specs.Release.{HoldsTrees, HoldsNodes, AllMade, unlessRefused, Released, untilRefused, ReleasedUntil, ReleasedAll}
+
+-- ---- what no release changes
+concat-kept : (f : Allocation → List ℕ) (g : Allocation → Allocation) → ((a : Allocation) → f (g a) ≡ f a) → (n : ℕ) (m : Memory)
+    → concatMap f (mutateAt n g m) ≡ concatMap f m
+unfolding concatMap mutateAt
+concat-kept f g e n [] = refl
+concat-kept f g e zero (a ∷ m) = ap (λ (l : List ℕ). l ++ concatMap f m) (e a)
+concat-kept f g e (suc n) (a ∷ m) = ap (λ (l : List ℕ). f a ++ l) (concat-kept f g e n m)
+
+-- a field of the allocations that is the same after every release
+module _ (total : ℕ) (f : Allocation → List ℕ) (same : (n : ℕ) (a : Allocation) → f (afterReleaseIn n a) ≡ f a) where
+  one-kept : (m : Memory) (e : Provenance) → held total f (afterRelease m e) ≡ held total f m
+  unfolding held afterRelease
+  one-kept m e = ap (pad total) (concat-kept f (afterReleaseIn (e .node)) (same (e .node)) (e .allocation) m)
+
+  pub all-kept : (es : List Provenance) (m : Memory) → held total f (afterReleaseAll m es) ≡ held total f m
+  unfolding afterReleaseAll
+  all-kept [] m = refl
+  all-kept (e ∷ es) m = all-kept es (afterRelease m e) ∙ one-kept m e
+
+  until-kept : (es : List Provenance) (m : Memory) → held total f (untilRefused m es) ≡ held total f m
+  unfolding untilRefused
+  until-kept [] m = refl
+  until-kept (e ∷ es) m =
+      if-holds (λ l. held total f l ≡ held total f m) (eqb (releaseRefusal m e) 0) (untilRefused (afterRelease m e) es) m
+      (λ t. until-kept es (afterRelease m e) ∙ one-kept m e) (λ t. refl)
+
+pub same-record : (n : ℕ) (a : Allocation) → recordOf (afterReleaseIn n a) ≡ recordOf a
+unfolding afterReleaseIn
+same-record n a =
+    ap (λ (k : ℕ). stateNumber (a .state) ∷ kindNumber (a .kind) ∷ a .exponent ∷ a .address ∷ size a ∷ k ∷ []) (released-length n (a .state) (a .nodes))
+
+released-parents : (state : Liveness) (n : ℕ) (nodes : List Node) → parents (releasedNodes state n nodes) ≡ parents nodes
+released-parents Live n nodes =
+    visited-parents (releaseVisit n nodes) (mutateAt n (unprotectNode Live) nodes) ∙ mutate-map (λ (x : Node). x .parent) (unprotectNode Live) (λ x. refl) n nodes
+released-parents Dead n nodes = mutate-map (λ (x : Node). x .parent) (unprotectNode Dead) (λ x. refl) n nodes
+
+pub same-parents : (n : ℕ) (a : Allocation) → parentsOf (afterReleaseIn n a) ≡ parentsOf a
+unfolding afterReleaseIn parentsOf
+same-parents n a = released-parents (a .state) n (a .nodes)
+
+pub same-words : (n : ℕ) (a : Allocation) → wordsOf (afterReleaseIn n a) ≡ wordsOf a
+unfolding afterReleaseIn
+same-words n a = refl
+
+valid-until : (es : List Provenance) (m : Memory) → Valid m → Valid (untilRefused m es)
+unfolding untilRefused
+valid-until [] m v = v
+valid-until (e ∷ es) m v =
+    if-holds Valid (eqb (releaseRefusal m e) 0) (untilRefused (afterRelease m e) es) m (λ t. valid-until es (afterRelease m e) (release-kept m e v .valid)) (λ t. v)
+
+pub records-until : {m : Memory} {A P R C : List ℕ} → HoldsTrees m A P R C → (es : List Provenance) → Records (untilRefused m es) A
+records-until {m} h es = record { valid = valid-until es m (h .valid); allocs = h .trees .allocs ∙ sym (until-kept 768 recordOf same-record es m) }
+
+-- ---- a list from place i on
+pub rest-at : {A : Type 0} (l : List A) (i : ℕ) (x d : A) → i < length l → x ≡ getD l i d → drop i l ≡ x ∷ drop (i + 1) l
+rest-at l i x d h q =
+    let k : suc i ≡ i + 1 = omega arith in
+    drop-cons l i d h ∙ ap (λ y. y ∷ drop (suc i) l) (sym q) ∙ ap (λ (j : ℕ). x ∷ drop j l) k
+
+pub none-left : {A : Type 0} (l : List A) (i : ℕ) → length l ≤ i → drop i l ≡ []
+none-left [] zero h = refl
+none-left [] (suc i) h = refl
+none-left (x ∷ xs) zero h = absurd (omega arith)
+none-left (x ∷ xs) (suc i) h = none-left xs i (omega arith)
+
+-- a list by value has as many entries as it counts
+pub entries-count : (list : Entries) → list .count ≤ 64 → length (list .list) ≡ 64 → length (entriesOf list) ≡ list .count
+entries-count list l w = length-map (take (list .count) (list .list)) provenanceOf ∙ length-take-le (list .count) (list .list) (omega arith)
+
+-- ---- entry by entry
+-- the releases of `rest` are left, in the memory that the ones before them left
+pub record Turn (m : Memory) (es rest : List Provenance) (A P R C : List ℕ) : Type 0 where
+  pub memory : Memory
+  pub holds : HoldsTrees memory A P R C
+  pub made : AllMade memory rest
+  pub refusal : releaseAllRefusal m es ≡ releaseAllRefusal memory rest
+  pub until : untilRefused m es ≡ untilRefused memory rest
+
+pub turn-first : {m : Memory} {es : List Provenance} {A P R C : List ℕ} → HoldsTrees m A P R C → AllMade m es → Turn m es es A P R C
+turn-first {m} h made = record { memory = m; holds = h; made = made; refusal = refl; until = refl }
+
+pub turn-at : {m : Memory} {es : List Provenance} {A P R C : List ℕ} (i : ℕ) (e d : Provenance) → i < length es → e ≡ getD es i d
+    → Turn m es (drop i es) A P R C → Turn m es (e ∷ drop (i + 1) es) A P R C
+turn-at {m} {es} {A} {P} {R} {C} i e d l q t = subst (λ (rest : List Provenance). Turn m es rest A P R C) (rest-at es i e d l q) t
+
+module _ {m : Memory} {es rest : List Provenance} {e : Provenance} {A P R C R′ C′ : List ℕ} {answer : ℕ}
+    (t : Turn m es (e ∷ rest) A P R C) (k : Released (t .memory) e answer R′ C′) where
+  pub turn-next : answer ≡ 0 → Turn m es rest A P R′ C′
+  unfolding releaseAllRefusal untilRefused
+  turn-next z =
+      let l : Memory = t .memory in
+      let after : Memory = afterRelease l e in
+      let none : releaseRefusal l e ≡ 0 = sym (k .refusal) ∙ z in
+      let kept = release-kept l e (t .holds .valid) in
+      let now : HoldsNodes after R′ C′ = subst (λ (n : ℕ). HoldsNodes (unlessRefused n l after) R′ C′) none (k .nodes) in
+      record {
+        memory = after;
+        holds = record {
+          valid = kept .valid;
+          trees = record {
+            allocs = t .holds .trees .allocs ∙ sym (one-kept 768 recordOf same-record l e);
+            parents = t .holds .trees .parents ∙ sym (one-kept 1024 parentsOf same-parents l e);
+            protectors = now .protectors;
+            codes = now .codes;
+          };
+        };
+        made = all-imp (λ x. wasMade l x ≡ true) (λ x. wasMade after x ≡ true) (kept .made) rest (t .made .1);
+        refusal = t .refusal ∙ ap (λ (n : ℕ). n or releaseAllRefusal after rest) none;
+        until = t .until ∙ ap (λ (n : ℕ). unlessRefused n l (untilRefused after rest)) none;
+      }
+
+  pub turn-stops : (answer ≡ 0 → ⊥) → ReleasedUntil m es answer R′ C′
+  unfolding releaseAllRefusal untilRefused
+  turn-stops z =
+      let l : Memory = t .memory in
+      let after : Memory = afterRelease l e in
+      let some : eqb (releaseRefusal l e) 0 ≡ false = ne-eqb (releaseRefusal l e) 0 (λ q. z (k .refusal ∙ q)) in
+      let stays : HoldsNodes l R′ C′ = subst (λ (b : Bool). HoldsNodes (if b then after else l) R′ C′) some (k .nodes) in
+      let u : untilRefused m es ≡ l = t .until ∙ ap (λ (b : Bool). if b then untilRefused after rest else l) some in
+      record {
+        refusal = first answer (k .refusal) z ∙ sym (t .refusal);
+        nodes = subst (λ (n : Memory). HoldsNodes n R′ C′) (sym u) stays;
+      }
+    where
+      first : (n : ℕ) → n ≡ releaseRefusal (t .memory) e → (n ≡ 0 → ⊥) → n ≡ (releaseRefusal (t .memory) e or releaseAllRefusal (afterRelease (t .memory) e) rest)
+      first zero q z = absurd (z refl)
+      first (suc n) q z = ap (λ (j : ℕ). j or releaseAllRefusal (afterRelease (t .memory) e) rest) q
+
+pub turn-done : {m : Memory} {es rest : List Provenance} {A P R C : List ℕ} → rest ≡ [] → Turn m es rest A P R C → ReleasedUntil m es 0 R C
+unfolding releaseAllRefusal untilRefused
+turn-done {m} {es} {rest} {A} {P} {R} {C} q t =
+    let u : Turn m es [] A P R C = subst (λ (l : List Provenance). Turn m es l A P R C) q t in
+    record {
+      refusal = sym (u .refusal);
+      nodes = subst (λ (n : Memory). HoldsNodes n R C) (sym (u .until)) (record { protectors = u .holds .trees .protectors; codes = u .holds .trees .codes });
+    }
+
+-- ---- all or none
+until-all : (es : List Provenance) (m : Memory) → releaseAllRefusal m es ≡ 0 → untilRefused m es ≡ afterReleaseAll m es
+unfolding releaseAllRefusal untilRefused afterReleaseAll
+until-all [] m z = refl
+until-all (e ∷ es) m z =
+    let after : Memory = afterRelease m e in
+    ap (λ (n : ℕ). unlessRefused n m (untilRefused after es)) (or-left (releaseRefusal m e) (releaseAllRefusal after es) z)
+    ∙ until-all es after (or-right (releaseRefusal m e) (releaseAllRefusal after es) z)
+
+pub none-refused : {m : Memory} {es : List Provenance} {answer : ℕ} {R C : List ℕ} → ReleasedUntil m es answer R C → answer ≡ 0 → ReleasedAll m es answer R C
+none-refused {m} {es} {answer} {R} {C} k z =
+    let none : releaseAllRefusal m es ≡ 0 = sym (k .refusal) ∙ z in
+    let u : untilRefused m es ≡ unlessRefused (releaseAllRefusal m es) m (afterReleaseAll m es) =
+    until-all es m none ∙ ap (λ (n : ℕ). unlessRefused n m (afterReleaseAll m es)) (sym none)
+    in
+    record { refusal = k .refusal; nodes = subst (λ (n : Memory). HoldsNodes n R C) u (k .nodes) }
+
+-- the same numbers stand behind what is used
+behind-used : (total : ℕ) (f : Allocation → List ℕ) (l m : Memory) (n : ℕ) → length (concatMap f l) ≡ n → length (concatMap f m) ≡ n
+    → drop n (held total f l) ≡ drop n (held total f m)
+unfolding held pad
+behind-used total f l m n e q =
+    let zeros : ℕ → List ℕ = λ k. replicate (total - k) 0 in
+    drop-at (concatMap f l) (zeros (length (concatMap f l))) n e ∙ ap zeros (e ∙ sym q) ∙ sym (drop-at (concatMap f m) (zeros (length (concatMap f m))) n q)
+
+-- the first n are saved before some other numbers, and put back
+put-back : (n : ℕ) (before others now : List ℕ) → n ≤ length before → drop n now ≡ drop n before → take n (take n before ++ others) ++ drop n now ≡ before
+put-back n before others now l e =
+    ap (λ (x : List ℕ). x ++ drop n now) (take-at (take n before) others n (length-take-le n before l))
+    ∙ ap (λ (x : List ℕ). take n before ++ x) e ∙ take-append-drop n before
+
+module _ {m : Memory} {A P R C : List ℕ} (h : HoldsTrees m A P R C) {w n c : ℕ} (u : Used m w n c) where
+  pub nodes-used : n ≤ 1024
+  nodes-used = omega (arith, u .nodes, protectors-used m, protectors-fit m (h .valid))
+
+  pub codes-total : c ≤ 32768
+  codes-total = omega (arith, u .codes, codes-used m (h .valid .each), codes-fit m (h .valid))
+
+  pub marks-length : length R ≡ 1024
+  marks-length = ap length (h .trees .protectors) ∙ length-held 1024 protectorsOf m (protectors-fit m (h .valid))
+
+  pub codes-length : length C ≡ 32768
+  codes-length = ap length (h .trees .codes) ∙ length-held 32768 codesOf m (codes-fit m (h .valid))
+
+  module _ {es : List Provenance} {answer : ℕ} {R′ C′ : List ℕ} (k : ReleasedUntil m es answer R′ C′) (u′ : Used (untilRefused m es) w n c) where
+    -- M and D hold what was saved, before others
+    pub some-refused : (answer ≡ 0 → ⊥) → (others behind : List ℕ) {M D R″ C″ : List ℕ} → M ≡ take n R ++ others → D ≡ take c C ++ behind
+        → R″ ≡ take n M ++ drop n R′ → C″ ≡ take c D ++ drop c C′ → ReleasedAll m es answer R″ C″
+    some-refused z others behind {M} {D} {R″} {C″} savedMarks savedCodes marksBack codesBack =
+        let l : Memory = untilRefused m es in
+        let some : eqb (releaseAllRefusal m es) 0 ≡ false = ne-eqb (releaseAllRefusal m es) 0 (λ q. z (k .refusal ∙ q)) in
+        let marks : drop n R′ ≡ drop n R =
+        ap (drop n) (k .nodes .protectors)
+        ∙ behind-used 1024 protectorsOf l m n (protectors-used l ∙ sym (u′ .nodes)) (protectors-used m ∙ sym (u .nodes))
+        ∙ ap (drop n) (sym (h .trees .protectors))
+        in
+        let codes : drop c C′ ≡ drop c C =
+        ap (drop c) (k .nodes .codes)
+        ∙ behind-used 32768 codesOf l m c (codes-used l (valid-until es m (h .valid) .each) ∙ sym (u′ .codes)) (codes-used m (h .valid .each) ∙ sym (u .codes))
+        ∙ ap (drop c) (sym (h .trees .codes))
+        in
+        let stays : HoldsNodes m R″ C″ = record {
+          protectors =
+              marksBack ∙ ap (λ (x : List ℕ). take n x ++ drop n R′) savedMarks ∙ put-back n R others R′ (omega (arith, nodes-used, marks-length)) marks
+              ∙ h .trees .protectors;
+          codes =
+              codesBack ∙ ap (λ (x : List ℕ). take c x ++ drop c C′) savedCodes ∙ put-back c C behind C′ (omega (arith, codes-total, codes-length)) codes
+              ∙ h .trees .codes;
+        } in
+        record {
+          refusal = k .refusal;
+          nodes = subst (λ (b : Bool). HoldsNodes (if b then afterReleaseAll m es else m) R″ C″) (sym some) stays;
+        }

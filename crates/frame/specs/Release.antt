@@ -1,0 +1,64 @@
+-- What the release of a frame's entries asks and what it leaves, said of each memory that the buffers hold.
+use Prim.Native.Nat.{ℕ}
+use mathlib.Core.Path.{_≡_}
+use mathlib.Core.Bool.{true}
+use mathlib.Core.List.{List, [], _∷_}
+use lib.Dec.{eqb}
+use Rattle.definition.specs.Notation.{if_then_else_}
+use Rattle.definition.specs.Memory.{Memory, Provenance, refusedWith, wasMade}
+use Rattle.definition.specs.Frame.{releaseRefusal, afterRelease, releaseAllRefusal, afterReleaseAll, endCallRefusal}
+use Rattle.definition.specs.Valid.{All, Valid}
+use Rattle.answer.specs.Answer.{answerOf}
+use Rattle.answer.specs.declared.Answer.{Answer}
+use Rattle.tables.specs.Encoding.{protectorsOf, codesOf, held}
+use Rattle.tables.specs.Held.{Trees}
+
+-- all buffers but the words hold m
+pub record HoldsTrees (m : Memory) (A P R C : List ℕ) : Type 0 where
+  pub valid : Valid m
+  pub trees : Trees m A P R C
+
+-- the marks and the codes are those of m
+pub record HoldsNodes (m : Memory) (R C : List ℕ) : Type 0 where
+  pub protectors : R ≡ held 1024 protectorsOf m
+  pub codes : C ≡ held 32768 codesOf m
+
+-- no entry is refused with 4
+abbrev pub AllMade : Memory → List Provenance → Type 0
+AllMade m es = All (λ e. wasMade m e ≡ true) es
+
+-- nothing changes where there is a refusal
+abbrev pub unlessRefused : ℕ → Memory → Memory → Memory
+unlessRefused refused before after = if eqb refused 0 then after else before
+
+-- ---- one entry
+pub record Released (m : Memory) (e : Provenance) (answer : ℕ) (R C : List ℕ) : Type 0 where
+  pub refusal : answer ≡ releaseRefusal m e
+  pub nodes : HoldsNodes (unlessRefused (releaseRefusal m e) m (afterRelease m e)) R C
+
+-- ---- entry by entry
+-- the memory in which the first refusal is met, or which all releases leave
+unfoldable pub untilRefused : Memory → List Provenance → Memory
+untilRefused m [] = m
+untilRefused m (e ∷ es) = unlessRefused (releaseRefusal m e) m (untilRefused (afterRelease m e) es)
+
+pub record ReleasedUntil (m : Memory) (es : List Provenance) (answer : ℕ) (R C : List ℕ) : Type 0 where
+  pub refusal : answer ≡ releaseAllRefusal m es
+  pub nodes : HoldsNodes (untilRefused m es) R C
+
+-- all of them, or none
+pub record ReleasedAll (m : Memory) (es : List Provenance) (answer : ℕ) (R C : List ℕ) : Type 0 where
+  pub refusal : answer ≡ releaseAllRefusal m es
+  pub nodes : HoldsNodes (unlessRefused (releaseAllRefusal m es) m (afterReleaseAll m es)) R C
+
+-- ---- an end call: 4 for all entries first
+abbrev pub afterEndCall : Memory → List Provenance → Memory
+afterEndCall m es = unlessRefused (endCallRefusal m es) m (afterReleaseAll m es)
+
+pub record Checked (m : Memory) (es : List Provenance) (answer : ℕ) (R C : List ℕ) : Type 0 where
+  pub refusal : answer ≡ endCallRefusal m es
+  pub nodes : HoldsNodes (afterEndCall m es) R C
+
+pub record Ended (m : Memory) (es : List Provenance) (answer : Answer) (R C : List ℕ) : Type 0 where
+  pub answers : (words : List ℕ) → answerOf answer words ≡ refusedWith (endCallRefusal m es)
+  pub nodes : HoldsNodes (afterEndCall m es) R C

@@ -1,0 +1,268 @@
+// The end of a call: the protectors of its frame are released. mem.rs: `TreeBorrowsFrameExtra`, `release_protector`, `end_call`.
+// specs/Release.antt says what is asked and what is left, in the definition's terms.
+use answer::Answer;
+use entries::Entries;
+use entries::Entry;
+use entries::load;
+use pointer::Provenance;
+ghost use mathlib.Core.Path.{_≡_};
+ghost use mathlib.Core.Bool.{true, not};
+ghost use mathlib.Core.List.{List, _++_};
+ghost use Prim.Native.Nat.{ℕ, _≤_};
+ghost use lib.ListN.{length, take, drop, replicate};
+ghost use Rattle.definition.specs.Notation.{any};
+ghost use Rattle.definition.specs.Memory.{Memory, wasMade};
+ghost use Rattle.entries.specs.List.{provenanceOf, entriesOf, firstOf};
+ghost use Rattle.tables.specs.Held.{buffers, Records};
+ghost use Rattle.frame.specs.Release.{HoldsTrees, AllMade, Released, ReleasedUntil, ReleasedAll, Checked, Ended};
+ghost use Rattle.frame.specs.EndCall.{isLent, EndedLent};
+
+// ---- one entry
+// The first refusal, 16 to 23, with marks and codes as they were; or 0, with the entry's node released. The lent row is for work.
+pub fn release_entry(
+    allocs: &[u64],
+    parents: &[u16],
+    protectors: &mut [u8],
+    codes: &mut [u8],
+    row: &mut [u8],
+    e: Entry,
+) -> u8
+    requires { ⌜ ((m : Memory) × (HoldsTrees m (now allocs) (now parents) (now protectors) (now codes) × (wasMade m (provenanceOf e) ≡ true))) ⌝ }
+    requires { ⌜ 4096 ≤ length (now row) ⌝ }
+    ensures { λ r. ⌜ ((m : Memory) → HoldsTrees m (now (allocs .entry)) (now (parents .entry)) (now (protectors .entry)) (now (codes .entry)) → wasMade m (provenanceOf e) ≡ true
+        → Released m (provenanceOf e) r (now (protectors .exit)) (now (codes .exit))) ⌝ }
+{
+    let n = e.allocation as usize;
+    let node = e.node as usize;
+    let a = tables::allocation_at(allocs, n);
+    let size = a.size;
+    let nodes = a.nodes;
+    let s = tables::starts_at(allocs, n);
+    let node_start = s.nodes;
+    let node_end = node_start + nodes;
+    let code_start = s.codes;
+    let code_end = code_start + nodes * size;
+    if a.state != 1 {
+        return tree::release_dead(
+            &protectors[node_start..node_end],
+            &mut codes[code_start..code_end],
+            size,
+            node,
+        );
+    }
+    tree::release(
+        &parents[node_start..node_end],
+        &mut protectors[node_start..node_end],
+        &mut codes[code_start..code_end],
+        row,
+        size,
+        node,
+    )
+}
+
+// ---- all entries of a list
+// 4, for one of them.
+fn any_never_made(allocs: &[u64], list: Entries) -> bool
+    requires { ⌜ ((m : Memory) × Records m (now allocs)) ⌝ }
+    requires { ⌜ list .count ≤ 64 ⌝ }
+    ensures { λ r. ⌜ ((m : Memory) → Records m (now (allocs .entry)) → r ≡ any (λ e. not (wasMade m e)) (entriesOf list)) ⌝ }
+{
+    let count = list.count;
+    let mut i: usize = 0;
+    while i < count {
+        let entry = entries::entry_at(list, i);
+        let provenance = Provenance::Of {
+            allocation: entry.allocation,
+            node: entry.node,
+        };
+        if bounds::never_made(allocs, provenance) {
+            return true;
+        }
+        i += 1;
+    }
+    false
+}
+
+// "Release, in list order", each on what the ones before it left, up to the first refusal.
+fn release_until(
+    allocs: &[u64],
+    parents: &[u16],
+    protectors: &mut [u8],
+    codes: &mut [u8],
+    row: &mut [u8],
+    list: Entries,
+) -> u8
+    requires { ⌜ ((m : Memory) × (HoldsTrees m (now allocs) (now parents) (now protectors) (now codes) × AllMade m (entriesOf list))) ⌝ }
+    requires { ⌜ (list .count ≤ 64) × (4096 ≤ length (now row)) ⌝ }
+    ensures { λ r. ⌜ ((m : Memory) → HoldsTrees m (now (allocs .entry)) (now (parents .entry)) (now (protectors .entry)) (now (codes .entry)) → AllMade m (entriesOf list)
+        → ReleasedUntil m (entriesOf list) r (now (protectors .exit)) (now (codes .exit))) ⌝ }
+{
+    let count = list.count;
+    let mut i: usize = 0;
+    while i < count {
+        let e = entries::entry_at(list, i);
+        let refusal = release_entry(allocs, parents, protectors, codes, row, e);
+        if refusal != 0 {
+            return refusal;
+        }
+        i += 1;
+    }
+    0
+}
+
+// The first n of src at the front of dst.
+fn copy_front(dst: &mut [u8], src: &[u8], n: usize)
+    requires { ⌜ (n ≤ length (now src)) × (n ≤ length (now dst)) ⌝ }
+    ensures { λ _. ⌜ now (dst .exit) ≡ take n (now (src .entry)) ++ drop n (now (dst .entry)) ⌝ }
+{
+    tables::copy_row(dst, &src[0..n]);
+}
+
+// All of them, or none: what is used of marks and codes is saved first, and put back after a refusal.
+fn release_all(
+    allocs: &[u64],
+    parents: &[u16],
+    protectors: &mut [u8],
+    codes: &mut [u8],
+    area: &mut [u8],
+    list: Entries,
+) -> u8
+    requires { ⌜ ((m : Memory) × (HoldsTrees m (now allocs) (now parents) (now protectors) (now codes) × AllMade m (entriesOf list))) ⌝ }
+    requires { ⌜ (list .count ≤ 64) × (length (now area) ≡ 32768) ⌝ }
+    ensures { λ r. ⌜ ((m : Memory) → HoldsTrees m (now (allocs .entry)) (now (parents .entry)) (now (protectors .entry)) (now (codes .entry)) → AllMade m (entriesOf list)
+        → ReleasedAll m (entriesOf list) r (now (protectors .exit)) (now (codes .exit))) ⌝ }
+{
+    let used = tables::used(allocs);
+    let nodes = used.nodes;
+    let size = used.codes;
+    let mut marks = [0u8; 1024];
+    let mut row = [0u8; 4096];
+    copy_front(&mut marks, protectors, nodes);
+    copy_front(area, codes, size);
+    let refused = release_until(allocs, parents, protectors, codes, &mut row, list);
+    if refused != 0 {
+        copy_front(protectors, &marks, nodes);
+        copy_front(codes, area, size);
+    }
+    refused
+}
+
+// ---- an end call
+// "An end call checks 4 for all entries, then 16 to 23 entry by entry."
+fn end_call_refusal(
+    allocs: &[u64],
+    parents: &[u16],
+    protectors: &mut [u8],
+    codes: &mut [u8],
+    area: &mut [u8],
+    list: Entries,
+) -> u8
+    requires { ⌜ ((m : Memory) × HoldsTrees m (now allocs) (now parents) (now protectors) (now codes)) ⌝ }
+    requires { ⌜ (list .count ≤ 64) × (length (now area) ≡ 32768) ⌝ }
+    ensures { λ r. ⌜ ((m : Memory) → HoldsTrees m (now (allocs .entry)) (now (parents .entry)) (now (protectors .entry)) (now (codes .entry))
+        → Checked m (entriesOf list) r (now (protectors .exit)) (now (codes .exit))) ⌝ }
+{
+    if any_never_made(allocs, list) {
+        return 4;
+    }
+    release_all(allocs, parents, protectors, codes, area, list)
+}
+
+// A refusal leaves marks and codes as they were. The working area is zero afterwards, whatever it held and whatever the answer.
+pub fn end_call_held(
+    allocs: &[u64],
+    parents: &[u16],
+    protectors: &mut [u8],
+    codes: &mut [u8],
+    area: &mut [u8],
+    list: Entries,
+) -> Answer
+    requires { ⌜ ((m : Memory) × HoldsTrees m (now allocs) (now parents) (now protectors) (now codes)) ⌝ }
+    requires { ⌜ (list .count ≤ 64) × (length (now area) ≡ 32768) ⌝ }
+    ensures ended { λ r. ⌜ ((m : Memory) → HoldsTrees m (now (allocs .entry)) (now (parents .entry)) (now (protectors .entry)) (now (codes .entry))
+        → Ended m (entriesOf list) r (now (protectors .exit)) (now (codes .exit))) ⌝ }
+    ensures zero { λ _. ⌜ now (area .exit) ≡ replicate 32768 0 ⌝ }
+{
+    let refused = end_call_refusal(allocs, parents, protectors, codes, area, list);
+    tables::fill(area, 32768, 0);
+    bounds::refused_with(refused)
+}
+
+// ---- an end call on what is lent, with refusal 1
+fn is_lent(
+    len: usize,
+    count: usize,
+    area: &[u8],
+    allocs: &[u64],
+    parents: &[u16],
+    protectors: &[u8],
+    words: &[u32],
+    codes: &[u8],
+) -> bool
+    ensures { λ r. ⌜ r ≡ isLent len count (now (area .entry))
+        (buffers (now (allocs .entry)) (now (parents .entry)) (now (protectors .entry)) (now (words .entry)) (now (codes .entry))) ⌝ }
+{
+    if len != 64 {
+        return false;
+    }
+    if count > 64 {
+        return false;
+    }
+    if area.len() != 32768 {
+        return false;
+    }
+    wellformed::well_formed(allocs, parents, protectors, words, codes)
+}
+
+// The entries are the first `count` of a list of `len` places, of which the first 64 are given.
+fn end_call_list(
+    len: usize,
+    list: [Entry; 64],
+    count: usize,
+    allocs: &[u64],
+    parents: &[u16],
+    protectors: &mut [u8],
+    words: &[u32],
+    codes: &mut [u8],
+    area: &mut [u8],
+) -> Answer
+    ensures { λ r. ⌜ EndedLent len count (firstOf count list)
+        (buffers (now (allocs .entry)) (now (parents .entry)) (now (protectors .entry)) (now (words .entry)) (now (codes .entry))) (now (area .entry))
+        r (buffers (now (allocs .entry)) (now (parents .entry)) (now (protectors .exit)) (now (words .entry)) (now (codes .exit))) (now (area .exit)) ⌝ }
+{
+    if !is_lent(len, count, area, allocs, parents, protectors, words, codes) {
+        return Answer::Refused(1);
+    }
+    let list = Entries { list, count };
+    end_call_held(allocs, parents, protectors, codes, area, list)
+}
+
+// "The frame's protector list is lent as entries of allocation and node."
+pub fn end_call(
+    entries: &[Entry],
+    count: usize,
+    allocs: &[u64],
+    parents: &[u16],
+    protectors: &mut [u8],
+    words: &[u32],
+    codes: &mut [u8],
+    area: &mut [u8],
+) -> Answer
+    ensures { λ r. ⌜ EndedLent (length (now (entries .entry))) count (firstOf count (now (entries .entry)))
+        (buffers (now (allocs .entry)) (now (parents .entry)) (now (protectors .entry)) (now (words .entry)) (now (codes .entry))) (now (area .entry))
+        r (buffers (now (allocs .entry)) (now (parents .entry)) (now (protectors .exit)) (now (words .entry)) (now (codes .exit))) (now (area .exit)) ⌝ }
+{
+    let len = entries.len();
+    let list = load(entries);
+    end_call_list(
+        len,
+        list,
+        count,
+        allocs,
+        parents,
+        protectors,
+        words,
+        codes,
+        area,
+    )
+}

@@ -1,0 +1,27 @@
+-- 1, or what `bounds` answers on the memory that the buffers hold.
+use mathlib.Core.Path.{_∙_, sym}
+use borrow.Author.Needs.{needs}
+use borrow.Author.Tests.{not-true, not-false}
+use Rattle.tables.proofs.ReadBack.{holds-records}
+use Rattle.wellformed.proofs.Sound.{sound}
+use Rattle.library.proofs.Entered.{not-formed}
+use Rattle.library.proofs.Performed.{dereferenced}
+use Rattle.library.proofs.dereferenceable.dereferenceable.Statement.{statement}
+use Rattle.library.proofs.dereferenceable.dereferenceable.Tie as tie
+
+well-formed-requires : tie.Need-well-formed-requires
+well-formed-requires c κs = search needs
+
+returns : tie.Need-returns
+returns c = not-formed _ _ _ (sym (c .before .well-formed .ensures .0) ∙ not-true _ (c .if1 .taken))
+
+dereferenceable-requires : tie.Need-dereferenceable-requires
+dereferenceable-requires c κs = (_, holds-records (sound _ (sym (c .before .well-formed .ensures .0) ∙ not-false _ (c .if1 .left))))
+
+returns-2 : tie.Need-returns-2
+returns-2 c =
+    let formed = sym (c .before .before .well-formed .ensures .0) ∙ not-false _ (c .before .if1 .left) in
+    dereferenced _ _ _ _ formed (c .dereferenceable .ensures _ _ (holds-records (sound _ formed)))
+
+pub dereferenceable-spec : {M : Type 1} → statement M
+dereferenceable-spec = tie.close (tie.spec well-formed-requires returns dereferenceable-requires returns-2)

@@ -1,0 +1,3 @@
+-- What the entries promise.
+pub mod Entry
+pub mod Fields

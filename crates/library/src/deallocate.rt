@@ -1,0 +1,35 @@
+// Kind 1: records and codes change.
+use answer::Answer;
+use pointer::ThinPointer;
+ghost use Rattle.definition.specs.Memory as definition;
+ghost use Rattle.pointer.specs.Pointer.{thinPointerOf};
+ghost use Rattle.tables.specs.Decoding.{allocationKind};
+ghost use Rattle.tables.specs.Held.{buffers};
+ghost use Rattle.library.specs.Fields.{badAllocation};
+ghost use Rattle.library.specs.Entry.{Entered};
+
+// Remove an allocation: kind, size and alignment are those that it was made with.
+pub fn deallocate(
+    allocs: &mut [u64],
+    parents: &[u16],
+    protectors: &[u8],
+    words: &[u32],
+    codes: &mut [u8],
+    p: ThinPointer,
+    kind: u64,
+    len: u64,
+    exponent: u64,
+) -> Answer
+    ensures { λ r. ⌜ Entered (badAllocation kind exponent) (definition.deallocate (thinPointerOf p) (allocationKind kind) len exponent)
+        (buffers (now (allocs .entry)) (now (parents .entry)) (now (protectors .entry)) (now (words .entry)) (now (codes .entry)))
+        r
+        (buffers (now (allocs .exit)) (now (parents .entry)) (now (protectors .entry)) (now (words .entry)) (now (codes .exit))) ⌝ }
+{
+    if !wellformed::well_formed(allocs, parents, protectors, words, codes) {
+        return Answer::Refused(1);
+    }
+    if crate::fields::bad_allocation(kind, exponent) {
+        return Answer::Refused(2);
+    }
+    memory::deallocate::deallocate(allocs, parents, protectors, codes, p, kind, len, exponent)
+}

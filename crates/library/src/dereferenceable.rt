@@ -1,0 +1,50 @@
+// Kinds 7 and 8: they change nothing.
+use answer::Answer;
+use pointer::ThinPointer;
+ghost use mathlib.Core.Bool.{false};
+ghost use Rattle.definition.specs.Memory as definition;
+ghost use Rattle.pointer.specs.Pointer.{thinPointerOf, back, ahead};
+ghost use Rattle.tables.specs.Held.{buffers};
+ghost use Rattle.library.specs.Entry.{Entered};
+
+// Test whether the given pointer is dereferenceable for the given size.
+pub fn dereferenceable(
+    allocs: &[u64],
+    parents: &[u16],
+    protectors: &[u8],
+    words: &[u32],
+    codes: &[u8],
+    p: ThinPointer,
+    len: u64,
+) -> Answer
+    ensures { λ r. ⌜ Entered false (definition.dereferenceable (thinPointerOf p) 0 len)
+        (buffers (now (allocs .entry)) (now (parents .entry)) (now (protectors .entry)) (now (words .entry)) (now (codes .entry)))
+        r
+        (buffers (now (allocs .entry)) (now (parents .entry)) (now (protectors .entry)) (now (words .entry)) (now (codes .entry))) ⌝ }
+{
+    if !wellformed::well_formed(allocs, parents, protectors, words, codes) {
+        return Answer::Refused(1);
+    }
+    bounds::dereferenceable(allocs, p, len)
+}
+
+// The same with a signed length: "A negative signed length reaches back from the pointer; no address wraps there."
+pub fn signed_dereferenceable(
+    allocs: &[u64],
+    parents: &[u16],
+    protectors: &[u8],
+    words: &[u32],
+    codes: &[u8],
+    p: ThinPointer,
+    len: i64,
+) -> Answer
+    ensures { λ r. ⌜ Entered false (definition.dereferenceable (thinPointerOf p) (back len) (ahead len))
+        (buffers (now (allocs .entry)) (now (parents .entry)) (now (protectors .entry)) (now (words .entry)) (now (codes .entry)))
+        r
+        (buffers (now (allocs .entry)) (now (parents .entry)) (now (protectors .entry)) (now (words .entry)) (now (codes .entry))) ⌝ }
+{
+    if !wellformed::well_formed(allocs, parents, protectors, words, codes) {
+        return Answer::Refused(1);
+    }
+    bounds::signed_dereferenceable(allocs, p, len)
+}

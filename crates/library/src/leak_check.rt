@@ -1,0 +1,20 @@
+// Kind 9: it changes nothing.
+use answer::Answer;
+ghost use Rattle.tables.specs.Held.{buffers};
+ghost use Rattle.library.specs.Entry.{LeakEntered};
+
+// Check if there are any memory leaks; the answer names the lowest.
+pub fn leak_check(
+    allocs: &[u64],
+    parents: &[u16],
+    protectors: &[u8],
+    words: &[u32],
+    codes: &[u8],
+) -> Answer
+    ensures { λ r. ⌜ LeakEntered (buffers (now (allocs .entry)) (now (parents .entry)) (now (protectors .entry)) (now (words .entry)) (now (codes .entry))) r ⌝ }
+{
+    if !wellformed::well_formed(allocs, parents, protectors, words, codes) {
+        return Answer::Refused(1);
+    }
+    bounds::leak_check(allocs)
+}

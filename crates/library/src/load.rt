@@ -1,0 +1,65 @@
+// Kind 2: the codes change, and no byte does.
+use answer::Answer;
+use pointer::ThinPointer;
+ghost use mathlib.Core.Path.{_≡_};
+ghost use lib.ListN.{take, drop};
+ghost use Rattle.definition.specs.Memory.{performAccess};
+ghost use Rattle.pointer.specs.Pointer.{thinPointerOf};
+ghost use Rattle.answer.specs.Answer.{answerOf};
+ghost use Rattle.tables.specs.Held.{buffers};
+ghost use Rattle.memory.specs.Access.{loadOf};
+ghost use Rattle.library.specs.Fields.{badExponent};
+ghost use Rattle.library.specs.Entry.{Entered};
+
+// The loaded words are a part of the lent data, which the answer names: `load_view` hands it out.
+pub fn load(
+    allocs: &[u64],
+    parents: &[u16],
+    protectors: &[u8],
+    words: &[u32],
+    codes: &mut [u8],
+    p: ThinPointer,
+    len: u64,
+    exponent: u64,
+) -> Answer
+    ensures { λ r. ⌜ Entered (badExponent exponent) (performAccess (loadOf (thinPointerOf p) len exponent))
+        (buffers (now (allocs .entry)) (now (parents .entry)) (now (protectors .entry)) (now (words .entry)) (now (codes .entry)))
+        r
+        (buffers (now (allocs .entry)) (now (parents .entry)) (now (protectors .entry)) (now (words .entry)) (now (codes .exit))) ⌝ }
+{
+    if !wellformed::well_formed(allocs, parents, protectors, words, codes) {
+        return Answer::Refused(1);
+    }
+    if crate::fields::bad_exponent(exponent) {
+        return Answer::Refused(2);
+    }
+    memory::access::load(allocs, parents, codes, p, len, exponent)
+}
+
+// `len` words from `start` on, as far as there are any.
+fn words_at<'d>(words: &'d [u32], start: usize, len: usize) -> &'d [u32]
+    ensures { λ r. ⌜ now r ≡ take len (drop start (now (words .entry))) ⌝ }
+{
+    let total = words.len();
+    if start > total {
+        return memory::access::load_view(words, total, 0);
+    }
+    let room = total - start;
+    if len > room {
+        return memory::access::load_view(words, start, room);
+    }
+    memory::access::load_view(words, start, len)
+}
+
+// "The bytes of an accepted load are handed out as a part of the lent data." They are empty for length zero and for any other answer.
+pub fn load_view<'d>(words: &'d [u32], answer: Answer) -> &'d [u32]
+    ensures { λ r. ⌜ now r ≡ answerOf answer (now (words .entry)) .words ⌝ }
+{
+    match answer {
+        Answer::Words { start, len } => words_at(words, start, len),
+        Answer::Refused(_) => words_at(words, 0, 0),
+        Answer::Leak(_) => words_at(words, 0, 0),
+        Answer::Accepted => words_at(words, 0, 0),
+        Answer::Pointer(_) => words_at(words, 0, 0),
+    }
+}

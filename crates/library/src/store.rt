@@ -1,0 +1,34 @@
+// Kind 3: words and codes change.
+use answer::Answer;
+use pointer::ThinPointer;
+ghost use Rattle.definition.specs.Memory.{performAccess};
+ghost use Rattle.pointer.specs.Pointer.{thinPointerOf};
+ghost use Rattle.tables.specs.Held.{buffers};
+ghost use Rattle.memory.specs.Access.{storeOf};
+ghost use Rattle.library.specs.Fields.{badStore};
+ghost use Rattle.library.specs.Entry.{Entered};
+
+// Write some bytes to memory; the length is theirs.
+pub fn store(
+    allocs: &[u64],
+    parents: &[u16],
+    protectors: &[u8],
+    words: &mut [u32],
+    codes: &mut [u8],
+    p: ThinPointer,
+    bytes: &[u32],
+    exponent: u64,
+) -> Answer
+    ensures { λ r. ⌜ Entered (badStore (now (bytes .entry)) exponent) (performAccess (storeOf (thinPointerOf p) (now (bytes .entry)) exponent))
+        (buffers (now (allocs .entry)) (now (parents .entry)) (now (protectors .entry)) (now (words .entry)) (now (codes .entry)))
+        r
+        (buffers (now (allocs .entry)) (now (parents .entry)) (now (protectors .entry)) (now (words .exit)) (now (codes .exit))) ⌝ }
+{
+    if !wellformed::well_formed(allocs, parents, protectors, words, codes) {
+        return Answer::Refused(1);
+    }
+    if crate::fields::bad_store(bytes, exponent) {
+        return Answer::Refused(2);
+    }
+    memory::access::store(allocs, parents, words, codes, p, bytes, exponent)
+}

@@ -1,0 +1,179 @@
+-- A retag by its cases, and what is left to its caller: the frames, and that five buffers hold the memory afterwards.
+use Prim.Native.Nat.{ℕ, zero, suc, _≤_}
+use mathlib.Core.Path.{_≡_, refl, sym, ap, ap₂, subst, _∙_}
+use mathlib.Core.Bool.{Bool, true, false, not, _&&_, false≢true}
+use mathlib.Core.Option.{Option, none, some}
+use mathlib.Core.List.{List, [], _∷_, _++_, map}
+use native.Mathlib.Nat.{zero-add}
+use native.Mathlib.Omega.{arith}
+use lib.Dec.{eqb}
+use lib.ListN.{length, take, length-map}
+use borrow.Author.Tests.{eq-eqb, ne-eqb}
+use Rattle.definition.specs.Notation.{if_then_else_, _when_, mutateAt, writeAt}
+use Rattle.definition.specs.Refusal.{neverMade}
+use Rattle.definition.specs.Layout.{FreezeMask}
+use Rattle.definition.specs.Memory.{Provenance, ThinPointer, hasNone, allocationOf, Allocation, Memory, allocationAt, Answer, refusedWith, givesPointer, unlessRefused, namesNeverMade, checkPtr}
+use Rattle.definition.specs.Frame.{State}
+use Rattle.definition.specs.Retag.{ReborrowSettings, reborrowRefusal, afterReborrowIn, acceptReborrow, reborrow, retagWithoutNode, retag}
+use Rattle.definition.proofs.Alls.{if-holds, outcome-holds}
+use Rattle.definition.proofs.ValidTrees.{settings-agree}
+use Rattle.definition.proofs.ValidFrames.{valid-retag}
+use Rattle.permission.specs.Codes.{protector, safePointer}
+use Rattle.pointer.specs.Pointer.{provenanceOf, thinPointerOf}
+use Rattle.pointer.specs.declared.ThinPointer as pointer
+use Rattle.pointer.specs.declared.Provenance.the-variants.{Of}
+use Rattle.answer.specs.Answer.{answerOf}
+use Rattle.answer.specs.declared.Answer as code
+use Rattle.answer.specs.declared.Answer.the-variants.{Refused, Pointer}
+use Rattle.tables.specs.Encoding.{wordsOf, concatMap, pad, held}
+use Rattle.tables.specs.Held.{buffers, Holds, Trees}
+use Rattle.tables.proofs.ReadBack.{encode-of, holds-words}
+use Rattle.reborrow.specs.declared.ReborrowSettings as settingsCode
+use Rattle.reborrow.specs.Settings.{maskOf, settingsOf}
+use Rattle.reborrow.specs.Retag.{Added, Retagged, framesWith}
+
+-- a part that no change touches
+concat-kept : (f : Allocation → List ℕ) (g : Allocation → Allocation) → ((a : Allocation) → f (g a) ≡ f a) → (n : ℕ) (m : Memory) → concatMap f (mutateAt n g m) ≡ concatMap f m
+unfolding concatMap mutateAt
+concat-kept f g e n [] = refl
+concat-kept f g e zero (a ∷ m) = ap (λ (l : List ℕ). l ++ concatMap f m) (e a)
+concat-kept f g e (suc n) (a ∷ m) = ap (λ (l : List ℕ). f a ++ l) (concat-kept f g e n m)
+
+held-kept : (total : ℕ) (f : Allocation → List ℕ) (g : Allocation → Allocation) → ((a : Allocation) → f (g a) ≡ f a) → (n : ℕ) (m : Memory)
+    → held total f (mutateAt n g m) ≡ held total f m
+unfolding held
+held-kept total f g e n m = ap (pad total) (concat-kept f g e n m)
+
+module _ (w : ReborrowSettings) (frame : ℕ) (p : ThinPointer) (s : State) where
+  -- ---- the cases
+  pub nowhere : p .provenance ≡ none → length (w .inside) ≡ 0 → retag w frame p s ≡ (givesPointer none, s)
+  unfolding retag retagWithoutNode
+  nowhere e z = rw (e, eq-eqb (length (w .inside)) 0 z)
+
+  pub nowhere-refused : p .provenance ≡ none → (length (w .inside) ≡ 0 → ⊥) → retag w frame p s ≡ (refusedWith 7, s)
+  unfolding retag reborrow reborrowRefusal checkPtr
+  nowhere-refused e z = rw (e, zero-add (length (w .inside)), ne-eqb (length (w .inside)) 0 z)
+
+  module _ (somewhere : hasNone (p .provenance) ≡ false) where
+    is-reborrow : retag w frame p s ≡ reborrow w frame p s
+    unfolding retag
+    is-reborrow = rw somewhere
+
+    pub refused : (r : ℕ) → r ≡ reborrowRefusal w frame p s → (r ≡ 0 → ⊥) → retag w frame p s ≡ (refusedWith r, s)
+    unfolding reborrow
+    refused zero e z = absurd (z refl)
+    refused (suc r) e z = is-reborrow ∙ ap (λ (n : ℕ). unlessRefused n s (acceptReborrow w frame p s)) (sym e)
+
+    pub accepted : reborrowRefusal w frame p s ≡ 0 → retag w frame p s ≡ acceptReborrow w frame p s
+    unfolding reborrow
+    accepted e = is-reborrow ∙ ap (λ (n : ℕ). unlessRefused n s (acceptReborrow w frame p s)) e
+
+  pub retagged : (o : Answer × State) → retag w frame p s ≡ o → (r : code.Answer) {A P R C : List ℕ} → ((words : List ℕ) → answerOf r words ≡ o .0) → Trees (o .1 .memory) A P R C
+      → Retagged w frame p s r A P R C
+  retagged o e r {A} {P} {R} {C} f t =
+      record {
+        answers = λ words. f words ∙ ap (λ (x : Answer × State). x .0) (sym e);
+        trees = subst (λ (x : Answer × State). Trees (x .1 .memory) A P R C) (sym e) t;
+      }
+
+  -- ---- the words
+  kept-in : (x : Allocation) → wordsOf (afterReborrowIn w p x) ≡ wordsOf x
+  unfolding afterReborrowIn
+  kept-in x = refl
+
+  accepted-words : held 4096 wordsOf (acceptReborrow w frame p s .1 .memory) ≡ held 4096 wordsOf (s .memory)
+  unfolding acceptReborrow
+  accepted-words = held-kept 4096 wordsOf (afterReborrowIn w p) kept-in (allocationOf (p .provenance)) (s .memory)
+
+  pub words-kept : held 4096 wordsOf (retag w frame p s .1 .memory) ≡ held 4096 wordsOf (s .memory)
+  unfolding retag retagWithoutNode reborrow
+  words-kept =
+      let Same : State → Type 0 = λ x. held 4096 wordsOf (x .memory) ≡ held 4096 wordsOf (s .memory) in
+      if-holds (λ (o : Answer × State). Same (o .1)) (hasNone (p .provenance) && eqb (length (w .inside)) 0)
+      (unlessRefused (neverMade when namesNeverMade (s .memory) (p .provenance)) s (givesPointer (p .provenance), s)) (unlessRefused (reborrowRefusal w frame p s) s (acceptReborrow w frame p s))
+      (λ t. outcome-holds Same (neverMade when namesNeverMade (s .memory) (p .provenance)) s (givesPointer (p .provenance), s) refl (λ z. refl))
+      (λ t. outcome-holds Same (reborrowRefusal w frame p s) s (acceptReborrow w frame p s) refl (λ z. accepted-words))
+
+  -- ---- the frames: what is given is entered, if it has provenance
+  unchanged : (o : Option Provenance) (r : ℕ) → hasNone o ≡ true
+      → unlessRefused r s (givesPointer o, s) .1 .frames ≡ framesWith w frame (unlessRefused r s (givesPointer o, s) .0 .pointer) s
+  unchanged none zero e = refl
+  unchanged none (suc r) e = refl
+  unchanged (some t) r e = absurd (false≢true e)
+
+  entered : (r : ℕ) → unlessRefused r s (acceptReborrow w frame p s) .1 .frames ≡ framesWith w frame (unlessRefused r s (acceptReborrow w frame p s) .0 .pointer) s
+  unfolding acceptReborrow
+  entered zero = refl
+  entered (suc r) = refl
+
+  abbrev outcome : Bool → Answer × State
+  outcome t =
+      if t then unlessRefused (neverMade when namesNeverMade (s .memory) (p .provenance)) s (givesPointer (p .provenance), s)
+      else unlessRefused (reborrowRefusal w frame p s) s (acceptReborrow w frame p s)
+
+  by-outcome : (isNone isZero : Bool) → hasNone (p .provenance) ≡ isNone → outcome (isNone && isZero) .1 .frames ≡ framesWith w frame (outcome (isNone && isZero) .0 .pointer) s
+  by-outcome true true e = unchanged (p .provenance) (neverMade when namesNeverMade (s .memory) (p .provenance)) e
+  by-outcome true false e = entered (reborrowRefusal w frame p s)
+  by-outcome false isZero e = entered (reborrowRefusal w frame p s)
+
+  pub retag-frames : retag w frame p s .1 .frames ≡ framesWith w frame (retag w frame p s .0 .pointer) s
+  unfolding retag retagWithoutNode reborrow
+  retag-frames = by-outcome (hasNone (p .provenance)) (eqb (length (w .inside)) 0) refl
+
+-- ---- a pointer as the code has it
+module _ (w : ReborrowSettings) (frame : ℕ) (p : pointer.ThinPointer) {n node : ℕ} (e : p .provenance ≡ Of n node) (s : State) where
+  pub retagged-refused : (r : ℕ) → r ≡ reborrowRefusal w frame (thinPointerOf p) s → (r ≡ 0 → ⊥) → {A P R C : List ℕ} → Trees (s .memory) A P R C
+      → Retagged w frame (thinPointerOf p) s (Refused r) A P R C
+  retagged-refused r q z t =
+      retagged w frame (thinPointerOf p) s (refusedWith r, s) (refused w frame (thinPointerOf p) s (ap (λ x. hasNone (provenanceOf x)) e) r q z) (Refused r) (λ words. refl) t
+
+  pub retagged-child : reborrowRefusal w frame (thinPointerOf p) s ≡ 0 → {child : ℕ} {A P R C : List ℕ} → Added w (thinPointerOf p) (s .memory) n child A P R C
+      → Retagged w frame (thinPointerOf p) s (Pointer (Of n child)) A P R C
+  unfolding acceptReborrow
+  retagged-child z {child} {A} {P} {R} {C} added =
+      retagged w frame (thinPointerOf p) s (acceptReborrow w frame (thinPointerOf p) s) (accepted w frame (thinPointerOf p) s (ap (λ x. hasNone (provenanceOf x)) e) z)
+      (Pointer (Of n child))
+      (λ words.
+      ap (λ (k : ℕ). givesPointer (some (record { allocation = n; node = k }))) (added .number)
+      ∙ sym (ap (λ x. let q = provenanceOf x in givesPointer (some (record { allocation = allocationOf q; node = length (allocationAt (s .memory) (allocationOf q) .nodes) }))) e))
+      (subst (λ (k : ℕ). Trees (mutateAt k (afterReborrowIn w (thinPointerOf p)) (s .memory)) A P R C) (sym (ap (λ x. allocationOf (provenanceOf x)) e)) (added .trees))
+
+-- ---- the five buffers afterwards: the words stay as they are
+pub retagged-holds : (settings : settingsCode.ReborrowSettings) (mask : FreezeMask) (frame : ℕ) (p : ThinPointer) (s : State) (r : code.Answer) {A P R W C A′ P′ R′ C′ : List ℕ}
+    → Holds (s .memory) (buffers A P R W C) → Retagged (settingsOf settings mask) frame p s r A′ P′ R′ C′
+    → Holds (retag (settingsOf settings mask) frame p s .1 .memory) (buffers A′ P′ R′ W C′)
+retagged-holds settings mask frame p s r {A} {P} {R} {W} {C} h t =
+    let w : ReborrowSettings = settingsOf settings mask in
+    record {
+      valid = valid-retag w (settings-agree (safePointer (settings .pointer)) (protector (settings .protected)) mask (settings .freeze)) frame p s (h .valid);
+      equal = encode-of (retag w frame p s .1 .memory) (t .trees .allocs) (t .trees .parents) (t .trees .protectors) (holds-words h ∙ sym (words-kept w frame p s)) (t .trees .codes);
+    }
+
+-- without a node nothing changes
+pub without-node-same : (p : ThinPointer) (s : State) → retagWithoutNode p s .1 ≡ s
+unfolding retagWithoutNode
+without-node-same p s = by (neverMade when namesNeverMade (s .memory) (p .provenance))
+  where
+    by : (r : ℕ) → unlessRefused r s (givesPointer (p .provenance), s) .1 ≡ s
+    by zero = refl
+    by (suc r) = refl
+
+-- what is written at the front stands there
+written : (ys xs : List ℕ) (n : ℕ) → length ys ≡ n → length ys ≤ length xs → take n (writeAt 0 ys xs) ≡ ys
+unfolding writeAt
+written [] xs zero e l = refl
+written [] xs (suc n) e l = absurd (omega arith)
+written (y ∷ ys) [] n e l = absurd (omega arith)
+written (y ∷ ys) (x ∷ xs) zero e l = absurd (omega arith)
+written (y ∷ ys) (x ∷ xs) (suc n) e l = ap (λ (t : List ℕ). y ∷ t) (written ys xs n (omega arith) (omega arith))
+
+-- ---- a mask in a buffer, by a number for each byte: what is read there is the mask
+module _ (byte : Bool → ℕ) (cell : byte false ≡ 0) (freeze : byte true ≡ 0 → ⊥) where
+  pub mask-back : (mask : FreezeMask) → maskOf (map byte mask) ≡ mask
+  mask-back [] = refl
+  mask-back (true ∷ mask) = ap₂ _∷_ (ap not (ne-eqb (byte true) 0 freeze)) (mask-back mask)
+  mask-back (false ∷ mask) = ap₂ _∷_ (ap not (eq-eqb (byte false) 0 cell)) (mask-back mask)
+
+  pub mask-in : (mask : FreezeMask) (buffer : List ℕ) → length mask ≤ length buffer → maskOf (take (length mask) (writeAt 0 (map byte mask) buffer)) ≡ mask
+  mask-in mask buffer l =
+      ap maskOf (written (map byte mask) buffer (length mask) (length-map mask byte) (omega (arith, length-map mask byte))) ∙ mask-back mask
