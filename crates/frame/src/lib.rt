@@ -1,5 +1,5 @@
 // The end of a call: the protectors of its frame are released. mem.rs: `TreeBorrowsFrameExtra`, `release_protector`, `end_call`.
-// specs/Release.antt says what is asked and what is left, in the definition's terms.
+// specs/Release.antt says what is asked and what is left, in the definition's terms. A new call only opens its frame: `entries::open_frame`.
 use answer::Answer;
 use entries::Entries;
 use entries::Entry;
@@ -61,7 +61,7 @@ pub fn release_entry(
 }
 
 // ---- all entries of a list
-// 4, for one of them.
+// Some entry is refused with 4.
 fn any_never_made(allocs: &[u64], list: Entries) -> bool
     requires { ⌜ ((m : Memory) × Records m (now allocs)) ⌝ }
     requires { ⌜ list .count ≤ 64 ⌝ }
@@ -188,7 +188,8 @@ pub fn end_call_held(
     bounds::refused_with(refused)
 }
 
-// ---- an end call on what is lent, with refusal 1
+// ---- an end call on what is lent (specs/EndCall.antt)
+// Not refused with 1: the entries' list, the working area and the buffers have their lengths, and the buffers hold a memory.
 fn is_lent(
     len: usize,
     count: usize,
@@ -237,7 +238,8 @@ fn end_call_list(
     end_call_held(allocs, parents, protectors, codes, area, list)
 }
 
-// "The frame's protector list is lent as entries of allocation and node."
+// "The frame's protector list is lent as entries of allocation and node." For whatever is lent: 1, and nothing changes; or the end call of
+// the memory that the buffers hold, and the working area is zero.
 pub fn end_call(
     entries: &[Entry],
     count: usize,

@@ -3,11 +3,11 @@
 --     arm      an arm of a range: the numbers from lo on, n of them, but for those of the arms in `kss`
 --     rest     the arm `_`: the numbers from lo on
 -- `kss` has the keys of every arm of single numbers, the last arm first: `c .match .rest` is then a `None kss code`.
-use mathlib.Core.Path.{_≡_, sym, ap, subst}
+use Prim.Native.Nat.{ℕ, _+_, _≤_, _<_}
+use mathlib.Core.Path.{_≡_}
 use mathlib.Core.Bool.{Bool, true, false, _&&_, _||_}
 use mathlib.Core.Logic.{_⊎_, ⊎-elim, inl, inr}
 use mathlib.Core.List.{List, [], _∷_}
-use Prim.Native.Nat.{ℕ, zero, suc, _+_, _≤_, _<_}
 use native.Mathlib.Decide.{decLt}
 use native.Mathlib.Omega.{arith}
 use lib.Dec.{T}

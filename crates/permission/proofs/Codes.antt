@@ -1,19 +1,19 @@
 -- The functions of a code: at a permission's code they are the definition's; from 15 on nothing changes. And what an outcome says of the refusal and of the next code.
-use mathlib.Core.Path.{_≡_, refl, sym, ap, subst, _∙_}
+use Prim.Native.Nat.{ℕ, _≤_, _<_}
+use mathlib.Core.Path.{_≡_, refl, ap, subst, _∙_}
 use mathlib.Core.Bool.{Bool, true, false}
 use mathlib.Core.Option.{Option, none, some}
-use Prim.Native.Nat.{ℕ, _≤_, _<_}
 use native.Mathlib.Decide.{decLt}
 use native.Mathlib.Omega.{arith}
-use lib.Dec.{T, eqb, eqb→eq, ltb, ltb→lt}
 use borrow.Author.Tests.{lt-ltb, le-ltb}
-use Rattle.definition.specs.Permission as definition
+use lib.Dec.{T, eqb, eqb→eq, ltb, ltb→lt}
 use Rattle.definition.specs.Permission.{Permission, transition, refusalOf, permissionAfter, refusal, next, refusalBy, nextBy, isProtected, unprotected, endAccess, preventsDeallocation, initAccess, code, permission}
 use Rattle.definition.specs.Permission.AccessKind.{Read, Write}
 use Rattle.definition.specs.Permission.NodeRelation.{Local, Foreign}
 use Rattle.definition.specs.Permission.Outcome.{becomes, refused}
 use Rattle.definition.proofs.Booleans.{every, in-range}
 use Rattle.definition.proofs.Permissions.{permission-code, code-permission, code-small}
+use Rattle.definition.specs.Permission as definition
 use Rattle.permission.specs.declared.Outcome.{Outcome}
 use Rattle.permission.specs.declared.Outcome.the-variants.{Becomes, Refused}
 use Rattle.permission.specs.Codes.{outcomeCode, byCode, transitionCode, refusalCode, nextCode, isProtectedCode, unprotectedCode, endAccessCode, preventsCode, initAccessCode}

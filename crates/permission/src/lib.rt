@@ -1,11 +1,13 @@
 // One permission, held as its code, and one access. A number from 15 on holds no permission: nothing changes it, and it allows everything.
 ghost use mathlib.Core.Path.{_≡_};
+ghost use mathlib.Core.Option.{some};
+ghost use Rattle.definition.specs.Notation.{table};
 ghost use Rattle.definition.specs.Permission.{code};
 ghost use Rattle.definition.specs.Permission.AccessKind.{Read, Write};
 ghost use Rattle.definition.specs.Permission.NodeRelation.{Local, Foreign};
 ghost use Rattle.definition.specs.Permission.Protected.{No, Weak, Strong};
 ghost use Rattle.definition.specs.Retag.{startPerm};
-ghost use Rattle.permission.specs.Codes.{accessKind, nodeRelation, maybeAccess, protector, safePointer, transitionCode, isProtectedCode, unprotectedCode, endAccessCode, preventsCode, initAccessCode};
+ghost use Rattle.permission.specs.Codes.{accessKind, nodeRelation, maybeAccess, protector, safePointer, transitionCode, refusalCode, isProtectedCode, unprotectedCode, endAccessCode, preventsCode, initAccessCode};
 
 pub enum AccessKind {
     Read,
@@ -101,6 +103,30 @@ pub fn transition(code: u8, access: AccessKind, relation: NodeRelation) -> Outco
         AccessKind::Write => match relation {
             NodeRelation::Local => local_write(code),
             NodeRelation::Foreign => foreign_write(code),
+        },
+    }
+}
+
+// The refusals of each code, 0 for none: `transition`'s, as tables for a check of many codes.
+const LOCAL_READ: [u8; 16] = [0, 0, 0, 0, 0, 17, 0, 0, 0, 0, 0, 0, 0, 0, 17, 0];
+
+const LOCAL_WRITE: [u8; 16] = [0, 0, 0, 0, 18, 19, 0, 0, 0, 20, 20, 0, 18, 18, 19, 0];
+
+const FOREIGN_READ: [u8; 16] = [0, 0, 0, 0, 0, 0, 0, 0, 0, 0, 0, 21, 0, 0, 0, 0];
+
+const FOREIGN_WRITE: [u8; 16] = [0, 0, 0, 0, 0, 0, 0, 0, 22, 0, 22, 23, 0, 22, 0, 0];
+
+pub fn refusals(access: AccessKind, relation: NodeRelation) -> [u8; 16]
+    ensures { λ r. ⌜ r ≡ table 16 (refusalCode (some (accessKind access)) (nodeRelation relation)) ⌝ }
+{
+    match access {
+        AccessKind::Read => match relation {
+            NodeRelation::Local => LOCAL_READ,
+            NodeRelation::Foreign => FOREIGN_READ,
+        },
+        AccessKind::Write => match relation {
+            NodeRelation::Local => LOCAL_WRITE,
+            NodeRelation::Foreign => FOREIGN_WRITE,
         },
     }
 }

@@ -83,7 +83,6 @@ module _ {m : Memory} {A : List ℕ} (h : Records m A) {n : ℕ} (made : n < len
   read-codes = ap₂ _*_ read-nodes (read-size h made q) ∙ sym (codes-at m (h .valid) n made)
 
 module _ {m : Memory} {A : List ℕ} (h : Records m A) {n : ℕ} (made : n < length m) {r : code.Allocation} (q : r ≡ recordAt A n) {w b c : ℕ} (s : StartsAt m n w b c) where
-
   pub nodes-small : b + r .nodes ≤ 1024
   nodes-small = omega (arith, read-nodes h made q, s .parents, length-parents (allocationAt m n), focus-used 1024 parentsOf m n made, parents-fit m (h .valid))
 

@@ -2,13 +2,13 @@
 use Prim.Native.Nat.{ℕ, zero, suc, _+_, _-_, _≤_, _<_}
 use mathlib.Core.Path.{_≡_, refl, sym, ap, subst, _∙_}
 use mathlib.Core.Bool.{Bool, true, false, not, _&&_, _||_, false≢true}
-use mathlib.Core.Option.{Option, none, some}
+use mathlib.Core.Option.{some}
 use mathlib.Core.List.{List, [], _∷_}
 use native.Mathlib.Decide.{ℕ-discrete, decLt}
 use native.Mathlib.Omega.{arith}
+use borrow.Author.Tests.{eq-eqb, ne-eqb, leb-true, le-leb, lt-leb, lt-ltb, le-ltb}
 use lib.Dec.{eqb, leb, ltb}
 use lib.ListN.{length}
-use borrow.Author.Tests.{eq-eqb, ne-eqb, leb-true, le-leb, lt-leb, lt-ltb, le-ltb}
 use Rattle.definition.specs.Notation.{if_then_else_, _when_, _or_}
 use Rattle.definition.specs.Refusal.{neverMade, missingProvenance, deadAllocation, outOfBounds, belowStart, sizeExceeded}
 use Rattle.definition.specs.Permission.{Permission, isYes}
@@ -24,7 +24,7 @@ use Rattle.tables.specs.declared.Allocation as code
 use Rattle.tables.specs.Held.{Records}
 use Rattle.bounds.proofs.Points.{recordAt, read-address, read-size, points-made}
 use Rattle.reborrow.specs.Settings.{placeIn}
-use Rattle.reborrow.specs.Retag.{boundsRefusal, Reached, Fits, Passed}
+use Rattle.reborrow.specs.Retag.{boundsRefusal, Fits, Passed}
 
 -- a pointer into allocation n, through a node of it
 abbrev pub pointerAt : ℕ → ℕ → ℕ → ThinPointer
@@ -122,7 +122,7 @@ module _ (addr n node len : ℕ) (m : Memory) where
       let lower : Bool = leb (a .address + 0) addr in
       let upper : Bool = leb (addr + len) (a .address + size a) in
       let both : lower && upper ≡ true =
-          not-not-false (lower && upper) (not-outside (eqb (0 + len) 0) (not (isLive (a .state))) (isOutside a p 0 len) (ne-eqb (0 + len) 0 (λ z. long (omega arith))) e) in
+      not-not-false (lower && upper) (not-outside (eqb (0 + len) 0) (not (isLive (a .state))) (isOutside a p 0 len) (ne-eqb (0 + len) 0 (λ z. long (omega arith))) e) in
       record {
         above = omega (arith, leb-true (a .address + 0) addr (and-left lower upper both));
         below = leb-true (addr + len) (a .address + size a) (and-right lower upper both);

@@ -20,7 +20,7 @@ use Rattle.tables.specs.Encoding.{parentsOf, codesOf, held}
 use Rattle.tables.specs.Held.{startOf, Records, Trees}
 use Rattle.reborrow.specs.declared.ReborrowSettings as code
 use Rattle.reborrow.specs.declared.TreePart.{TreePart}
-use Rattle.reborrow.specs.Settings.{settingsOf, startCodes, placeIn}
+use Rattle.reborrow.specs.Settings.{startCodes, placeIn}
 
 -- ---- buffers that hold a memory
 -- the records, the parents and the codes are those of m

@@ -6,7 +6,7 @@ use permission::SafePointer;
 use pointer::Provenance;
 use pointer::ThinPointer;
 ghost use mathlib.Core.Path.{_≡_};
-ghost use mathlib.Core.Bool.{Bool, _&&_};
+ghost use mathlib.Core.Bool.{_&&_};
 ghost use mathlib.Core.List.{List, _++_, map};
 ghost use Prim.Native.Nat.{ℕ, _+_, _≤_, _<_};
 ghost use lib.Dec.{eqb, ltb};
@@ -103,7 +103,15 @@ fn exceeds_entries(protected: Protected, entries: usize) -> bool
 }
 
 // 4, 7 to 9, 14 and 15, of a pointer into allocation n.
-fn bounds_refusal(allocs: &[u64], p: ThinPointer, n: usize, node: usize, len: usize, protected: Protected, entries: usize) -> u8
+fn bounds_refusal(
+    allocs: &[u64],
+    p: ThinPointer,
+    n: usize,
+    node: usize,
+    len: usize,
+    protected: Protected,
+    entries: usize,
+) -> u8
     requires { ⌜ ((m : Memory) × Records m (now allocs)) ⌝ }
     requires { ⌜ p .provenance ≡ Of n node ⌝ }
     ensures { λ r. ⌜ ((m : Memory) → Records m (now (allocs .entry)) → r ≡ boundsRefusal (isYes (protector protected)) entries len (thinPointerOf p) m) ⌝ }
@@ -158,7 +166,15 @@ fn tree_part(allocs: &[u64], n: usize) -> TreePart
 }
 
 // The reads of the inside bytes through a node of allocation n, each on the tree as it stands: the first refusal, or 0.
-fn reads_refusal(allocs: &[u64], parents: &[u16], codes: &[u8], inside: &[u8], n: usize, node: usize, from: usize) -> u8
+fn reads_refusal(
+    allocs: &[u64],
+    parents: &[u16],
+    codes: &[u8],
+    inside: &[u8],
+    n: usize,
+    node: usize,
+    from: usize,
+) -> u8
     requires { ⌜ ((m : Memory) × (HoldsTrees m (now allocs) (now parents) (now codes) × Reached m n node from (length (now inside)))) ⌝ }
     ensures { λ r. ⌜ ((m : Memory) → HoldsTrees m (now (allocs .entry)) (now (parents .entry)) (now (codes .entry)) → Reached m n node from (length (now (inside .entry)))
         → r ≡ readsRefusal node from (map permission (now (inside .entry))) (allocationAt m n .nodes)) ⌝ }
@@ -168,7 +184,14 @@ fn reads_refusal(allocs: &[u64], parents: &[u16], codes: &[u8], inside: &[u8], n
     let behind = t.behind;
     let start = t.start;
     let end = t.end;
-    tree::reads_refusal(&parents[first..behind], &codes[start..end], inside, t.width, node, from)
+    tree::reads_refusal(
+        &parents[first..behind],
+        &codes[start..end],
+        inside,
+        t.width,
+        node,
+        from,
+    )
 }
 
 // All that a retag through a node of allocation n is refused for. The child's own reads are never refused: those through its parent are tested.
@@ -203,7 +226,15 @@ fn retag_refusal(
 // ---- the child
 
 // The reads made, all in one visit.
-fn apply_reads(allocs: &[u64], parents: &[u16], codes: &mut [u8], inside: &[u8], n: usize, node: usize, from: usize)
+fn apply_reads(
+    allocs: &[u64],
+    parents: &[u16],
+    codes: &mut [u8],
+    inside: &[u8],
+    n: usize,
+    node: usize,
+    from: usize,
+)
     requires { ⌜ ((m : Memory) × (HoldsTrees m (now allocs) (now parents) (now codes) × Reached m n node from (length (now inside)))) ⌝ }
     ensures { λ _. ⌜ ((m : Memory) → HoldsTrees m (now (allocs .entry)) (now (parents .entry)) (now (codes .entry)) → Reached m n node from (length (now (inside .entry)))
         → now (codes .exit) ≡ held 32768 codesOf (mutateAt n (afterVisit (readsVisit node from (map permission (now (inside .entry))))) m)) ⌝ }
@@ -213,7 +244,14 @@ fn apply_reads(allocs: &[u64], parents: &[u16], codes: &mut [u8], inside: &[u8],
     let behind = t.behind;
     let start = t.start;
     let end = t.end;
-    tree::apply_reads(&parents[first..behind], &mut codes[start..end], inside, t.width, node, from);
+    tree::apply_reads(
+        &parents[first..behind],
+        &mut codes[start..end],
+        inside,
+        t.width,
+        node,
+        from,
+    );
 }
 
 // The child of a node of allocation n, of `bytes` bytes, before its reads.
@@ -241,7 +279,16 @@ fn insert_child(
     let number = protector_number(protected);
     let mut row = [0u8; 4096];
     child_row(&mut row, inside, outside, from);
-    tables::insert_node(allocs, parents, protectors, codes, n, node as u16, number, &row[..bytes]);
+    tables::insert_node(
+        allocs,
+        parents,
+        protectors,
+        codes,
+        n,
+        node as u16,
+        number,
+        &row[..bytes],
+    );
 }
 
 // The child with its reads made. Returns its number.
@@ -267,7 +314,18 @@ fn add_child(
     let child = a.nodes;
     let bytes = a.size;
     let from = place_in(a.address, p.addr, inside.len());
-    insert_child(allocs, parents, protectors, codes, inside, settings, n, node, from, bytes);
+    insert_child(
+        allocs,
+        parents,
+        protectors,
+        codes,
+        inside,
+        settings,
+        n,
+        node,
+        from,
+        bytes,
+    );
     apply_reads(allocs, parents, codes, inside, n, child, from);
     child
 }
@@ -302,11 +360,31 @@ fn reborrow_inside(
         Provenance::Of { allocation, node } => {
             let n = allocation as usize;
             let parent = node as usize;
-            let refused = retag_refusal(allocs, parents, codes, inside, settings, p, n, parent, entries);
+            let refused = retag_refusal(
+                allocs,
+                parents,
+                codes,
+                inside,
+                settings,
+                p,
+                n,
+                parent,
+                entries,
+            );
             if refused != 0 {
                 return Answer::Refused(refused);
             }
-            let child = add_child(allocs, parents, protectors, codes, inside, settings, p, n, parent);
+            let child = add_child(
+                allocs,
+                parents,
+                protectors,
+                codes,
+                inside,
+                settings,
+                p,
+                n,
+                parent,
+            );
             Answer::Pointer(Provenance::Of {
                 allocation,
                 node: child as u32,
@@ -338,7 +416,16 @@ pub fn reborrow(
     let pointer = settings.pointer;
     let protected = settings.protected;
     start_codes(&mut mask[..len], pointer, protected);
-    reborrow_inside(allocs, parents, protectors, codes, &mask[..len], settings, p, entries)
+    reborrow_inside(
+        allocs,
+        parents,
+        protectors,
+        codes,
+        &mask[..len],
+        settings,
+        p,
+        entries,
+    )
 }
 
 // A retag of a kind that adds no node: the same pointer, but for 4.

@@ -1,13 +1,13 @@
 -- A table of rows and the nodes that it holds: row n of the table is node n's, and the table with another row n holds the nodes with another node n.
 use Prim.Native.Nat.{ℕ, zero, suc, _+_, _*_, _≤_, _<_}
-use mathlib.Core.Path.{_≡_, refl, sym, ap, ap₂, subst, _∙_}
+use mathlib.Core.Path.{_≡_, sym, ap, ap₂, _∙_}
 use mathlib.Core.List.{List, [], _∷_, _++_, map, append-assoc}
 use native.Mathlib.Nat.{suc-mul, zero-mul, add-comm}
 use native.Mathlib.Omega.{arith}
-use lib.ListN.{length, getD, take, drop, length-append, length-map}
+use lib.ListN.{length, take, drop, length-append, length-map}
 use lib.Seq.{take-at, drop-at, take-append-add, drop-append-add}
 use Rattle.definition.specs.Notation.{mutateAt}
-use Rattle.definition.specs.Permission.{Permission, code}
+use Rattle.definition.specs.Permission.{code}
 use Rattle.definition.specs.Tree.{Node, nodeAt}
 use Rattle.definition.specs.Valid.{All}
 use Rattle.tree.specs.Table.{rowsOf, mark, marks, HoldsRows, Holds, HoldsMarks, HoldsAll}

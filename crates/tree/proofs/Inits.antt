@@ -1,8 +1,8 @@
 -- A retag's reads byte by byte: what is left of them from the k-th byte on.
-use Prim.Native.Nat.{ℕ, zero, suc, _+_, _≤_, _<_}
-use mathlib.Core.Path.{_≡_, refl, sym, ap, ap₂, _∙_}
+use Prim.Native.Nat.{ℕ, _+_, _≤_, _<_}
+use mathlib.Core.Path.{_≡_, sym, ap, ap₂, _∙_}
 use mathlib.Core.Option.{Option, none, some}
-use mathlib.Core.List.{List, [], _∷_, map}
+use mathlib.Core.List.{List, map}
 use native.Mathlib.Nat.{add-zero}
 use native.Mathlib.Numerals.{add-one}
 use native.Mathlib.Decide.{decLt}
@@ -13,10 +13,9 @@ use Rattle.definition.specs.Notation.{_or_}
 use Rattle.definition.specs.Permission.{AccessKind, permissions, permission, initAccess}
 use Rattle.definition.specs.Permission.Permission.{Unprot}
 use Rattle.definition.specs.Permission.PermissionUnprot.{Cell}
-use Rattle.definition.specs.Tree.{Node, visitRefusal}
+use Rattle.definition.specs.Tree.{Node, visitRefusal, accessVisit}
 use Rattle.definition.proofs.Retags.{byteRefusal, readsRefusal, reads-step}
 use Rattle.permission.specs.Codes.{initAccessCode}
-use Rattle.tree.specs.Requests.{bytesVisit}
 use Rattle.tree.proofs.Rows.{or-positive}
 
 -- a number that is no code is read as Cell, which has no access either
@@ -44,10 +43,10 @@ module _ (node from : ℕ) (inside : List ℕ) (nodes : List Node) where
     pub reads-skipped : x ≡ none → readsLeft (k + 1) ≡ readsLeft k
     reads-skipped n = sym (step ∙ rw n)
 
-    pub reads-passed : (a : AccessKind) (r : ℕ) → x ≡ some a → r ≡ visitRefusal (bytesVisit a node (from + k) 1) nodes → r ≡ 0 → readsLeft (k + 1) ≡ readsLeft k
+    pub reads-passed : (a : AccessKind) (r : ℕ) → x ≡ some a → r ≡ visitRefusal (accessVisit a node (from + k) 1) nodes → r ≡ 0 → readsLeft (k + 1) ≡ readsLeft k
     reads-passed a r s q z = sym (step ∙ rw (s, sym q ∙ z))
 
-    pub reads-refused : (a : AccessKind) (r : ℕ) → x ≡ some a → r ≡ visitRefusal (bytesVisit a node (from + k) 1) nodes → (r ≡ 0 → ⊥) → r ≡ readsLeft k
+    pub reads-refused : (a : AccessKind) (r : ℕ) → x ≡ some a → r ≡ visitRefusal (accessVisit a node (from + k) 1) nodes → (r ≡ 0 → ⊥) → r ≡ readsLeft k
     reads-refused a r s q z = sym (step ∙ rw (s, sym q) (or-positive r (readsLeft (k + 1)) (omega arith)))
 
   pub reads-end : (k : ℕ) → length inside ≤ k → readsLeft k ≡ 0

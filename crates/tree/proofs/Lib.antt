@@ -9,3 +9,4 @@ pub mod Inits
 pub mod Visits
 pub mod Releases
 pub mod Strong
+pub mod Counted

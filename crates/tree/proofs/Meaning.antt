@@ -1,30 +1,29 @@
 -- A visit over the tables is the definition's visit of the nodes that they hold: `means-refusal`, `means-after`.
 -- The rows agree byte by byte; the table changes row by row, and each visited node is changed once.
-use Prim.Native.Nat.{ℕ, zero, suc, _+_, _≤_, _<_}
+use Prim.Native.Nat.{ℕ, zero, suc, _+_, _<_}
 use mathlib.Core.Path.{_≡_, refl, sym, ap, ap₂, subst, _∙_}
 use mathlib.Core.Bool.{Bool, true, false}
-use mathlib.Core.Option.{Option, none, some}
+use mathlib.Core.Option.{Option}
 use mathlib.Core.List.{List, [], _∷_, _++_, map}
 use native.Mathlib.Decide.{ℕ-discrete}
 use native.Mathlib.Omega.{arith}
-use lib.ListN.{length, getD, take, drop, length-map}
+use lib.ListN.{length, take, drop, length-map}
 use lib.Seq.{ext-getD}
-use Rattle.definition.specs.Notation.{if_then_else_, _or_, firstRefusal, mapFrom, mutateAt, sumOf}
-use Rattle.definition.specs.Permission.{AccessKind, NodeRelation, Permission, refusalBy, nextBy, code}
-use Rattle.definition.specs.Tree as definition
+use Rattle.definition.specs.Notation.{if_then_else_, _or_, firstRefusal, mutateAt, sumOf}
+use Rattle.definition.specs.Permission.{AccessKind, NodeRelation, Permission, nextBy, code}
 use Rattle.definition.specs.Tree.{Node, noNode, nodeAt, parents, relation, isSpared, visitingOrder, Visit, visitRefusal, visited}
 use Rattle.definition.specs.Valid.{All}
-use Rattle.definition.proofs.Lists.{each-length, mutate-length, mutate-kept, mutate-map}
+use Rattle.definition.proofs.Lists.{each-length, mutate-length, mutate-kept}
 use Rattle.definition.proofs.Places.{each-at, mutate-here}
 use Rattle.definition.proofs.Counts.{count, count-here, count-other}
 use Rattle.definition.proofs.Trees.{Parents}
 use Rattle.definition.proofs.Order.{visits-only-nodes, visits-others}
 use Rattle.definition.proofs.Ranges.{accessesRefusal, accessesAfter, Places, places-refusal, places-after}
-use Rattle.permission.specs.Codes.{refusalCode, nextCode}
+use Rattle.definition.specs.Tree as definition
 use Rattle.permission.proofs.Codes.{refusal-code, next-code}
 use Rattle.tree.specs.declared.Reach.{Reach}
-use Rattle.tree.specs.Table.{rowsOf, HoldsRows, Holds}
-use Rattle.tree.specs.Walk.{planned, codesRefusal, codesAfter, rowRefusal, rowAfter, nodeRefusal, nodeAfter, subtree, walkRefusal, walkAfter, rowAt, withRowAt}
+use Rattle.tree.specs.Table.{rowsOf, Holds}
+use Rattle.tree.specs.Walk.{planned, codesRefusal, codesAfter, rowRefusal, rowAfter, nodeRefusal, nodeAfter, subtree, walkRefusal, walkAfter, withRowAt}
 use Rattle.tree.proofs.Held.{Wide, row-held, row-changed, wide-changed}
 
 -- ---- lists

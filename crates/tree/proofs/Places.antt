@@ -28,20 +28,20 @@ pub put-back : (f : List ℕ → List ℕ) (w n : ℕ) (codes row : List ℕ) �
 put-back f w n codes row e =
     ap₂ (λ (r : List ℕ) (k : ℕ). take (n * w) codes ++ (r ++ drop k (drop (n * w) codes))) (e ∙ ap f (part-row w n codes)) (width-of (n * w) w)
 
+pub row-length : (w n : ℕ) (codes : List ℕ) → n * w + w ≤ length codes → length (rowAt w n codes) ≡ w
+row-length w n codes fits = length-take-le w (drop (n * w) codes) (omega (arith, length-drop (n * w) codes))
+
 -- row n copied to the front of a lent row
 module _ (w n : ℕ) (codes lent out : List ℕ) (fits : n * w + w ≤ length codes) where
-  row-length : length (rowAt w n codes) ≡ w
-  row-length = length-take-le w (drop (n * w) codes) (omega (arith, length-drop (n * w) codes))
-
   pub copied-row : out ≡ take (n * w + w - n * w) (drop (n * w) codes) ++ drop (length (take (n * w + w - n * w) (drop (n * w) codes))) lent
       → out ≡ rowAt w n codes ++ drop w lent
   copied-row e =
       e
       ∙ ap (λ (row : List ℕ). row ++ drop (length row) lent) (part-row w n codes)
-      ∙ ap (λ (k : ℕ). rowAt w n codes ++ drop k lent) row-length
+      ∙ ap (λ (k : ℕ). rowAt w n codes ++ drop k lent) (row-length w n codes fits)
 
   pub lent-row : out ≡ rowAt w n codes ++ drop w lent → take w out ≡ rowAt w n codes
-  lent-row e = ap (take w) e ∙ take-at (rowAt w n codes) (drop w lent) w row-length
+  lent-row e = ap (take w) e ∙ take-at (rowAt w n codes) (drop w lent) w (row-length w n codes fits)
 
 -- a table of the same length is as ready
 pub ready-again : (v : Reach) (ps codes codes′ : List ℕ) → length codes′ ≡ length codes → Ready v ps codes → Ready v ps codes′

@@ -1,10 +1,9 @@
 -- The release of a protected node, over the tables: 16's test, the node's row unprotected, the marks, and that the visit does not read the released node.
-use Prim.Native.Nat.{ℕ, zero, suc, _+_, _≤_, _<_}
+use Prim.Native.Nat.{ℕ, zero, suc, _<_}
 use mathlib.Core.Path.{_≡_, refl, sym, ap, ap₂, subst, _∙_}
-use mathlib.Core.Bool.{Bool, true, false, not, _||_, false≢true}
-use mathlib.Core.Option.{Option, none, some}
+use mathlib.Core.Bool.{Bool, true, false, not, false≢true}
+use mathlib.Core.Option.{Option, some}
 use mathlib.Core.List.{List, [], _∷_, map}
-use native.Mathlib.Decide.{ℕ-discrete}
 use native.Mathlib.Omega.{arith}
 use lib.ListN.{length, getD, set, length-map, List·getD-map}
 use Rattle.definition.specs.Notation.{if_then_else_, _when_, _or_, firstRefusal, mutateAt, any, filter}
@@ -16,14 +15,14 @@ use Rattle.definition.specs.Memory.{Liveness}
 use Rattle.definition.specs.Memory.Liveness.{Live, Dead}
 use Rattle.definition.specs.Frame.{lacksProtector, unprotectNode, releaseVisit, releaseVisitRefusal, releasedNodes}
 use Rattle.definition.proofs.Booleans.{when-none, or-left}
-use Rattle.definition.proofs.Lists.{mutate-length, mutate-kept, mutate-map, each-map}
+use Rattle.definition.proofs.Lists.{mutate-kept, mutate-map, each-map}
 use Rattle.definition.proofs.Trees.{above-itself}
 use Rattle.permission.specs.Codes.{isProtectedCode, unprotectedCode}
 use Rattle.permission.proofs.Codes.{is-protected-code, unprotected-code}
-use Rattle.tree.specs.Table.{rowsOf, mark, marks, HoldsRows, Holds, HoldsMarks, HoldsAll}
+use Rattle.tree.specs.Table.{rowsOf, mark, marks, HoldsRows, Holds, HoldsMarks}
 use Rattle.tree.specs.Walk.{rowAt, withRowAt}
-use Rattle.tree.specs.Requests.{unlessRefused, releaseRefusal, Released}
-use Rattle.tree.proofs.Held.{rows-length, row-held, row-changed, wide-changed}
+use Rattle.tree.specs.Requests.{releaseRefusal, Released}
+use Rattle.tree.proofs.Held.{row-held, row-changed, wide-changed}
 use Rattle.tree.proofs.Visits.{accepted-nodes, refused-nodes}
 
 -- ---- the row of node n, in a table that holds it

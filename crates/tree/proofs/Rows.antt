@@ -2,22 +2,21 @@
 use Prim.Native.Nat.{ℕ, zero, suc, _+_, _-_, _≤_, _<_}
 use mathlib.Core.Path.{_≡_, refl, sym, ap, ap₂, _∙_}
 use mathlib.Core.Option.{Option, none, some}
-use mathlib.Core.List.{List, [], _∷_, _++_, map}
+use mathlib.Core.List.{List, [], _∷_, _++_}
 use native.Mathlib.Numerals.{add-one}
-use native.Mathlib.Nat.{add-zero, min-le-left}
+use native.Mathlib.Nat.{add-zero, zero-add, min-le-left}
 use native.Mathlib.Omega.{arith}
-use lib.ListN.{length, getD, take, drop, set, replicate, getD-replicate, length-replicate, length-map, length-take, length-append, length-drop, take-append-drop, List·getD-map, drop-of-length-le}
+use lib.ListN.{length, getD, take, drop, set, getD-replicate, length-replicate, length-map, length-take, length-append, length-drop, take-append-drop, List·getD-map, drop-of-length-le}
 use lib.Seq.{getD-take, getD-drop, drop-drop, length-take-le, getD-append-add, take-at, drop-at, set-getD}
-use Rattle.definition.specs.Notation.{_or_}
-use Rattle.definition.specs.Permission.{AccessKind, NodeRelation}
+use Rattle.definition.specs.Notation.{_or_, tableFrom, table}
+use Rattle.definition.specs.Permission.{AccessKind, NodeRelation, refusalBy}
 use Rattle.definition.proofs.Lists.{loop-get, loop-set}
-use Rattle.permission.specs.declared.Outcome.{Outcome}
+use Rattle.permission.proofs.Codes.{at-past}
 use Rattle.permission.specs.declared.Outcome.the-variants.{Becomes, Refused}
 use Rattle.permission.specs.Codes.{accessKind, refusalCode, nextCode, endAccessCode, initAccessCode}
 use Rattle.tree.specs.declared.Accesses.{Accesses}
 use Rattle.tree.specs.declared.Accesses.the-variants.{Each, AtEnd, AtInit}
-use Rattle.tree.specs.declared.Reach.{Reach}
-use Rattle.tree.specs.Walk.{accessAt, accessesAt, planned, stepped, codesRefusal, codesAfter, rowRefusal, rowAfter}
+use Rattle.tree.specs.Walk.{accessAt, accessesAt, stepped, codesRefusal, codesAfter}
 use Rattle.tree.proofs.Steps.{no-refusal, no-change, step-passes, step-refused, step-next, step-stays, step-positive}
 
 pub or-positive : (n y : ℕ) → 0 < n → (n or y) ≡ n
@@ -90,13 +89,21 @@ module _ (what : Accesses) (n from : ℕ) (starts : List ℕ) (r : NodeRelation)
         codes-step r plan (drop from row) k (omega (arith, length-drop from row))
         ∙ rw (planned-at what n starts k l, getD-drop from row k 0)
 
+    -- a byte's refusal, 0 for none
+    module _ (k d : ℕ) (l : k < n) (e : d ≡ refusalCode (accessAt what starts k) r (getD row (from + k) 0)) where
+      pub check-next : d ≡ 0 → refusalLeft (k + 1) row ≡ refusalLeft k row
+      check-next z = sym (check-step k l ∙ rw (sym e ∙ z, add-one k))
+
+      pub check-here : 0 < d → d ≡ refusalLeft k row
+      check-here p = sym (check-step k l ∙ rw (sym e) (or-positive d (refusalLeft (suc k) row) p))
+
     module _ (k d : ℕ) (l : k < n) where
       pub check-passes : stepped (accessAt what starts k) r (getD row (from + k) 0) ≡ Becomes d → refusalLeft (k + 1) row ≡ refusalLeft k row
-      check-passes e = sym (check-step k l ∙ rw (step-passes r (getD row (from + k) 0) d (accessAt what starts k) e, add-one k))
+      check-passes e = check-next k 0 l (sym (step-passes r (getD row (from + k) 0) d (accessAt what starts k) e)) refl
 
       pub check-refused : stepped (accessAt what starts k) r (getD row (from + k) 0) ≡ Refused d → d ≡ refusalLeft k row
       check-refused e =
-          sym (check-step k l ∙ rw (step-refused r (getD row (from + k) 0) d (accessAt what starts k) e) (or-positive d _ (step-positive r (getD row (from + k) 0) d (accessAt what starts k) e)))
+          check-here k d l (sym (step-refused r (getD row (from + k) 0) d (accessAt what starts k) e)) (step-positive r (getD row (from + k) 0) d (accessAt what starts k) e)
 
   pub check-done : (row : List ℕ) → refusalLeft n row ≡ 0
   check-done row = rw (drop-of-length-le plan {i = n} (planned-length what n starts)) (nothing-refused r (drop n (drop from row)))
@@ -161,3 +168,18 @@ module _ (what : Accesses) (n from : ℕ) (starts : List ℕ) (r : NodeRelation)
       pub turn-refused : (d : ℕ) → stepped (accessAt what starts k) r (getD now (from + k) 0) ≡ Refused d → after ≡ now → after ≡ changedTo (k + 1) row
       turn-refused d t s =
           turn (s ∙ sym (ap (set now (from + k)) (step-stays r (getD now (from + k) 0) d (accessAt what starts k) t) ∙ set-getD now (from + k) 0))
+
+-- ---- a look-up of a code's refusal
+table-from-at : {A : Type 0} (f : ℕ → A) (d : A) (n b i : ℕ) → i < n → getD (tableFrom b n f) i d ≡ f (b + i)
+unfolding tableFrom
+table-from-at f d zero b i l = absurd (omega arith)
+table-from-at f d (suc n) b zero l = ap f (sym (add-zero b))
+table-from-at f d (suc n) b (suc i) l = let next : suc b + i ≡ b + suc i = omega arith in table-from-at f d n (suc b) i (omega arith) ∙ ap f next
+
+pub looked-up : (x : Option AccessKind) (r : NodeRelation) (refusals : List ℕ) (c : ℕ) → refusals ≡ table 16 (refusalCode x r) → c < 16 → getD refusals c 0 ≡ refusalCode x r c
+looked-up x r refusals c e l = ap (λ (t : List ℕ). getD t c 0) e ∙ table-from-at (refusalCode x r) 0 16 0 c l ∙ ap (refusalCode x r) (zero-add c)
+
+-- a number that is no code is not refused
+pub past-refusal : (x : Option AccessKind) (r : NodeRelation) (c : ℕ) → 15 ≤ c → 0 ≡ refusalCode x r c
+unfolding refusalCode
+past-refusal x r c h = at-past (refusalBy x r) 0 c h

@@ -1,16 +1,15 @@
 -- What a step says of the refusal and of the next code, whether or not there is an access.
 use Prim.Native.Nat.{ℕ, _<_}
-use mathlib.Core.Path.{_≡_, refl, sym, ap, _∙_}
+use mathlib.Core.Path.{_≡_, refl, _∙_}
 use mathlib.Core.Bool.{Bool, true, false}
 use mathlib.Core.Option.{Option, none, some}
 use native.Mathlib.Decide.{decLt}
 use native.Mathlib.Omega.{arith}
-use lib.Dec.{ltb}
 use borrow.Author.Tests.{lt-ltb, le-ltb}
+use lib.Dec.{ltb}
 use Rattle.definition.specs.Notation.{if_then_else_}
 use Rattle.definition.specs.Permission.{AccessKind, NodeRelation}
 use Rattle.definition.proofs.Permissions.{code-permission}
-use Rattle.permission.specs.declared.Outcome.{Outcome}
 use Rattle.permission.specs.declared.Outcome.the-variants.{Becomes, Refused}
 use Rattle.permission.specs.Codes.{refusalCode, nextCode}
 use Rattle.permission.proofs.Codes.{becomes-refusal, refused-refusal, becomes-next, refused-next, refused-positive}

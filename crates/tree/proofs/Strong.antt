@@ -1,27 +1,26 @@
 -- 24's test, over the tables: a row as the write leaves it, and a node that prevents deallocation then.
-use Prim.Native.Nat.{ℕ, zero, suc, _+_, _-_, _*_, _≤_, _<_}
-use mathlib.Core.Path.{_≡_, refl, sym, ap, ap₂, subst, _∙_}
+use Prim.Native.Nat.{ℕ, _+_, _-_, _*_, _<_}
+use mathlib.Core.Path.{_≡_, refl, sym, ap, ap₂, _∙_}
 use mathlib.Core.Bool.{Bool, true, false, _&&_}
-use mathlib.Core.Option.{Option, none, some}
+use mathlib.Core.Option.{none, some}
 use mathlib.Core.List.{List, [], _∷_, _++_, map, append-nil}
 use native.Mathlib.Omega.{arith}
-use borrow.Author.Tests.{eq-eqb, ne-eqb}
-use lib.ListN.{length, getD, take, drop, length-map, drop-of-length-le}
+use lib.ListN.{length, getD, take, drop, drop-of-length-le}
 use lib.Seq.{take-all}
 use Rattle.definition.specs.Notation.{if_then_else_, _when_, _or_, any}
 use Rattle.definition.specs.Refusal.{strongProtector}
 use Rattle.definition.specs.Permission.{Permission, NodeRelation, Protected, isStrong, preventsDeallocation, next, code}
 use Rattle.definition.specs.Permission.AccessKind.{Write}
 use Rattle.definition.specs.Permission.Protected.{No, Weak, Strong}
-use Rattle.definition.specs.Tree.{Node, noNode, nodeAt, parents, relation, rowAfter, nodeAfter, Visit, visitRefusal, visited}
+use Rattle.definition.specs.Tree.{Node, noNode, nodeAt, parents, relation, rowAfter, nodeAfter, Visit, visitRefusal, visited, accessVisit}
 use Rattle.definition.specs.Memory.{nodePreventsDeallocation}
 use Rattle.definition.proofs.Places.{each-at}
 use Rattle.definition.proofs.Ranges.{accessIn, range-after}
 use Rattle.permission.specs.Codes.{nextCode, preventsCode}
 use Rattle.permission.proofs.Codes.{next-code, prevents-code}
-use Rattle.tree.specs.Table.{rowsOf, mark, marks, HoldsRows, Holds, HoldsMarks, HoldsAll}
+use Rattle.tree.specs.Table.{rowsOf, mark, HoldsAll}
 use Rattle.tree.specs.Walk.{rowAt}
-use Rattle.tree.specs.Requests.{unlessRefused, bytesVisit, deallocateRefusal, Deallocated}
+use Rattle.tree.specs.Requests.{deallocateRefusal, Deallocated}
 use Rattle.tree.proofs.Rows.{or-positive}
 use Rattle.tree.proofs.Held.{wide-at}
 use Rattle.tree.proofs.Places.{part-row}
@@ -59,11 +58,11 @@ not-strong Strong h = absurd (h refl)
 -- ---- a node
 module _ (nodes : List Node) (width : ℕ) (ps protectors codes : List ℕ) (held : HoldsAll nodes width ps protectors codes) (node n : ℕ) (l : n < length nodes) where
   abbrev after : List Node
-  after = visited (bytesVisit Write node 0 width) nodes
+  after = visited (accessVisit Write node 0 width) nodes
 
-  after-at : nodeAt after n ≡ nodeAfter (bytesVisit Write node 0 width) (parents nodes) n (nodeAt nodes n)
+  after-at : nodeAt after n ≡ nodeAfter (accessVisit Write node 0 width) (parents nodes) n (nodeAt nodes n)
   unfolding visited
-  after-at = each-at (nodeAfter (bytesVisit Write node 0 width) (parents nodes)) noNode noNode nodes n l
+  after-at = each-at (nodeAfter (accessVisit Write node 0 width) (parents nodes)) noNode noNode nodes n l
 
   mark-of : getD protectors n 0 ≡ mark (nodeAt nodes n .protected)
   mark-of = ap (λ (m : List ℕ). getD m n 0) (held .marked) ∙ mark-at nodes n
@@ -91,7 +90,7 @@ module _ (nodes : List Node) (width : ℕ) (ps protectors codes : List ℕ) (hel
 -- ---- the answer: the write is refused, or a strong protector prevents, or neither
 module _ (nodes : List Node) (node width answer : ℕ) (codes : List ℕ) where
   abbrev write : Visit
-  write = bytesVisit Write node 0 width
+  write = accessVisit Write node 0 width
 
   refused : answer ≡ deallocateRefusal node width nodes → (answer ≡ 0 → ⊥) → codes ≡ rowsOf nodes → Deallocated node width nodes answer codes
   refused e z t =

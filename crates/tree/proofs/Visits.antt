@@ -1,29 +1,27 @@
 -- The visits that the requests make, as the definition's.
 use Prim.Native.Nat.{ℕ, _+_, _-_, _*_, _≤_, _<_}
 use mathlib.Core.Path.{_≡_, refl, sym, ap, ap₂, subst, _∙_}
-use mathlib.Core.Option.{Option, none, some}
-use mathlib.Core.List.{List, [], _∷_, _++_, map}
+use mathlib.Core.Option.{Option}
+use mathlib.Core.List.{List, [], _∷_, map}
 use native.Mathlib.Nat.{le-refl}
-use native.Mathlib.Omega.{arith}
 use borrow.Author.Tests.{eq-eqb, ne-eqb}
 use lib.ListN.{length, take, length-map}
 use lib.Seq.{take-length}
 use Rattle.definition.specs.Permission.{AccessKind, Permission, endAccess, initAccess, code, permission}
-use Rattle.definition.specs.Tree.{Node, nodeAt, Visit, visitRefusal, visited}
+use Rattle.definition.specs.Tree.{Node, nodeAt, Visit, visitRefusal, visited, accessVisit}
 use Rattle.definition.specs.Frame.{releaseVisit}
 use Rattle.definition.proofs.Trees.{Parents}
 use Rattle.definition.proofs.Order.{walk-none, walk-some}
 use Rattle.definition.proofs.Ranges.{Places, range-places, list-places, release-places}
 use Rattle.definition.proofs.Retags.{readsVisit}
-use Rattle.permission.specs.declared.AccessKind as declared
-use Rattle.permission.specs.Codes.{accessKind, byCode, endAccessCode, initAccessCode}
+use Rattle.permission.specs.Codes.{accessKind, endAccessCode, initAccessCode}
 use Rattle.permission.proofs.Codes.{end-access-code}
-use Rattle.tree.specs.declared.Accesses.{Accesses}
+use Rattle.permission.specs.declared.AccessKind as declared
 use Rattle.tree.specs.declared.Accesses.the-variants.{Each, AtEnd, AtInit}
 use Rattle.tree.specs.declared.Reach.{Reach}
-use Rattle.tree.specs.Table.{rowsOf, HoldsRows, Holds}
-use Rattle.tree.specs.Walk.{Ready, planned}
-use Rattle.tree.specs.Requests.{unlessRefused, bytesVisit, Visited}
+use Rattle.tree.specs.Table.{rowsOf, Holds}
+use Rattle.tree.specs.Walk.{Ready}
+use Rattle.tree.specs.Requests.{unlessRefused, Visited}
 use Rattle.tree.proofs.Held.{rows-length}
 use Rattle.tree.proofs.Meaning.{Means}
 use Rattle.tree.proofs.Inits.{init-access-permission}
@@ -52,7 +50,7 @@ same-ends (p ∷ row) = ap₂ _∷_ (end-access-code p) (same-ends row)
 module _ (ps : List ℕ) (root : 0 < length ps) (width : ℕ) where
   -- an access of one kind
   pub means-bytes : (kind : declared.AccessKind) (node from len : ℕ) (starts : List ℕ)
-      → Means (record { node = node; spared = length ps; width = width; from = from; len = len; what = Each kind }) starts ps (bytesVisit (accessKind kind) node from len)
+      → Means (record { node = node; spared = length ps; width = width; from = from; len = len; what = Each kind }) starts ps (accessVisit (accessKind kind) node from len)
   means-bytes kind node from len starts =
       record { accessed = refl; places = range-places (accessKind kind) from len; order = walk-none ps (length ps) (le-refl (length ps)) root }
 

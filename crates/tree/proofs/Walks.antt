@@ -1,6 +1,6 @@
 -- A visit of the descendants of n among the nodes from m on, at node m: what is left of it from m on is m with its own descendants, if it is a child
 -- of n and not spared, and what is left from m + 1 on.
-use Prim.Native.Nat.{ℕ, zero, suc, _+_, _≤_, _<_}
+use Prim.Native.Nat.{ℕ, suc, _+_, _≤_, _<_}
 use mathlib.Core.Path.{_≡_, refl, sym, ap, _∙_}
 use mathlib.Core.List.{List, [], _∷_, _++_}
 use native.Mathlib.Numerals.{add-one}

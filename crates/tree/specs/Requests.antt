@@ -1,14 +1,12 @@
 -- What a request's visits do, said of each list of nodes that the tables hold.
 use Prim.Native.Nat.{ℕ}
 use mathlib.Core.Path.{_≡_}
-use mathlib.Core.Option.{Option, none, some}
 use mathlib.Core.List.{List}
 use lib.Dec.{eqb}
-use Rattle.definition.specs.Notation.{if_then_else_, _when_, _or_, any, inRange}
+use Rattle.definition.specs.Notation.{if_then_else_, _when_, _or_, any}
 use Rattle.definition.specs.Refusal.{notProtected, strongProtector}
-use Rattle.definition.specs.Permission.{AccessKind}
 use Rattle.definition.specs.Permission.AccessKind.{Write}
-use Rattle.definition.specs.Tree.{Node, nodeAt, Visit, visitRefusal, visited}
+use Rattle.definition.specs.Tree.{Node, nodeAt, Visit, accessVisit, visitRefusal, visited}
 use Rattle.definition.specs.Memory.{Liveness, nodePreventsDeallocation}
 use Rattle.definition.specs.Frame.{lacksProtector, releaseVisitRefusal, releasedNodes}
 use Rattle.tree.specs.Table.{rowsOf, marks}
@@ -18,11 +16,6 @@ abbrev pub unlessRefused : ℕ → List Node → List Node → List Node
 unlessRefused refused before after = if eqb refused 0 then after else before
 
 -- ---- load, store
--- an access of one kind to `len` bytes from `from` on, through a node
-abbrev pub bytesVisit : AccessKind → ℕ → ℕ → ℕ → Visit
-bytesVisit kind node from len =
-    record { accessed = node; accessAt = λ b. if inRange from len b then some kind else none; spared = none }
-
 -- the answer is the visit's refusal, and the table is as the visit leaves it
 pub record Visited (v : Visit) (nodes : List Node) (answer : ℕ) (codes : List ℕ) : Type 0 where
   pub refusal : answer ≡ visitRefusal v nodes
@@ -31,12 +24,12 @@ pub record Visited (v : Visit) (nodes : List Node) (answer : ℕ) (codes : List 
 -- ---- deallocate: the write to all bytes, and 24 on what it leaves
 unfoldable pub deallocateRefusal : ℕ → ℕ → List Node → ℕ
 deallocateRefusal node width nodes =
-    let write = bytesVisit Write node 0 width in
+    let write = accessVisit Write node 0 width in
     visitRefusal write nodes or strongProtector when any nodePreventsDeallocation (visited write nodes)
 
 pub record Deallocated (node width : ℕ) (nodes : List Node) (answer : ℕ) (codes : List ℕ) : Type 0 where
   pub refusal : answer ≡ deallocateRefusal node width nodes
-  pub table : codes ≡ rowsOf (unlessRefused (deallocateRefusal node width nodes) nodes (visited (bytesVisit Write node 0 width) nodes))
+  pub table : codes ≡ rowsOf (unlessRefused (deallocateRefusal node width nodes) nodes (visited (accessVisit Write node 0 width) nodes))
 
 -- ---- the release of one node: 16, and then what the accesses of its protector's end meet
 unfoldable pub releaseRefusal : Liveness → ℕ → List Node → ℕ

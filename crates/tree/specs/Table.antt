@@ -16,7 +16,7 @@ unfoldable pub rowsOf : List Node → List ℕ
 rowsOf [] = []
 rowsOf (x ∷ nodes) = map code (x .permissions) ++ rowsOf nodes
 
--- a mark: "0 no, 1 weak, 2 strong"
+-- a protector as a mark
 abbrev pub mark : Protected → ℕ
 mark No = 0
 mark Weak = 1
@@ -48,7 +48,7 @@ pub record HoldsAll (nodes : List Node) (width : ℕ) (ps protectors codes : Lis
   pub marked : protectors ≡ marks nodes
   pub rootFree : isYes (nodeAt nodes 0 .protected) ≡ false
 
--- the tables hold some nodes; and what is said of each list of nodes that they hold (there is but one)
+-- the tables hold some nodes; and what is said of all nodes that they hold
 abbrev pub Some : (List Node → Type 0) → Type 0
 Some Held = (nodes : List Node) × Held nodes
 

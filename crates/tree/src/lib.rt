@@ -10,12 +10,12 @@ ghost use mathlib.Core.Bool.{not};
 ghost use mathlib.Core.Option.{some};
 ghost use mathlib.Core.List.{_++_, map};
 ghost use Prim.Native.Nat.{_+_, _*_, _≤_, _<_};
-ghost use lib.ListN.{length, take, drop};
+ghost use lib.ListN.{length, take, drop, replicate};
 ghost use Rattle.definition.specs.Notation.{any};
 ghost use Rattle.definition.specs.Permission.{permission};
 ghost use Rattle.definition.specs.Permission.AccessKind.{Write};
 ghost use Rattle.definition.specs.Tree as definition;
-ghost use Rattle.definition.specs.Tree.{nodeAt, visitRefusal, visited};
+ghost use Rattle.definition.specs.Tree.{nodeAt, accessVisit, visitRefusal, visited};
 ghost use Rattle.definition.specs.Memory.{nodePreventsDeallocation};
 ghost use Rattle.definition.specs.Memory.Liveness.{Live, Dead};
 ghost use Rattle.definition.specs.Frame.{lacksProtector, releasedNodes};
@@ -23,12 +23,12 @@ ghost use Rattle.definition.proofs.Trees.{Parents};
 ghost use Rattle.definition.proofs.Retags.{readsRefusal, readsVisit};
 ghost use Rattle.permission.specs.Codes.{accessKind, nodeRelation, maybeAccess, nextCode, preventsCode, isProtectedCode, unprotectedCode};
 ghost use Rattle.tree.specs.Table.{rowsOf, Holds, HoldsMarks, HoldsAll, Some, Each};
-ghost use Rattle.tree.specs.Walk.{Ready, accessAt, stepped, rowRefusal, rowAfter, rowAt, nodeRefusal, nodeAfter, subtree, walkRefusal, walkAfter};
-ghost use Rattle.tree.specs.Requests.{bytesVisit, Visited, Deallocated, releaseRefusal, Released};
+ghost use Rattle.tree.specs.Walk.{Ready, accessAt, stepped, codesRefusal, rowRefusal, rowAfter, rowAt, nodeRefusal, nodeAfter, subtree, walkRefusal, walkAfter};
+ghost use Rattle.tree.specs.Requests.{Visited, Deallocated, releaseRefusal, Released};
 
 // The accesses of a visit: the same at each byte; or, by a lent row of codes, the one that the end of the byte's protector makes, or the
 // one by which a retag reads the byte.
-pub enum Accesses {
+enum Accesses {
     Each(AccessKind),
     AtEnd,
     AtInit,
@@ -36,19 +36,25 @@ pub enum Accesses {
 
 // The accessed node; the node that is spared with its descendants (a number that no node has spares none); the width of a row; the visited
 // bytes, `len` of them; and their accesses.
-pub struct Reach {
-    pub node: usize,
-    pub spared: usize,
-    pub width: usize,
-    pub from: usize,
-    pub len: usize,
-    pub what: Accesses,
+struct Reach {
+    node: usize,
+    spared: usize,
+    width: usize,
+    from: usize,
+    len: usize,
+    what: Accesses,
 }
 
 fn wide(x: u16) -> usize
     ensures { λ r. ⌜ r ≡ x ⌝ }
 {
     x as usize
+}
+
+fn index(code: u8) -> usize
+    ensures { λ r. ⌜ r ≡ code ⌝ }
+{
+    code as usize
 }
 
 // The access at the k-th visited byte.
@@ -100,8 +106,28 @@ fn relation(parents: &[u16], node: usize, accessed: usize) -> NodeRelation
     }
 }
 
-// The first refusal among the visited bytes of a row, or 0.
-fn check_row(row: &[u8], starts: &[u8], v: Reach, relation: NodeRelation) -> u8
+// The first refusal in a row, of the same access to `len` bytes from `from` on, or 0: looked up in the access's table.
+fn check_each(row: &[u8], from: usize, len: usize, kind: AccessKind, relation: NodeRelation) -> u8
+    requires { ⌜ from + len ≤ length (now row) ⌝ }
+    ensures { λ r. ⌜ r ≡ codesRefusal (nodeRelation relation) (replicate len (some (accessKind kind))) (drop from (now (row .entry))) ⌝ }
+{
+    let refusals = permission::refusals(kind, relation);
+    let mut k = 0;
+    while k < len {
+        let code = row[from + k];
+        if code < 16 {
+            let refused = refusals[index(code)];
+            if refused != 0 {
+                return refused;
+            }
+        }
+        k += 1;
+    }
+    0
+}
+
+// The same where each byte may have another access.
+fn check_bytes(row: &[u8], starts: &[u8], v: Reach, relation: NodeRelation) -> u8
     requires { ⌜ v .from + v .len ≤ length (now row) ⌝ }
     ensures { λ r. ⌜ r ≡ rowRefusal v (now (starts .entry)) (nodeRelation relation) (now (row .entry)) ⌝ }
 {
@@ -119,6 +145,19 @@ fn check_row(row: &[u8], starts: &[u8], v: Reach, relation: NodeRelation) -> u8
         k += 1;
     }
     0
+}
+
+// The first refusal among the visited bytes of a row, or 0.
+fn check_row(row: &[u8], starts: &[u8], v: Reach, relation: NodeRelation) -> u8
+    requires { ⌜ v .from + v .len ≤ length (now row) ⌝ }
+    ensures { λ r. ⌜ r ≡ rowRefusal v (now (starts .entry)) (nodeRelation relation) (now (row .entry)) ⌝ }
+{
+    let what = v.what;
+    match what {
+        Accesses::Each(kind) => check_each(row, v.from, v.len, kind, relation),
+        Accesses::AtEnd => check_bytes(row, starts, v, relation),
+        Accesses::AtInit => check_bytes(row, starts, v, relation),
+    }
 }
 
 // The visited bytes of a row, each as its access leaves it.
@@ -179,7 +218,7 @@ fn check_from(parents: &[u16], codes: &[u8], starts: &[u8], v: Reach, n: usize) 
     }
     let spared = v.spared;
     let mut m = n + 1;
-    while m < parents.len() {
+    while m < parents.len() { // a child is later than its parent
         if wide(parents[m]) == n {
             if m != spared {
                 let below = check_from(parents, codes, starts, v, m);
@@ -190,7 +229,7 @@ fn check_from(parents: &[u16], codes: &[u8], starts: &[u8], v: Reach, n: usize) 
         }
         m += 1;
     }
-    0
+    here
 }
 
 // Node n and its descendants, each row as the visit leaves it.
@@ -215,10 +254,18 @@ fn apply_from(parents: &[u16], codes: &mut [u8], starts: &[u8], v: Reach, n: usi
 // ---- load, store
 
 // The first refusal of an access to `len` bytes from `from` on, through a node, or 0.
-fn access_refusal(parents: &[u16], codes: &[u8], width: usize, node: usize, kind: AccessKind, from: usize, len: usize) -> u8
+fn access_refusal(
+    parents: &[u16],
+    codes: &[u8],
+    width: usize,
+    node: usize,
+    kind: AccessKind,
+    from: usize,
+    len: usize,
+) -> u8
     requires { ⌜ Some (λ nodes. Holds nodes width (now parents) (now codes)) ⌝ }
     requires { ⌜ (node < length (now parents)) × (from + len ≤ width) ⌝ }
-    ensures { λ r. ⌜ Each (λ nodes. Holds nodes width (now (parents .entry)) (now (codes .entry))) (λ nodes. r ≡ visitRefusal (bytesVisit (accessKind kind) node from len) nodes) ⌝ }
+    ensures { λ r. ⌜ Each (λ nodes. Holds nodes width (now (parents .entry)) (now (codes .entry))) (λ nodes. r ≡ visitRefusal (accessVisit (accessKind kind) node from len) nodes) ⌝ }
 {
     let v = Reach {
         node,
@@ -232,10 +279,18 @@ fn access_refusal(parents: &[u16], codes: &[u8], width: usize, node: usize, kind
 }
 
 // The access made.
-fn apply_access(parents: &[u16], codes: &mut [u8], width: usize, node: usize, kind: AccessKind, from: usize, len: usize)
+fn apply_access(
+    parents: &[u16],
+    codes: &mut [u8],
+    width: usize,
+    node: usize,
+    kind: AccessKind,
+    from: usize,
+    len: usize,
+)
     requires { ⌜ Some (λ nodes. Holds nodes width (now parents) (now codes)) ⌝ }
     requires { ⌜ (node < length (now parents)) × (from + len ≤ width) ⌝ }
-    ensures { λ _. ⌜ Each (λ nodes. Holds nodes width (now (parents .entry)) (now (codes .entry))) (λ nodes. now (codes .exit) ≡ rowsOf (visited (bytesVisit (accessKind kind) node from len) nodes)) ⌝ }
+    ensures { λ _. ⌜ Each (λ nodes. Holds nodes width (now (parents .entry)) (now (codes .entry))) (λ nodes. now (codes .exit) ≡ rowsOf (visited (accessVisit (accessKind kind) node from len) nodes)) ⌝ }
 {
     let unused = [0; 1];
     let v = Reach {
@@ -250,10 +305,18 @@ fn apply_access(parents: &[u16], codes: &mut [u8], width: usize, node: usize, ki
 }
 
 // A load's or a store's access: the first refusal in visiting order, with the table as it was; or 0, with every visited code as the access leaves it.
-pub fn access(parents: &[u16], codes: &mut [u8], width: usize, node: usize, kind: AccessKind, from: usize, len: usize) -> u8
+pub fn access(
+    parents: &[u16],
+    codes: &mut [u8],
+    width: usize,
+    node: usize,
+    kind: AccessKind,
+    from: usize,
+    len: usize,
+) -> u8
     requires { ⌜ Some (λ nodes. Holds nodes width (now parents) (now codes)) ⌝ }
     requires { ⌜ (node < length (now parents)) × (from + len ≤ width) ⌝ }
-    ensures { λ r. ⌜ Each (λ nodes. Holds nodes width (now (parents .entry)) (now (codes .entry))) (λ nodes. Visited (bytesVisit (accessKind kind) node from len) nodes r (now (codes .exit))) ⌝ }
+    ensures { λ r. ⌜ Each (λ nodes. Holds nodes width (now (parents .entry)) (now (codes .entry))) (λ nodes. Visited (accessVisit (accessKind kind) node from len) nodes r (now (codes .exit))) ⌝ }
 {
     let refused = access_refusal(parents, codes, width, node, kind, from, len);
     if refused == 0 {
@@ -267,7 +330,7 @@ pub fn access(parents: &[u16], codes: &mut [u8], width: usize, node: usize, kind
 fn code_prevents_after_write(code: u8, relation: NodeRelation) -> bool
     ensures { λ r. ⌜ r ≡ preventsCode (nextCode (some Write) (nodeRelation relation) code) ⌝ }
 {
-    match permission::transition(code, AccessKind::Write, relation) {
+    match step(code, MaybeAccess::Access(AccessKind::Write), relation) {
         Outcome::Becomes(c) => permission::prevents_deallocation(c),
         Outcome::Refused(_) => permission::prevents_deallocation(code),
     }
@@ -288,10 +351,16 @@ fn row_prevents_after_write(row: &[u8], relation: NodeRelation) -> bool
 }
 
 // A node under a strong protector prevents deallocation, on the codes as the write to all bytes through a node will leave them.
-fn strong_protector_after_write(parents: &[u16], protectors: &[u8], codes: &[u8], width: usize, node: usize) -> bool
+fn strong_protector_after_write(
+    parents: &[u16],
+    protectors: &[u8],
+    codes: &[u8],
+    width: usize,
+    node: usize,
+) -> bool
     requires { ⌜ Some (λ nodes. HoldsAll nodes width (now parents) (now protectors) (now codes)) ⌝ }
     requires { ⌜ node < length (now parents) ⌝ }
-    ensures { λ r. ⌜ Each (λ nodes. HoldsAll nodes width (now (parents .entry)) (now (protectors .entry)) (now (codes .entry))) (λ nodes. r ≡ any nodePreventsDeallocation (visited (bytesVisit Write node 0 width) nodes)) ⌝ }
+    ensures { λ r. ⌜ Each (λ nodes. HoldsAll nodes width (now (parents .entry)) (now (protectors .entry)) (now (codes .entry))) (λ nodes. r ≡ any nodePreventsDeallocation (visited (accessVisit Write node 0 width) nodes)) ⌝ }
 {
     let mut n = 0;
     while n < parents.len() {
@@ -309,7 +378,13 @@ fn strong_protector_after_write(parents: &[u16], protectors: &[u8], codes: &[u8]
 }
 
 // A deallocation's write to all bytes through a node, and 24: a refusal leaves the table as it was.
-pub fn deallocate(parents: &[u16], protectors: &[u8], codes: &mut [u8], width: usize, node: usize) -> u8
+pub fn deallocate(
+    parents: &[u16],
+    protectors: &[u8],
+    codes: &mut [u8],
+    width: usize,
+    node: usize,
+) -> u8
     requires { ⌜ Some (λ nodes. HoldsAll nodes width (now parents) (now protectors) (now codes)) ⌝ }
     requires { ⌜ node < length (now parents) ⌝ }
     ensures { λ r. ⌜ Each (λ nodes. HoldsAll nodes width (now (parents .entry)) (now (protectors .entry)) (now (codes .entry))) (λ nodes. Deallocated node width nodes r (now (codes .exit))) ⌝ }
@@ -329,7 +404,14 @@ pub fn deallocate(parents: &[u16], protectors: &[u8], codes: &mut [u8], width: u
 
 // A retag's reads through a node, of the bytes from `from` on whose start codes are `inside`, but for Cell: byte by byte over the whole tree,
 // each on the tree as it stands, the first refusal or 0.
-pub fn reads_refusal(parents: &[u16], codes: &[u8], inside: &[u8], width: usize, node: usize, from: usize) -> u8
+pub fn reads_refusal(
+    parents: &[u16],
+    codes: &[u8],
+    inside: &[u8],
+    width: usize,
+    node: usize,
+    from: usize,
+) -> u8
     requires { ⌜ Some (λ nodes. Holds nodes width (now parents) (now codes)) ⌝ }
     requires { ⌜ (node < length (now parents)) × (from + length (now inside) ≤ width) ⌝ }
     ensures { λ r. ⌜ Each (λ nodes. Holds nodes width (now (parents .entry)) (now (codes .entry))) (λ nodes. r ≡ readsRefusal node from (map permission (now (inside .entry))) nodes) ⌝ }
@@ -339,7 +421,8 @@ pub fn reads_refusal(parents: &[u16], codes: &[u8], inside: &[u8], width: usize,
         match permission::init_access(inside[k]) {
             MaybeAccess::Nothing => {}
             MaybeAccess::Access(kind) => {
-                let refused = access_refusal(parents, codes, width, node, kind, from + k, 1);
+                let at = from + k;
+                let refused = access_refusal(parents, codes, width, node, kind, at, 1);
                 if refused != 0 {
                     return refused;
                 }
@@ -351,7 +434,14 @@ pub fn reads_refusal(parents: &[u16], codes: &[u8], inside: &[u8], width: usize,
 }
 
 // The same reads made, all in one visit.
-pub fn apply_reads(parents: &[u16], codes: &mut [u8], inside: &[u8], width: usize, node: usize, from: usize)
+pub fn apply_reads(
+    parents: &[u16],
+    codes: &mut [u8],
+    inside: &[u8],
+    width: usize,
+    node: usize,
+    from: usize,
+)
     requires { ⌜ Some (λ nodes. Holds nodes width (now parents) (now codes)) ⌝ }
     requires { ⌜ (node < length (now parents)) × (from + length (now inside) ≤ width) ⌝ }
     ensures { λ _. ⌜ Each (λ nodes. Holds nodes width (now (parents .entry)) (now (codes .entry))) (λ nodes. now (codes .exit) ≡ rowsOf (visited (readsVisit node from (map permission (now (inside .entry)))) nodes)) ⌝ }
@@ -418,7 +508,14 @@ fn lacks_protector(protectors: &[u8], codes: &[u8], width: usize, node: usize) -
 }
 
 // On a live allocation, 16 to 23. The node's row is left in the lent row, for the change.
-fn release_refusal(parents: &[u16], protectors: &[u8], codes: &[u8], lent: &mut [u8], width: usize, node: usize) -> u8
+fn release_refusal(
+    parents: &[u16],
+    protectors: &[u8],
+    codes: &[u8],
+    lent: &mut [u8],
+    width: usize,
+    node: usize,
+) -> u8
     requires { ⌜ Some (λ nodes. HoldsAll nodes width (now parents) (now protectors) (now codes)) ⌝ }
     requires { ⌜ (node < length (now parents)) × (width ≤ length (now lent)) ⌝ }
     ensures { λ _. ⌜ now (lent .exit) ≡ rowAt width node (now (codes .entry)) ++ drop width (now (lent .entry)) ⌝ }
@@ -432,7 +529,7 @@ fn release_refusal(parents: &[u16], protectors: &[u8], codes: &[u8], lent: &mut 
     }
     let v = Reach {
         node,
-        spared: node,
+        spared: node, // and its descendants
         width,
         from: 0,
         len: width,
@@ -463,7 +560,14 @@ fn apply_release(parents: &[u16], codes: &mut [u8], lent: &[u8], width: usize, n
 
 // The release of a node of a live allocation: the first refusal, 16 to 23, with marks and codes as they were; or 0, with the node unprotected and the
 // accesses of its protector's end made, which reach every node but it and its descendants. The lent row is for work.
-pub fn release(parents: &[u16], protectors: &mut [u8], codes: &mut [u8], lent: &mut [u8], width: usize, node: usize) -> u8
+pub fn release(
+    parents: &[u16],
+    protectors: &mut [u8],
+    codes: &mut [u8],
+    lent: &mut [u8],
+    width: usize,
+    node: usize,
+) -> u8
     requires { ⌜ Some (λ nodes. HoldsAll nodes width (now parents) (now protectors) (now codes)) ⌝ }
     requires { ⌜ (node < length (now parents)) × (width ≤ length (now lent)) ⌝ }
     ensures { λ _. ⌜ now (lent .exit) ≡ rowAt width node (now (codes .entry)) ++ drop width (now (lent .entry)) ⌝ }

@@ -36,16 +36,26 @@ slice-aggregate-copy-front-2 : tie.Need-slice-aggregate-copy-front-2
 slice-aggregate-copy-front-2 c = search needs
 
 copy-front-requires-3 : tie.Need-copy-front-requires-3
-copy-front-requires-3 c κs = let s = c .before .before .before .before .before .before .before .before .before .before .before .before .before .before .before .before .before .before .before .before .before .before .before .before .before .before .before in
+copy-front-requires-3 c κs =
+    let until = c .before .before .before .before .before .before .before .before in
+    let saved = until .before .before .before .before .before .before .before .before .before .before in
+    let s = saved .before .before .before .before .before .before .before .before .before in
     let h = s .pre .0 .1 .0 in
-    let u = c .before .before .before .before .before .before .before .before .before .before .before .before .before .before .before .before .before .before .before .before .before .used .ensures (s .pre .0 .0) (records-held h) in
-    (omega (arith, nodes-used h u, c .before .before .before .before .before .before .before .before .before .before .before .before .before .before .before .before .before .before .copy-front .kept .0), omega (arith, nodes-used h u, marks-length h u, c .before .before .before .before .before .before .before .before .release-until .kept .1 .1 .0))
+    let u = saved .before .before .before .used .ensures (s .pre .0 .0) (records-held h) in (
+      omega (arith, nodes-used h u, saved .copy-front .kept .0),
+      omega (arith, nodes-used h u, marks-length h u, until .release-until .kept .1 .1 .0),
+    )
 
 copy-front-requires-4 : tie.Need-copy-front-requires-4
-copy-front-requires-4 c κs = let s = c .before .before .before .before .before .before .before .before .before .before .before .before .before .before .before .before .before .before .before .before .before .before .before .before .before .before .before .before .before .before .before .before in
+copy-front-requires-4 c κs =
+    let until = c .before .before .before .before .before .before .before .before .before .before .before .before .before in
+    let saved = until .before .before .before .before .before .before in
+    let s = saved .before .before .before .before .before .before .before .before .before .before .before .before .before in
     let h = s .pre .0 .1 .0 in
-    let u = c .before .before .before .before .before .before .before .before .before .before .before .before .before .before .before .before .before .before .before .before .before .before .before .before .before .before .used .ensures (s .pre .0 .0) (records-held h) in
-    (omega (arith, codes-total h u, s .pre .1 .1, c .before .before .before .before .before .before .before .before .before .before .before .before .before .before .before .before .before .before .before .copy-front2 .kept .0), omega (arith, codes-total h u, codes-length h u, c .before .before .before .before .before .before .before .before .before .before .before .before .before .release-until .kept .1 .1 .1 .0))
+    let u = saved .before .before .before .before .before .before .before .used .ensures (s .pre .0 .0) (records-held h) in (
+      omega (arith, codes-total h u, s .pre .1 .1, saved .copy-front2 .kept .0),
+      omega (arith, codes-total h u, codes-length h u, until .release-until .kept .1 .1 .1 .0),
+    )
 
 same-length : tie.Need-same-length
 same-length c = search needs
@@ -58,10 +68,16 @@ same-length-3 c = search needs
 
 returns : tie.Need-returns
 returns c = λ m h made.
-    let es = entriesOf (c .before .before .before .before .before .before .before .before .before .before .before .before .before .before .before .before .before .before .before .before .before .before .before .before .before .before .before .before .before .before .before .before .before .before .before .args .list) in
-    let used = c .before .before .before .before .before .before .before .before .before .before .before .before .before .before .before .before .before .before .before .before .before .before .before .before .before .before .before .before .before .used in
-    some-refused h (used .ensures m (records-held h)) (c .before .before .before .before .before .before .before .before .before .before .before .before .before .before .before .before .release-until .ensures m h made) (used .ensures (untilRefused m es) (records-until h es)) (c .before .before .before .before .before .before .before .before .before .before .if1 .taken) _ _
-    (c .before .before .before .before .before .before .before .before .before .before .before .before .before .before .before .before .before .before .before .before .before .before .before .before .before .before .copy-front .ensures) (c .before .before .before .before .before .before .before .before .before .before .before .before .before .before .before .before .before .before .before .before .before .before .copy-front2 .ensures) (c .before .before .before .before .before .before .before .copy-front3 .ensures) (c .before .before .copy-front4 .ensures)
+    let back = c .before .before .before .before .before .before .before in
+    let refused = back .before .before .before in
+    let until = refused .before .before .before .before .before .before in
+    let savedCodes = until .before .before .before .before .before .before in
+    let savedMarks = savedCodes .before .before .before .before in
+    let used = savedMarks .before .before .before .used in
+    let es = entriesOf (savedMarks .before .before .before .before .before .before .before .before .before .args .list) in
+    some-refused h (used .ensures m (records-held h)) (until .release-until .ensures m h made)
+    (used .ensures (untilRefused m es) (records-until h es)) (refused .if1 .taken) _ _ (savedMarks .copy-front .ensures)
+    (savedCodes .copy-front2 .ensures) (back .copy-front3 .ensures) (c .before .before .copy-front4 .ensures)
 
 same-length-4 : tie.Need-same-length-4
 same-length-4 c = search needs

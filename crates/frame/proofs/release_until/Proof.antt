@@ -17,7 +17,8 @@ use Rattle.frame.proofs.release_until.Lts as lts
 use Rattle.frame.proofs.release_entry.Reads as release-entry-reads
 
 abbrev Inv-loop : tie.InvT-loop
-Inv-loop allocs parents protectors₀ codes₀ row₀ list count i₀ protectors codes row i = (i ≤ count) × (length protectors ≡ length protectors₀) × (length codes ≡ length codes₀) × (length row ≡ length row₀)
+Inv-loop allocs parents protectors₀ codes₀ row₀ list count i₀ protectors codes row i =
+    (i ≤ count) × (length protectors ≡ length protectors₀) × (length codes ≡ length codes₀) × (length row ≡ length row₀)
     × ((m : Memory) → HoldsTrees m allocs parents protectors₀ codes₀ → AllMade m (entriesOf list) → Turn m (entriesOf list) (drop i (entriesOf list)) allocs parents protectors codes)
 
 abbrev μ-loop : tie.MeasureT-loop
@@ -34,12 +35,12 @@ entry-at-requires c κs = search needs
 
 release-entry-requires : tie.Need-release-entry-requires Inv-loop μ-loop
 release-entry-requires c κs =
-    let s = c .before .before .before .before .before .before .before .before .before .before .before in
-    let i = c .before .before .before .before .before .loop .i in
+    let t = c .before .before .before .before .before in
+    let s = t .before .before .before .before .before .before in
     let es = entriesOf (s .args .list) in
-    let l : i < length es = omega (arith, count-of s) in
-    let t = turn-at i _ _ l (c .before .before .before .entry-at .ensures .1) (c .before .before .before .before .before .loop .inv .4 (s .pre .0 .0) (s .pre .0 .1 .0) (s .pre .0 .1 .1)) in
-    ((t .memory, (t .holds, t .made .0)), omega (arith, c .before .before .before .before .before .loop .inv .3, s .pre .1 .1))
+    let l : t .loop .i < length es = omega (arith, count-of s) in
+    let turn = turn-at (t .loop .i) _ _ l (c .before .before .before .entry-at .ensures .1) (t .loop .inv .4 (s .pre .0 .0) (s .pre .0 .1 .0) (s .pre .0 .1 .1)) in
+    ((turn .memory, (turn .holds, turn .made .0)), omega (arith, t .loop .inv .3, s .pre .1 .1))
 
 same-length : tie.Need-same-length Inv-loop μ-loop
 same-length c = search needs
@@ -52,12 +53,13 @@ same-length-3 c = search needs
 
 returns : tie.Need-returns Inv-loop μ-loop
 returns c = λ m h made.
-    let s = c .before .before .before .before .before .before .before .before .before .before .before .before .before .before .before .before .before .before .before in
-    let i = c .before .before .before .before .before .before .before .before .before .before .before .before .before .loop .i in
-    let es = entriesOf (s .args .list) in
-    let l : i < length es = omega (arith, count-of s) in
-    let t = turn-at i _ _ l (c .before .before .before .before .before .before .before .before .before .before .before .entry-at .ensures .1) (c .before .before .before .before .before .before .before .before .before .before .before .before .before .loop .inv .4 m h made) in
-    turn-stops t (c .before .before .before .before .before .before .before .release-entry .ensures (t .memory) (t .holds) (t .made .0)) (c .if1 .taken)
+    let released = c .before .before .before .before .before .before .before in
+    let found = released .before .before .before .before in
+    let t = found .before .before in
+    let s = t .before .before .before .before .before .before in
+    let l : t .loop .i < length (entriesOf (s .args .list)) = omega (arith, count-of s) in
+    let turn = turn-at (t .loop .i) _ _ l (found .entry-at .ensures .1) (t .loop .inv .4 m h made) in
+    turn-stops turn (released .release-entry .ensures (turn .memory) (turn .holds) (turn .made .0)) (c .if1 .taken)
 
 add-i : tie.Need-add-i Inv-loop μ-loop
 add-i c = search needs
@@ -67,17 +69,18 @@ loop-less c = search needs
 
 loop-again : tie.Need-loop-again Inv-loop μ-loop
 loop-again c =
-    let s = c .before .before .before .before .before .before .before .before .before .before .before .before .before .before .before .before .before .before .before in
-    let i = c .before .before .before .before .before .before .before .before .before .before .before .before .before .loop .i in
-    let es = entriesOf (s .args .list) in
-    let l : i < length es = omega (arith, count-of s) in (
+    let released = c .before .before .before .before .before .before .before in
+    let found = released .before .before .before .before in
+    let t = found .before .before in
+    let s = t .before .before .before .before .before .before in
+    let l : t .loop .i < length (entriesOf (s .args .list)) = omega (arith, count-of s) in (
       omega arith,
       search needs,
       search needs,
       search needs,
       λ m h made.
-          let t = turn-at i _ _ l (c .before .before .before .before .before .before .before .before .before .before .before .entry-at .ensures .1) (c .before .before .before .before .before .before .before .before .before .before .before .before .before .loop .inv .4 m h made) in
-          turn-next t (c .before .before .before .before .before .before .before .release-entry .ensures (t .memory) (t .holds) (t .made .0)) (c .if1 .left),
+          let turn = turn-at (t .loop .i) _ _ l (found .entry-at .ensures .1) (t .loop .inv .4 m h made) in
+          turn-next turn (released .release-entry .ensures (turn .memory) (turn .holds) (turn .made .0)) (c .if1 .left),
     )
 
 same-length-4 : tie.Need-same-length-4 Inv-loop μ-loop

@@ -1,13 +1,13 @@
 -- Each arm against `endAccess`.
-use mathlib.Core.List.{List, [], _∷_}
 use Prim.Native.Nat.{ℕ}
-use native.Mathlib.Omega.{arith}
+use mathlib.Core.List.{List, [], _∷_}
 use mathlib.Core.Option.{none, some}
+use native.Mathlib.Omega.{arith}
 use Rattle.definition.specs.Permission.{endAccess}
 use Rattle.definition.specs.Permission.AccessKind.{Read, Write}
 use Rattle.permission.specs.Codes.{endAccessCode}
 use Rattle.permission.proofs.Codes.{sameAccess, same-access, at-past}
-use Rattle.permission.proofs.Arms.{keys, arm, rest}
+use Rattle.permission.proofs.Arms.{keys, rest}
 use Rattle.permission.proofs.end_access.Statement.{statement}
 use Rattle.permission.proofs.end_access.Tie as tie
 

@@ -1,6 +1,6 @@
 -- Each arm of `foreign_read` against the table of a foreign read.
-use mathlib.Core.List.{List, [], _∷_}
 use Prim.Native.Nat.{ℕ}
+use mathlib.Core.List.{List, [], _∷_}
 use native.Mathlib.Omega.{arith}
 use Rattle.definition.specs.Permission.AccessKind.{Read}
 use Rattle.definition.specs.Permission.NodeRelation.{Foreign}

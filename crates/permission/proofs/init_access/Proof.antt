@@ -1,8 +1,8 @@
 -- Each arm against `initAccess`.
-use mathlib.Core.List.{List, [], _∷_}
 use Prim.Native.Nat.{ℕ}
-use native.Mathlib.Omega.{arith}
+use mathlib.Core.List.{List, [], _∷_}
 use mathlib.Core.Option.{none, some}
+use native.Mathlib.Omega.{arith}
 use Rattle.definition.specs.Permission.{initAccess}
 use Rattle.definition.specs.Permission.AccessKind.{Read}
 use Rattle.permission.specs.Codes.{initAccessCode}

@@ -1,7 +1,7 @@
 -- Each arm against `isProtected`.
 use mathlib.Core.List.{[]}
-use native.Mathlib.Omega.{arith}
 use mathlib.Core.Bool.{true, false}
+use native.Mathlib.Omega.{arith}
 use Rattle.definition.specs.Permission.{isProtected}
 use Rattle.permission.specs.Codes.{isProtectedCode}
 use Rattle.permission.proofs.Codes.{sameBool, same-bool, at-past}

@@ -1,6 +1,6 @@
 -- Each arm of `local_read` against the table of a local read.
-use mathlib.Core.List.{List, [], _∷_}
 use Prim.Native.Nat.{ℕ}
+use mathlib.Core.List.{List, [], _∷_}
 use native.Mathlib.Omega.{arith}
 use Rattle.definition.specs.Permission.AccessKind.{Read}
 use Rattle.definition.specs.Permission.NodeRelation.{Local}

@@ -1,12 +1,12 @@
 -- Each arm against `preventsDeallocation`.
-use mathlib.Core.List.{List, [], _∷_}
 use Prim.Native.Nat.{ℕ}
-use native.Mathlib.Omega.{arith}
+use mathlib.Core.List.{List, [], _∷_}
 use mathlib.Core.Bool.{true, false}
+use native.Mathlib.Omega.{arith}
 use Rattle.definition.specs.Permission.{preventsDeallocation}
 use Rattle.permission.specs.Codes.{preventsCode}
 use Rattle.permission.proofs.Codes.{sameBool, same-bool, at-past}
-use Rattle.permission.proofs.Arms.{keys, arm, rest}
+use Rattle.permission.proofs.Arms.{keys, rest}
 use Rattle.permission.proofs.prevents_deallocation.Statement.{statement}
 use Rattle.permission.proofs.prevents_deallocation.Tie as tie
 

@@ -1,11 +1,11 @@
 -- A protected byte starts alike under a weak and a strong protector; that of a mutable reference or a box, alike as a freeze and as a cell byte.
 use mathlib.Core.Path.{_≡_, refl}
 use mathlib.Core.Bool.{Bool, true, false}
+use borrow.Author.Needs.{needs}
 use Rattle.definition.specs.Permission.{code}
 use Rattle.definition.specs.Permission.SafePointer.{MutableRef, Box}
 use Rattle.definition.specs.Permission.Protected.{Weak, Strong}
 use Rattle.definition.specs.Retag.{startPerm}
-use borrow.Author.Needs.{needs}
 use Rattle.permission.proofs.protected_start.Statement.{statement}
 use Rattle.permission.proofs.protected_start.Tie as tie
 

@@ -1,6 +1,6 @@
 -- Each arm against `unprotected`.
-use mathlib.Core.List.{List, [], _∷_}
 use Prim.Native.Nat.{ℕ}
+use mathlib.Core.List.{List, [], _∷_}
 use native.Mathlib.Omega.{arith}
 use lib.Dec.{eqb, eqb→eq}
 use Rattle.definition.specs.Permission.{unprotected, code}

@@ -1,37 +1,29 @@
+-- The memory with the child is well formed, so that its tree can be visited; the two changes are the definition's one.
+use Prim.Native.Nat.{ℕ}
+use mathlib.Core.Path.{ap, _∙_}
+use native.Mathlib.Omega.{arith}
+use borrow.Author.Needs.{needs}
+use denote.Ref.{now}
+use lib.ListN.{length}
+use Rattle.definition.specs.Notation.{mutateAt}
+use Rattle.tables.proofs.Lookup.{record-in}
+use Rattle.tables.specs.Held.{withNode}
+use Rattle.bounds.proofs.Points.{read-address, read-size}
+use Rattle.reborrow.specs.Settings.{settingsOf, placeIn, childAt}
 use Rattle.reborrow.proofs.Children.{grown-holds, grown-reached, added}
 use Rattle.reborrow.proofs.Tests.{fits-at}
 use Rattle.reborrow.proofs.Parts.{trees-of, read-nodes}
-use Rattle.reborrow.specs.Settings.{settingsOf, placeIn, childAt}
-use Rattle.bounds.proofs.Points.{read-address, read-size}
-use Rattle.tables.proofs.Lookup.{record-in}
-use Rattle.tables.specs.Held.{withNode}
-use Rattle.definition.specs.Notation.{mutateAt}
-use denote.Ref.{now}
-use lib.ListN.{length}
-use Prim.Native.Nat.{ℕ}
-use mathlib.Core.Path.{sym, ap, _∙_}
-use native.Mathlib.Omega.{arith}
-use borrow.Author.Needs.{needs}
 use Rattle.reborrow.proofs.add_child.Statement.{statement}
 use Rattle.reborrow.proofs.add_child.Tie as tie
-use Rattle.reborrow.proofs.add_child.Reads as reads
-use Rattle.reborrow.proofs.add_child.Lts as lts
-use Rattle.reborrow.proofs.apply_reads.Reads as apply-reads-reads
-use Rattle.reborrow.proofs.insert_child.Reads as insert-child-reads
-use Rattle.reborrow.proofs.place_in.Reads as place-in-reads
-use Rattle.tables.proofs.allocation_at.Reads as allocation-at-reads
 
--- src/lib.rt:268:9
 allocation-at-requires : tie.Need-allocation-at-requires
 allocation-at-requires c κs = let t = c .before .before .before .before .before .before in record-in (trees-of (t .pre .0 .1 .0) .records) _ (t .pre .0 .1 .1 .fits .reached .made)
 
--- src/lib.rt:271:9
 place-in-requires : tie.Need-place-in-requires
 place-in-requires c κs = let t = c .before .before .before .before .before .before .before in let passed = t .pre .0 .1 .1 in λ long. omega (arith, read-address (trees-of (t .pre .0 .1 .0) .records) (passed .fits .reached .made) (c .allocation-at .ensures), passed .above long)
 
--- src/lib.rt:272:5
 insert-child-requires : tie.Need-insert-child-requires
-insert-child-requires c κs = 
+insert-child-requires c κs =
     let t = c .before .before .before .before .before .before .before .before .before .before .before .before in
     let h = t .pre .0 .1 .0 in
     let k = t .pre .0 .1 .1 in
@@ -41,9 +33,8 @@ insert-child-requires c κs =
     let long = read-size (trees-of h .records) made q in
     ((t .pre .0 .0, (h, fits-at k place, long)), t .pre .1 .1)
 
--- src/lib.rt:273:5
 apply-reads-requires : tie.Need-apply-reads-requires
-apply-reads-requires c κs = 
+apply-reads-requires c κs =
     let t = c .before .before .before .before .before .before .before .before .before .before .before .before .before .before .before .before .before .before .before .before .before .before .before .before in
     let h = t .pre .0 .1 .0 in
     let k = t .pre .0 .1 .1 in
@@ -58,23 +49,18 @@ apply-reads-requires c κs =
     let reached = grown-reached (t .args .settings) (t .pre .1 .1 .0) (t .pre .1 .1 .1) (t .args .p .addr) (t .args .n) (t .args .node) (t .pre .0 .0) (h .valid) k place long last in
     (mutateAt (t .args .n) (withNode child) (t .pre .0 .0), (holds, reached))
 
--- src/lib.rt:250:1
 same-length : tie.Need-same-length
 same-length c = search needs
 
--- src/lib.rt:250:1
 same-length-2 : tie.Need-same-length-2
 same-length-2 c = search needs
 
--- src/lib.rt:250:1
 same-length-3 : tie.Need-same-length-3
 same-length-3 c = search needs
 
--- src/lib.rt:250:1
 same-length-4 : tie.Need-same-length-4
 same-length-4 c = search needs
 
--- src/lib.rt:250:1
 returns : tie.Need-returns
 returns c = λ m mask h k e.
     let t = c .before .before .before .before .before .before .before .before .before .before .before .before .before .before .before .before .before .before .before .before .before .before .before .before .before .before .before in

@@ -1,48 +1,37 @@
-use Rattle.reborrow.proofs.Codes.{fill-all}
-use Rattle.tables.proofs.Parts.{put-paste, write-paste}
-use Rattle.definition.specs.Notation.{writeAt}
-use lib.ListN.{length}
-use borrow.Rule.Slice.PartMut.{putMid}
-use denote.Ref.{now}
-use mathlib.Core.List.{List}
+-- The row is filled with the outside code, and the inside codes are written over it.
+use Prim.Native.Nat.{_+_, _-_, _≤_}
 use mathlib.Core.Path.{_≡_, sym, ap, _∙_}
-use Prim.Native.Nat.{ℕ, _+_, _-_, _≤_}
 use native.Mathlib.Omega.{arith}
+use borrow.Rule.Slice.PartMut.{putMid}
 use borrow.Author.Needs.{needs}
+use denote.Ref.{now}
+use lib.ListN.{length}
+use Rattle.definition.specs.Notation.{writeAt}
+use Rattle.tables.proofs.Parts.{put-paste, write-paste}
+use Rattle.reborrow.proofs.Codes.{fill-all}
 use Rattle.reborrow.proofs.child_row.Statement.{statement}
 use Rattle.reborrow.proofs.child_row.Tie as tie
-use Rattle.reborrow.proofs.child_row.Reads as reads
-use Rattle.reborrow.proofs.child_row.Lts as lts
-use Rattle.tables.proofs.copy_row.Reads as copy-row-reads
-use Rattle.tables.proofs.fill.Reads as fill-reads
 
--- src/lib.rt:57:5
 fill-requires : tie.Need-fill-requires
 fill-requires c κs = search needs
 
--- src/lib.rt:58:22
 sub-copy-row : tie.Need-sub-copy-row
 sub-copy-row c = search needs
 
--- src/lib.rt:58:22
 part-copy-row-start : tie.Need-part-copy-row-start
 part-copy-row-start c = search needs
 
--- src/lib.rt:58:22
 part-copy-row-end : tie.Need-part-copy-row-end
 part-copy-row-end c = search needs
 
--- src/lib.rt:58:5
 copy-row-requires : tie.Need-copy-row-requires
 copy-row-requires c κs = search needs
 
--- src/lib.rt:52:1
 same-length : tie.Need-same-length
 same-length c = search needs
 
--- src/lib.rt:52:1
 returns : tie.Need-returns
-returns c = 
+returns c =
     let a = c .before .before .before .before .before .before .before .before .before .before .args in
     let I = now (a .inside) in
     let D = c .before .before .before .before .before .before .fill .last .0 in

@@ -1,39 +1,30 @@
-use Rattle.reborrow.proofs.Children.{child-fits}
-use Rattle.reborrow.proofs.Parts.{count-small, size-small}
-use Rattle.reborrow.specs.Settings.{settingsOf, childAt}
-use Rattle.definition.specs.Notation.{writeAt}
-use lib.Seq.{length-take-le}
-use lib.ListN.{length, replicate, length-replicate}
-use denote.Ref.{now}
+-- The row's first bytes are the codes of the definition's child.
+use Prim.Native.Nat.{ℕ, _+_, _≤_}
 use mathlib.Core.List.{List}
 use mathlib.Core.Path.{_≡_, sym, ap, subst, _∙_}
-use Prim.Native.Nat.{ℕ, _+_, _≤_}
 use native.Mathlib.Omega.{arith}
 use borrow.Author.Needs.{needs}
+use denote.Ref.{now}
+use lib.Seq.{length-take-le}
+use lib.ListN.{length, replicate, length-replicate}
+use Rattle.definition.specs.Notation.{writeAt}
+use Rattle.reborrow.specs.Settings.{settingsOf, childAt}
+use Rattle.reborrow.proofs.Children.{child-fits}
+use Rattle.reborrow.proofs.Parts.{count-small, size-small}
 use Rattle.reborrow.proofs.insert_child.Statement.{statement}
 use Rattle.reborrow.proofs.insert_child.Tie as tie
-use Rattle.reborrow.proofs.insert_child.Reads as reads
-use Rattle.reborrow.proofs.insert_child.Lts as lts
-use Rattle.permission.proofs.start_code.Reads as start-code-reads
-use Rattle.reborrow.proofs.child_row.Reads as child-row-reads
-use Rattle.reborrow.proofs.protector_number.Reads as protector-number-reads
-use Rattle.tables.proofs.insert_node.Reads as insert-node-reads
 
--- src/rt:240:9
 start-code-requires : tie.Need-start-code-requires
 start-code-requires c κs = search needs
 
--- src/rt:241:9
 protector-number-requires : tie.Need-protector-number-requires
 protector-number-requires c κs = search needs
 
--- src/rt:243:15
 slice-aggregate-child-row : tie.Need-slice-aggregate-child-row
 slice-aggregate-child-row c = search needs
 
--- src/rt:243:5
 child-row-requires : tie.Need-child-row-requires
-child-row-requires c κs = 
+child-row-requires c κs =
     let s = c .before .before .before .before .before .before .before .before in
     let h = s .pre .0 .1 .0 in
     let fits = s .pre .0 .1 .1 in
@@ -42,13 +33,11 @@ child-row-requires c κs =
     let l : length zeros ≡ 4096 = length-replicate {A = ℕ} 4096 0 in
     subst (λ (k : ℕ). s .args .from + length (now (s .args .inside)) ≤ k) (sym l) (omega (arith, small, s .pre .0 .1 .2, fits .reached .within))
 
--- src/rt:244:64
 cast-insert-node : tie.Need-cast-insert-node
 cast-insert-node c = let s = c .before .before .before .before .before .before .before .before .before .before .before .before .before .before in omega (arith, s .pre .0 .1 .1 .reached .inTree, count-small (s .pre .0 .0) (s .pre .0 .1 .0 .valid) (s .args .n) (s .pre .0 .1 .1 .reached .made))
 
--- src/rt:244:85
 array-share-prefix-row : tie.Need-array-share-prefix-row
-array-share-prefix-row c = 
+array-share-prefix-row c =
     let s = c .before .before .before .before .before .before .before .before .before .before .before .before .before .before in
     let h = s .pre .0 .1 .0 in
     let fits = s .pre .0 .1 .1 in
@@ -58,9 +47,8 @@ array-share-prefix-row c =
     let k : length (c .before .before .before .before .before .child-row .last .0) ≡ 4096 = c .before .before .before .before .before .child-row .kept .0 ∙ l in
     omega (arith, k, small)
 
--- src/rt:244:85
 slice-aggregate-insert-node : tie.Need-slice-aggregate-insert-node
-slice-aggregate-insert-node c = 
+slice-aggregate-insert-node c =
     let s = c .before .before .before .before .before .before .before .before .before .before .before .before .before .before .before in
     let h = s .pre .0 .1 .0 in
     let fits = s .pre .0 .1 .1 in
@@ -70,32 +58,31 @@ slice-aggregate-insert-node c =
     let k : length (c .before .before .before .before .before .before .child-row .last .0) ≡ 4096 = c .before .before .before .before .before .before .child-row .kept .0 ∙ l in
     sym (length-take-le (s .args .bytes) (c .before .before .before .before .before .before .child-row .last .0) (omega (arith, k, small)))
 
--- src/rt:244:5
 insert-node-requires : tie.Need-insert-node-requires
-insert-node-requires c κs = 
+insert-node-requires c κs =
     let s = c .before .before .before .before .before .before .before .before .before .before .before .before .before .before .before in
     let zeros : List ℕ = replicate 4096 0 in
-    let l : length zeros ≡ 4096 = length-replicate {A = ℕ} 4096 0 in
-    (s .pre .0 .0, (childAt (settingsOf (s .args .settings) (s .pre .1 .0)) (s .args .node) (s .args .from) (s .args .bytes), child-fits (s .args .settings) (s .pre .1 .0) (s .pre .0 .1 .0) (s .pre .0 .1 .1) (s .pre .0 .1 .2) (s .pre .1 .1) (c .before .before .before .before .before .before .before .before .before .start-code .ensures) (c .before .before .before .before .before .before .before .before .protector-number .ensures)
-    (c .before .before .before .before .before .before .child-row .ensures ∙ ap (λ (k : ℕ). writeAt (s .args .from) (now (s .args .inside)) (replicate k (c .before .before .before .before .before .before .before .before .before .start-code .result))) l)))
+    let l : length zeros ≡ 4096 = length-replicate {A = ℕ} 4096 0 in (
+      s .pre .0 .0,
+      (
+        childAt (settingsOf (s .args .settings) (s .pre .1 .0)) (s .args .node) (s .args .from) (s .args .bytes),
+        child-fits (s .args .settings) (s .pre .1 .0) (s .pre .0 .1 .0) (s .pre .0 .1 .1) (s .pre .0 .1 .2) (s .pre .1 .1) (c .before .before .before .before .before .before .before .before .before .start-code .ensures) (c .before .before .before .before .before .before .before .before .protector-number .ensures)
+            (c .before .before .before .before .before .before .child-row .ensures ∙ ap (λ (k : ℕ). writeAt (s .args .from) (now (s .args .inside)) (replicate k (c .before .before .before .before .before .before .before .before .before .start-code .result))) l),
+      ),
+    )
 
--- src/rt:220:1
 same-length : tie.Need-same-length
 same-length c = search needs
 
--- src/rt:220:1
 same-length-2 : tie.Need-same-length-2
 same-length-2 c = search needs
 
--- src/rt:220:1
 same-length-3 : tie.Need-same-length-3
 same-length-3 c = search needs
 
--- src/rt:220:1
 same-length-4 : tie.Need-same-length-4
 same-length-4 c = search needs
 
--- src/rt:220:1
 returns : tie.Need-returns
 returns c = λ m mask h fits long e.
     let s = c .before .before .before .before .before .before .before .before .before .before .before .before .before .before .before .before .before .before .before .before .before .before .before .before in

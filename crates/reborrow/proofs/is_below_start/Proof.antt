@@ -1,16 +1,11 @@
+-- With bytes the test is false.
 use borrow.Author.Tests.{eq-eqb, ne-eqb}
-use borrow.Author.Needs.{needs}
-use native.Mathlib.Omega.{arith}
 use Rattle.reborrow.proofs.is_below_start.Statement.{statement}
 use Rattle.reborrow.proofs.is_below_start.Tie as tie
-use Rattle.reborrow.proofs.is_below_start.Reads as reads
-use Rattle.reborrow.proofs.is_below_start.Lts as lts
 
--- src/lib.rt:91:9
 returns : tie.Need-returns
 returns c = rw (eq-eqb _ 0 (c .if1 .taken))
 
--- src/lib.rt:87:1
 returns-2 : tie.Need-returns-2
 returns-2 c = rw (ne-eqb _ 0 (c .if1 .left))
 

@@ -1,38 +1,29 @@
-use Rattle.reborrow.specs.Settings.{maskOf}
-use denote.Ref.{now}
-use lib.Seq.{length-take-le, take-at}
-use lib.ListN.{length, take, drop}
+-- The front of the mask becomes the codes of the inside bytes.
 use Prim.Native.Nat.{ℕ}
 use mathlib.Core.List.{List, _++_}
 use mathlib.Core.Path.{_≡_, sym, ap, _∙_}
-use native.Mathlib.Omega.{arith}
 use borrow.Author.Needs.{needs}
+use denote.Ref.{now}
+use lib.Seq.{length-take-le, take-at}
+use lib.ListN.{length, take, drop}
+use Rattle.reborrow.specs.Settings.{maskOf}
 use Rattle.reborrow.proofs.reborrow.Statement.{statement}
 use Rattle.reborrow.proofs.reborrow.Tie as tie
-use Rattle.reborrow.proofs.reborrow.Reads as reads
-use Rattle.reborrow.proofs.reborrow.Lts as lts
-use Rattle.reborrow.proofs.reborrow_inside.Reads as reborrow-inside-reads
-use Rattle.reborrow.proofs.start_codes.Reads as start-codes-reads
 
--- src/rt:340:17
 slice-relend-prefix-start-codes : tie.Need-slice-relend-prefix-start-codes
 slice-relend-prefix-start-codes c = search needs
 
--- src/rt:340:17
 slice-aggregate-start-codes : tie.Need-slice-aggregate-start-codes
 slice-aggregate-start-codes c = sym (length-take-le (c .before .before .before .before .before .before .args .len) (c .before .before .before .before .before .before .args .mask .now) (c .before .before .before .before .before .before .pre .1))
 
--- src/rt:340:5
 start-codes-requires : tie.Need-start-codes-requires
 start-codes-requires c κs = search needs
 
--- src/rt:341:57
 slice-reshare-prefix-reborrow-inside : tie.Need-slice-reshare-prefix-reborrow-inside
 slice-reshare-prefix-reborrow-inside c = search needs
 
--- src/rt:341:57
 slice-aggregate-reborrow-inside : tie.Need-slice-aggregate-reborrow-inside
-slice-aggregate-reborrow-inside c = 
+slice-aggregate-reborrow-inside c =
     let t = c .before .before .before .before .before .before .before .before .before .before .before .before .before .before in
     let M = now (t .args .mask) in
     let codes = c .before .before .before .before .before .before .before .start-codes .last .0 in
@@ -40,9 +31,8 @@ slice-aggregate-reborrow-inside c =
     let front = take-at codes (drop (t .args .len) M) (t .args .len) long in
     sym (ap length front ∙ long)
 
--- src/rt:341:5
 reborrow-inside-requires : tie.Need-reborrow-inside-requires
-reborrow-inside-requires c κs = 
+reborrow-inside-requires c κs =
     let t = c .before .before .before .before .before .before .before .before .before .before .before .before .before .before in
     let M = now (t .args .mask) in
     let codes = c .before .before .before .before .before .before .before .start-codes .last .0 in
@@ -50,35 +40,28 @@ reborrow-inside-requires c κs =
     let front = take-at codes (drop (t .args .len) M) (t .args .len) long in
     (t .pre .0, (maskOf (take (t .args .len) M), front ∙ c .before .before .before .before .before .before .before .start-codes .ensures))
 
--- src/rt:320:1
 same-length : tie.Need-same-length
 same-length c = search needs
 
--- src/rt:320:1
 same-length-2 : tie.Need-same-length-2
 same-length-2 c = search needs
 
--- src/rt:320:1
 same-length-3 : tie.Need-same-length-3
 same-length-3 c = search needs
 
--- src/rt:320:1
 same-length-4 : tie.Need-same-length-4
 same-length-4 c = search needs
 
--- src/rt:320:1
 same-length-5 : tie.Need-same-length-5
 same-length-5 c = search needs
 
--- src/rt:320:1
 returns : tie.Need-returns
-returns c = 
+returns c =
     let t = c .before .before .before .before .before .before .before .before .before .before .before .before .before .before .before .before .before .before .before .before .before .before .before in
     let M = now (t .args .mask) in
     let codes = c .before .before .before .before .before .before .before .before .before .before .before .before .before .before .before .before .start-codes .last .0 in
     let long : length codes ≡ t .args .len = c .before .before .before .before .before .before .before .before .before .before .before .before .before .before .before .before .start-codes .kept .0 ∙ length-take-le (t .args .len) M (t .pre .1) in
-    let front = take-at codes (drop (t .args .len) M) (t .args .len) long in
-    (
+    let front = take-at codes (drop (t .args .len) M) (t .args .len) long in (
       λ s frame h e. c .before .before .before .before .before .before .before .before .reborrow-inside .ensures s frame (maskOf (take (t .args .len) M)) h (record { entered = e; inside = front ∙ c .before .before .before .before .before .before .before .before .before .before .before .before .before .before .before .before .start-codes .ensures }),
       ap (λ (l : List ℕ). l ++ drop (t .args .len) M) (c .before .before .before .before .before .before .before .before .before .before .before .before .before .before .before .before .start-codes .ensures),
     )

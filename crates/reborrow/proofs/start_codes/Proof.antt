@@ -1,14 +1,12 @@
-use Rattle.reborrow.proofs.Codes.{madeTo, next-made, all-made}
-use lib.ListN.{length, length-set}
+-- Before place i the codes are made, the rest of the mask is as it was.
 use Prim.Native.Nat.{_-_, _≤_}
 use mathlib.Core.Path.{_≡_, refl, _∙_}
-use borrow.Author.Needs.{needs}
 use native.Mathlib.Omega.{arith}
+use borrow.Author.Needs.{needs}
+use lib.ListN.{length, length-set}
+use Rattle.reborrow.proofs.Codes.{madeTo, next-made, all-made}
 use Rattle.reborrow.proofs.start_codes.Statement.{statement}
 use Rattle.reborrow.proofs.start_codes.Tie as tie
-use Rattle.reborrow.proofs.start_codes.Reads as reads
-use Rattle.reborrow.proofs.start_codes.Lts as lts
-use Rattle.permission.proofs.start_code.Reads as start-code-reads
 
 abbrev Inv-loop : tie.InvT-loop
 Inv-loop mask₀ pointer protected i₀ mask i = (i ≤ length mask₀) × (length mask ≡ length mask₀) × (mask ≡ madeTo pointer protected mask₀ i)
@@ -16,42 +14,33 @@ Inv-loop mask₀ pointer protected i₀ mask i = (i ≤ length mask₀) × (leng
 abbrev μ-loop : tie.MeasureT-loop
 μ-loop mask₀ pointer protected i₀ mask i = length mask₀ - i
 
--- src/lib.rt:47:5
 loop-holds : tie.Need-loop-holds Inv-loop μ-loop
 loop-holds c = (omega arith, refl, refl)
 
--- src/lib.rt:48:62
 slice-read-start-code : tie.Need-slice-read-start-code Inv-loop μ-loop
 slice-read-start-code c = search needs
 
--- src/lib.rt:48:19
 start-code-requires : tie.Need-start-code-requires Inv-loop μ-loop
 start-code-requires c κs = search needs
 
--- src/lib.rt:48:9
 slice-write-mask : tie.Need-slice-write-mask Inv-loop μ-loop
 slice-write-mask c = search needs
 
--- src/lib.rt:49:9
 add-i : tie.Need-add-i Inv-loop μ-loop
 add-i c = search needs
 
--- src/lib.rt:47:5
 loop-less : tie.Need-loop-less Inv-loop μ-loop
 loop-less c = search needs
 
--- src/lib.rt:47:5
 loop-again : tie.Need-loop-again Inv-loop μ-loop
-loop-again c = 
+loop-again c =
     let s = c .before .before .before .before .before in
     let l = c .before .before .before .loop in
     (omega arith, length-set (l .mask) (l .i) _ ∙ l .inv .1, next-made (s .args .pointer) (s .args .protected) (s .args .mask .now) (l .i) _ (l .mask) (omega arith) (l .inv .2) (c .start-code .ensures))
 
--- src/lib.rt:41:1
 same-length : tie.Need-same-length Inv-loop μ-loop
 same-length c = c .before .loop .inv .1
 
--- src/lib.rt:41:1
 returns : tie.Need-returns Inv-loop μ-loop
 returns c = let l = c .before .loop in l .inv .2 ∙ all-made (c .before .before .before .args .pointer) (c .before .before .before .args .protected) (c .before .before .before .args .mask .now) (l .i) (omega arith)
 

@@ -1,23 +1,23 @@
-use Prim.Native.Nat.{_+_, _-_, _≤_}
+-- The invariant: what is left of the visit, from m on, leaves what the whole visit leaves. The number of later nodes falls.
+use Prim.Native.Nat.{_+_, _-_, _≤_, ℕ, _<_}
 use mathlib.Core.Path.{_≡_, refl, sym, ap, _∙_}
 use mathlib.Core.Logic.{⊎-elim}
 use native.Mathlib.Omega.{arith}
 use borrow.Author.Needs.{needs}
-use lib.ListN.{length, getD, drop}
-use Rattle.definition.proofs.Order.{walk}
-use Rattle.tree.specs.Walk.{walkRefusal, walkAfter, subtree}
-use Rattle.tree.proofs.Places.{ready-again}
-use Rattle.tree.proofs.Walks.{answer-here, answer-later, first-child, first-spared, first-other, first-end, first-subtree, after-child, after-spared, after-other, after-end, after-subtree}
-use Prim.Native.Nat.{ℕ, _<_}
-use borrow.Fn.Kinds.{In}
 use borrow.Fn.PlainCycle.{Measures, is, falls, and}
+use lib.ListN.{length, drop}
+use Rattle.definition.proofs.Order.{walk}
+use Rattle.tree.specs.Walk.{walkAfter}
+use Rattle.tree.proofs.Places.{ready-again}
+use Rattle.tree.proofs.Walks.{after-child, after-spared, after-other, after-end, after-subtree}
+use borrow.Fn.Kinds.{In}
+use Rattle.tree.proofs.+apply_from.{statement}
+use Rattle.tree.proofs.+apply_from.Tie.{close}
 use Rattle.tree.proofs.apply_from.Reads as apply-from
 use Rattle.tree.proofs.apply_from.Kinds as apply-from-kinds
 use Rattle.tree.proofs.+apply_from.Lts-apply_from as apply-from-lts
 use Rattle.tree.proofs.apply_node.Reads as apply-node-reads
 use Rattle.tree.proofs.wide.Reads as wide-reads
-use Rattle.tree.proofs.+apply_from.{statement}
-use Rattle.tree.proofs.+apply_from.Tie.{close}
 
 abbrev μ-apply-from : Measures 3 apply-from-kinds.ps ℕ
 μ-apply-from κs a = length (a .0 .now) - a .1 .1 .1 .1 .0
@@ -38,44 +38,34 @@ apply-from-Inv-loop parents codes₀ starts v n spared m₀ codes m =
 abbrev apply-from-μ-loop : apply-from-lts.MeasureT-loop
 apply-from-μ-loop parents codes₀ starts v n spared m₀ codes m = length parents - m
 
--- src/lib.rt:189:5
 apply-from-apply-node-requires : (t : ℕ) → apply-from-lts.Need-apply-node-requires (apply-node-reads.Asked, apply-node-reads.Learnt, wide-reads.Asked, wide-reads.Learnt, apply-from-below t, apply-from.Post) (apply-from-at t) apply-from.Post apply-from-Inv-loop apply-from-μ-loop
 apply-from-apply-node-requires t c κs = search needs
 
--- src/lib.rt:191:17
 apply-from-add-m : (t : ℕ) → apply-from-lts.Need-add-m (apply-node-reads.Asked, apply-node-reads.Learnt, wide-reads.Asked, wide-reads.Learnt, apply-from-below t, apply-from.Post) (apply-from-at t) apply-from.Post apply-from-Inv-loop apply-from-μ-loop
 apply-from-add-m t c = search needs
 
--- src/lib.rt:192:5
 apply-from-loop-holds : (t : ℕ) → apply-from-lts.Need-loop-holds (apply-node-reads.Asked, apply-node-reads.Learnt, wide-reads.Asked, wide-reads.Learnt, apply-from-below t, apply-from.Post) (apply-from-at t) apply-from.Post apply-from-Inv-loop apply-from-μ-loop
 apply-from-loop-holds t c = (omega arith, omega arith, refl, refl)
 
--- src/lib.rt:193:17
 apply-from-mul-wide : (t : ℕ) → apply-from-lts.Need-mul-wide (apply-node-reads.Asked, apply-node-reads.Learnt, wide-reads.Asked, wide-reads.Learnt, apply-from-below t, apply-from.Post) (apply-from-at t) apply-from.Post apply-from-Inv-loop apply-from-μ-loop
 apply-from-mul-wide t c = search needs
 
--- src/lib.rt:193:17
 apply-from-shared-slice-read-wide : (t : ℕ) → apply-from-lts.Need-shared-slice-read-wide (apply-node-reads.Asked, apply-node-reads.Learnt, wide-reads.Asked, wide-reads.Learnt, apply-from-below t, apply-from.Post) (apply-from-at t) apply-from.Post apply-from-Inv-loop apply-from-μ-loop
 apply-from-shared-slice-read-wide t c = search needs
 
--- src/lib.rt:193:12
 apply-from-wide-requires : (t : ℕ) → apply-from-lts.Need-wide-requires (apply-node-reads.Asked, apply-node-reads.Learnt, wide-reads.Asked, wide-reads.Learnt, apply-from-below t, apply-from.Post) (apply-from-at t) apply-from.Post apply-from-Inv-loop apply-from-μ-loop
 apply-from-wide-requires t c κs = search needs
 
--- src/lib.rt:195:17
 apply-from-apply-from-requires : (t : ℕ) → apply-from-lts.Need-apply-from-requires (apply-node-reads.Asked, apply-node-reads.Learnt, wide-reads.Asked, wide-reads.Learnt, apply-from-below t, apply-from.Post) (apply-from-at t) apply-from.Post apply-from-Inv-loop apply-from-μ-loop
 apply-from-apply-from-requires t c κs =
     (omega arith, (ready-again _ _ _ _ (c .before .before .before .before .before .before .loop .inv .2 ∙ c .before .before .before .before .before .before .before .before .before .apply-node .kept .1 .0) (c .before .before .before .before .before .before .before .before .before .before .before .before .before .before .pre .1 .0), omega arith))
 
--- src/lib.rt:198:9
 apply-from-add-m-2 : (t : ℕ) → apply-from-lts.Need-add-m-2 (apply-node-reads.Asked, apply-node-reads.Learnt, wide-reads.Asked, wide-reads.Learnt, apply-from-below t, apply-from.Post) (apply-from-at t) apply-from.Post apply-from-Inv-loop apply-from-μ-loop
 apply-from-add-m-2 t c = search needs
 
--- src/lib.rt:192:5
 apply-from-loop-less : (t : ℕ) → apply-from-lts.Need-loop-less (apply-node-reads.Asked, apply-node-reads.Learnt, wide-reads.Asked, wide-reads.Learnt, apply-from-below t, apply-from.Post) (apply-from-at t) apply-from.Post apply-from-Inv-loop apply-from-μ-loop
 apply-from-loop-less t c = search needs
 
--- src/lib.rt:192:5
 apply-from-loop-again : (t : ℕ) → apply-from-lts.Need-loop-again (apply-node-reads.Asked, apply-node-reads.Learnt, wide-reads.Asked, wide-reads.Learnt, apply-from-below t, apply-from.Post) (apply-from-at t) apply-from.Post apply-from-Inv-loop apply-from-μ-loop
 apply-from-loop-again t c =
     let s = c .before .before .before .before .before .before .before .before .before .before .before .before in
@@ -102,11 +92,9 @@ apply-from-loop-again t c =
           ∙ l .inv .3,
     )
 
--- src/lib.rt:184:1
 apply-from-same-length : (t : ℕ) → apply-from-lts.Need-same-length (apply-node-reads.Asked, apply-node-reads.Learnt, wide-reads.Asked, wide-reads.Learnt, apply-from-below t, apply-from.Post) (apply-from-at t) apply-from.Post apply-from-Inv-loop apply-from-μ-loop
 apply-from-same-length t c = c .before .loop .inv .2 ∙ c .before .before .before .before .apply-node .kept .1 .0
 
--- src/lib.rt:184:1
 apply-from-returns : (t : ℕ) → apply-from-lts.Need-returns (apply-node-reads.Asked, apply-node-reads.Learnt, wide-reads.Asked, wide-reads.Learnt, apply-from-below t, apply-from.Post) (apply-from-at t) apply-from.Post apply-from-Inv-loop apply-from-μ-loop
 apply-from-returns t c =
     let s = c .before .before .before .before .before .before .before .before .before in

@@ -1,23 +1,22 @@
-use Prim.Native.Nat.{_+_, _-_, _≤_}
-use mathlib.Core.Path.{_≡_, refl, sym, ap, _∙_}
+-- The invariant: the first refusal of what is left, from m on, is that of the whole. The number of later nodes falls.
+use Prim.Native.Nat.{_+_, _-_, _≤_, ℕ, _<_}
+use mathlib.Core.Path.{_≡_, refl, sym, _∙_}
 use mathlib.Core.Logic.{⊎-elim}
 use native.Mathlib.Omega.{arith}
 use borrow.Author.Needs.{needs}
-use lib.ListN.{length, getD, drop}
-use Rattle.definition.proofs.Order.{walk}
-use Rattle.tree.specs.Walk.{walkRefusal, walkAfter, subtree}
-use Rattle.tree.proofs.Places.{ready-again}
-use Rattle.tree.proofs.Walks.{answer-here, answer-later, first-child, first-spared, first-other, first-end, first-subtree, after-child, after-spared, after-other, after-end, after-subtree}
-use Prim.Native.Nat.{ℕ, _<_}
-use borrow.Fn.Kinds.{In}
 use borrow.Fn.PlainCycle.{Measures, is, falls, and}
+use lib.ListN.{length, drop}
+use Rattle.definition.proofs.Order.{walk}
+use Rattle.tree.specs.Walk.{walkRefusal, subtree}
+use Rattle.tree.proofs.Walks.{answer-here, answer-later, first-child, first-spared, first-other, first-end, first-subtree}
+use borrow.Fn.Kinds.{In}
+use Rattle.tree.proofs.+check_from.{statement}
+use Rattle.tree.proofs.+check_from.Tie.{close}
 use Rattle.tree.proofs.check_from.Reads as check-from
 use Rattle.tree.proofs.check_from.Kinds as check-from-kinds
 use Rattle.tree.proofs.+check_from.Lts-check_from as check-from-lts
 use Rattle.tree.proofs.check_node.Reads as check-node-reads
 use Rattle.tree.proofs.wide.Reads as wide-reads
-use Rattle.tree.proofs.+check_from.{statement}
-use Rattle.tree.proofs.+check_from.Tie.{close}
 
 abbrev μ-check-from : Measures 3 check-from-kinds.ps ℕ
 μ-check-from κs a = length (a .0 .now) - a .1 .1 .1 .1 .0
@@ -38,21 +37,17 @@ check-from-Inv-loop parents codes starts v n here spared m₀ m =
 abbrev check-from-μ-loop : check-from-lts.MeasureT-loop
 check-from-μ-loop parents codes starts v n here spared m₀ m = length parents - m
 
--- src/lib.rt:163:9
 check-from-check-node-requires : (t : ℕ) → check-from-lts.Need-check-node-requires (check-node-reads.Asked, check-node-reads.Learnt, wide-reads.Asked, wide-reads.Learnt, check-from-below t, check-from.Post) (check-from-at t) check-from.Post check-from-Inv-loop check-from-μ-loop
 check-from-check-node-requires t c κs = search needs
 
--- src/lib.rt:165:9
 check-from-returns : (t : ℕ) → check-from-lts.Need-returns (check-node-reads.Asked, check-node-reads.Learnt, wide-reads.Asked, wide-reads.Learnt, check-from-below t, check-from.Post) (check-from-at t) check-from.Post check-from-Inv-loop check-from-μ-loop
 check-from-returns t c =
     let s = c .before .before .before .before .before in
     answer-here (c .before .check-node .result) _ _ (c .before .check-node .ensures) (c .if1 .taken) ∙ sym (first-subtree (s .args .v) (s .args .parents .now) (s .args .starts .now) (s .args .codes .now) (s .args .n))
 
--- src/lib.rt:168:17
 check-from-add-m : (t : ℕ) → check-from-lts.Need-add-m (check-node-reads.Asked, check-node-reads.Learnt, wide-reads.Asked, wide-reads.Learnt, check-from-below t, check-from.Post) (check-from-at t) check-from.Post check-from-Inv-loop check-from-μ-loop
 check-from-add-m t c = search needs
 
--- src/lib.rt:169:5
 check-from-loop-holds : (t : ℕ) → check-from-lts.Need-loop-holds (check-node-reads.Asked, check-node-reads.Learnt, wide-reads.Asked, wide-reads.Learnt, check-from-below t, check-from.Post) (check-from-at t) check-from.Post check-from-Inv-loop check-from-μ-loop
 check-from-loop-holds t c =
     let s = c .before .before .before .before .before in (
@@ -61,23 +56,18 @@ check-from-loop-holds t c =
       answer-later (c .before .check-node .result) _ _ _ (c .before .check-node .ensures) (c .if1 .left) refl ∙ sym (first-subtree (s .args .v) (s .args .parents .now) (s .args .starts .now) (s .args .codes .now) (s .args .n)),
     )
 
--- src/lib.rt:170:17
 check-from-mul-wide : (t : ℕ) → check-from-lts.Need-mul-wide (check-node-reads.Asked, check-node-reads.Learnt, wide-reads.Asked, wide-reads.Learnt, check-from-below t, check-from.Post) (check-from-at t) check-from.Post check-from-Inv-loop check-from-μ-loop
 check-from-mul-wide t c = search needs
 
--- src/lib.rt:170:17
 check-from-shared-slice-read-wide : (t : ℕ) → check-from-lts.Need-shared-slice-read-wide (check-node-reads.Asked, check-node-reads.Learnt, wide-reads.Asked, wide-reads.Learnt, check-from-below t, check-from.Post) (check-from-at t) check-from.Post check-from-Inv-loop check-from-μ-loop
 check-from-shared-slice-read-wide t c = search needs
 
--- src/lib.rt:170:12
 check-from-wide-requires : (t : ℕ) → check-from-lts.Need-wide-requires (check-node-reads.Asked, check-node-reads.Learnt, wide-reads.Asked, wide-reads.Learnt, check-from-below t, check-from.Post) (check-from-at t) check-from.Post check-from-Inv-loop check-from-μ-loop
 check-from-wide-requires t c κs = search needs
 
--- src/lib.rt:172:21
 check-from-check-from-requires : (t : ℕ) → check-from-lts.Need-check-from-requires (check-node-reads.Asked, check-node-reads.Learnt, wide-reads.Asked, wide-reads.Learnt, check-from-below t, check-from.Post) (check-from-at t) check-from.Post check-from-Inv-loop check-from-μ-loop
 check-from-check-from-requires t c κs = (omega arith, (c .before .before .before .before .before .before .before .before .before .before .before .pre .1 .0, omega arith))
 
--- src/lib.rt:174:21
 check-from-returns-2 : (t : ℕ) → check-from-lts.Need-returns-2 (check-node-reads.Asked, check-node-reads.Learnt, wide-reads.Asked, wide-reads.Learnt, check-from-below t, check-from.Post) (check-from-at t) check-from.Post check-from-Inv-loop check-from-μ-loop
 check-from-returns-2 t c =
     let s = c .before .before .before .before .before .before .before .before .before .before .before .before .before in
@@ -86,15 +76,12 @@ check-from-returns-2 t c =
     ∙ sym (first-child (s .args .v) (s .args .parents .now) (s .args .starts .now) (s .args .codes .now) (s .args .n) (l .m) (omega arith) (sym (c .before .before .before .before .wide .ensures) ∙ c .before .before .before .if2 .taken) (c .before .before .if3 .taken))
     ∙ l .inv .2
 
--- src/lib.rt:178:9
 check-from-add-m-2 : (t : ℕ) → check-from-lts.Need-add-m-2 (check-node-reads.Asked, check-node-reads.Learnt, wide-reads.Asked, wide-reads.Learnt, check-from-below t, check-from.Post) (check-from-at t) check-from.Post check-from-Inv-loop check-from-μ-loop
 check-from-add-m-2 t c = search needs
 
--- src/lib.rt:169:5
 check-from-loop-less : (t : ℕ) → check-from-lts.Need-loop-less (check-node-reads.Asked, check-node-reads.Learnt, wide-reads.Asked, wide-reads.Learnt, check-from-below t, check-from.Post) (check-from-at t) check-from.Post check-from-Inv-loop check-from-μ-loop
 check-from-loop-less t c = search needs
 
--- src/lib.rt:169:5
 check-from-loop-again : (t : ℕ) → check-from-lts.Need-loop-again (check-node-reads.Asked, check-node-reads.Learnt, wide-reads.Asked, wide-reads.Learnt, check-from-below t, check-from.Post) (check-from-at t) check-from.Post check-from-Inv-loop check-from-μ-loop
 check-from-loop-again t c =
     let s = c .before .before .before .before .before .before .before .before .before .before in
@@ -112,11 +99,12 @@ check-from-loop-again t c =
           ∙ l .inv .2,
     )
 
--- src/lib.rt:158:1
 check-from-returns-3 : (t : ℕ) → check-from-lts.Need-returns-3 (check-node-reads.Asked, check-node-reads.Learnt, wide-reads.Asked, wide-reads.Learnt, check-from-below t, check-from.Post) (check-from-at t) check-from.Post check-from-Inv-loop check-from-μ-loop
 check-from-returns-3 t c =
     let s = c .before .before .before .before .before .before .before in
-    sym (first-end (s .args .v) (s .args .parents .now) (s .args .starts .now) (s .args .codes .now) (s .args .n) (c .before .loop .m) (c .loop-test .left)) ∙ c .before .loop .inv .2
+    c .before .before .if1 .left
+    ∙ sym (first-end (s .args .v) (s .args .parents .now) (s .args .starts .now) (s .args .codes .now) (s .args .n) (c .before .loop .m) (c .loop-test .left))
+    ∙ c .before .loop .inv .2
 
 pub +check-from-spec : {M : Type 1} → statement M
 +check-from-spec = close μ-check-from λ t. check-from-lts.spec (check-node-reads.Asked, check-node-reads.Learnt, wide-reads.Asked, wide-reads.Learnt, check-from-below t, check-from.Post)

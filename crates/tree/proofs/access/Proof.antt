@@ -1,36 +1,26 @@
-use Rattle.tree.proofs.Visits.{visit-accepted, visit-refused}
-use native.Mathlib.Omega.{arith}
+-- Refused, the table is as it was; else it is the visit's.
 use borrow.Author.Needs.{needs}
+use Rattle.tree.proofs.Visits.{visit-accepted, visit-refused}
 use Rattle.tree.proofs.access.Statement.{statement}
 use Rattle.tree.proofs.access.Tie as tie
-use Rattle.tree.proofs.access.Reads as reads
-use Rattle.tree.proofs.access.Lts as lts
-use Rattle.tree.proofs.access_refusal.Reads as access-refusal-reads
-use Rattle.tree.proofs.apply_access.Reads as apply-access-reads
 
--- src/lib.rt:258:9
 access-refusal-requires : tie.Need-access-refusal-requires
 access-refusal-requires c κs = search needs
 
--- src/lib.rt:260:9
 apply-access-requires : tie.Need-apply-access-requires
 apply-access-requires c κs = search needs
 
--- src/lib.rt:253:1
 same-length : tie.Need-same-length
 same-length c = search needs
 
--- src/lib.rt:253:1
 returns : tie.Need-returns
-returns c = 
+returns c =
     λ nodes holds.
     visit-accepted _ nodes (c .before .before .before .before .before .access-refusal .result) _ (c .before .before .before .before .before .access-refusal .ensures nodes holds) (c .before .before .before .before .if1 .taken) (c .before .before .apply-access .ensures nodes holds)
 
--- src/lib.rt:253:1
 same-length-2 : tie.Need-same-length-2
 same-length-2 c = search needs
 
--- src/lib.rt:253:1
 returns-2 : tie.Need-returns-2
 returns-2 c = λ nodes holds. visit-refused _ nodes (c .before .access-refusal .result) _ (c .before .access-refusal .ensures nodes holds) (c .if1 .left) (holds .table .rows)
 

@@ -1,61 +1,45 @@
-use Rattle.permission.specs.Codes.{endAccessCode, initAccessCode}
-use lib.ListN.{List·getD-eq-default}
+-- Each arm reads its access from the code at byte k; past the lent row there is none.
 use mathlib.Core.Path.{sym, ap}
-use native.Mathlib.Omega.{arith}
 use borrow.Author.Needs.{needs}
+use lib.ListN.{List·getD-eq-default}
+use Rattle.permission.specs.Codes.{endAccessCode, initAccessCode}
 use Rattle.tree.proofs.access_at.Statement.{statement}
 use Rattle.tree.proofs.access_at.Tie as tie
-use Rattle.tree.proofs.access_at.Reads as reads
-use Rattle.tree.proofs.access_at.Lts as lts
-use Rattle.permission.proofs.end_access.Reads as end-access-reads
-use Rattle.permission.proofs.init_access.Reads as init-access-reads
 
--- src/lib.rt:48:24
 enum-known-what : tie.Need-enum-known-what
 enum-known-what c = search needs
 
--- src/lib.rt:50:20
 enum-told : tie.Need-enum-told
 enum-told c = search needs
 
--- src/lib.rt:51:40
 shared-slice-read-end-access : tie.Need-shared-slice-read-end-access
 shared-slice-read-end-access c = search needs
 
--- src/lib.rt:51:17
 end-access-requires : tie.Need-end-access-requires
 end-access-requires c κs = search needs
 
--- src/lib.rt:57:20
 enum-told-2 : tie.Need-enum-told-2
 enum-told-2 c = search needs
 
--- src/lib.rt:58:41
 shared-slice-read-init-access : tie.Need-shared-slice-read-init-access
 shared-slice-read-init-access c = search needs
 
--- src/lib.rt:58:17
 init-access-requires : tie.Need-init-access-requires
 init-access-requires c κs = search needs
 
--- src/lib.rt:44:1
 returns : tie.Need-returns
 returns c = rw (c .before .what .given .1)
 
--- src/lib.rt:44:1
 returns-2 : tie.Need-returns-2
 returns-2 c = rw (c .before .before .before .enum-told .given .1) (c .end-access .ensures)
 
--- src/lib.rt:44:1
 returns-3 : tie.Need-returns-3
 unfolding endAccessCode
 returns-3 c = rw (c .before .enum-told .given .1) (sym (ap endAccessCode (List·getD-eq-default (c .before .before .before .before .args .starts .now) 0 (c .if1 .left))))
 
--- src/lib.rt:44:1
 returns-4 : tie.Need-returns-4
 returns-4 c = rw (c .before .before .before .enum-told2 .given .1) (c .init-access .ensures)
 
--- src/lib.rt:44:1
 returns-5 : tie.Need-returns-5
 unfolding initAccessCode
 returns-5 c = rw (c .before .enum-told2 .given .1) (sym (ap initAccessCode (List·getD-eq-default (c .before .before .before .before .args .starts .now) 0 (c .if2 .left))))

@@ -1,31 +1,24 @@
-use mathlib.Core.Path.{_≡_, refl, sym, ap, _∙_}
-use Rattle.tree.proofs.Meaning.{means-refusal, means-after}
-use Rattle.tree.proofs.Visits.{held-ready, means-bytes}
-use native.Mathlib.Omega.{arith}
+-- The change from the root is the definition's visit (Meaning).
+use mathlib.Core.Path.{_∙_}
 use borrow.Author.Needs.{needs}
+use Rattle.tree.proofs.Meaning.{means-after}
+use Rattle.tree.proofs.Visits.{held-ready, means-bytes}
 use Rattle.tree.proofs.apply_access.Statement.{statement}
 use Rattle.tree.proofs.apply_access.Tie as tie
-use Rattle.tree.proofs.apply_access.Reads as reads
-use Rattle.tree.proofs.apply_access.Lts as lts
-use Rattle.tree.proofs.apply_from.Reads as apply-from-reads
 
--- src/lib.rt:249:32
 slice-aggregate-apply-from : tie.Need-slice-aggregate-apply-from
 slice-aggregate-apply-from c = search needs
 
--- src/lib.rt:249:5
 apply-from-requires : tie.Need-apply-from-requires
-apply-from-requires c κs = 
+apply-from-requires c κs =
     let s = c .before .before .before .before in
     (held-ready _ (s .pre .0 .0) _ _ (s .pre .0 .1) (s .pre .1 .0) (s .pre .1 .1), s .pre .0 .1 .root)
 
--- src/lib.rt:235:1
 same-length : tie.Need-same-length
 same-length c = search needs
 
--- src/lib.rt:235:1
 returns : tie.Need-returns
-returns c = 
+returns c =
     let s = c .before .before .before .before .before .before .before in
     λ nodes holds.
     c .before .before .apply-from .ensures

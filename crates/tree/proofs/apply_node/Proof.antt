@@ -1,13 +1,13 @@
+-- The part that is lent is the node's row, and it is given back changed.
 use Prim.Native.Nat.{ℕ, _+_, _-_, _*_, _≤_}
-use mathlib.Core.Path.{_≡_, ap, ap₂, _∙_}
+use mathlib.Core.Path.{ap, ap₂, _∙_}
 use mathlib.Core.List.{List, _++_}
 use native.Mathlib.Omega.{arith}
-use lib.ListN.{length, take, drop}
-use lib.Seq.{slice}
-use Rattle.definition.specs.Permission.{NodeRelation}
-use Rattle.tree.specs.Walk.{rowRefusal, nodeRefusal, nodeAfter, rowAfter}
-use Rattle.tree.proofs.Places.{row-in, width-of}
 use borrow.Author.Needs.{needs}
+use lib.ListN.{length, take, drop}
+use Rattle.definition.specs.Permission.{NodeRelation}
+use Rattle.tree.specs.Walk.{nodeAfter, rowAfter}
+use Rattle.tree.proofs.Places.{row-in, width-of}
 use Rattle.tree.proofs.apply_node.Statement.{statement}
 use Rattle.tree.proofs.apply_node.Tie as tie
 use Rattle.tree.proofs.apply_node.Reads as reads
@@ -20,39 +20,30 @@ ends : (s : lts.Start (relation-reads.Asked, relation-reads.Learnt, apply-row-re
     → s .args .n * s .args .v .width + s .args .v .width ≤ length (s .args .codes .now)
 ends s = row-in (s .args .v) (s .args .parents .now) (s .args .codes .now) (s .args .n) (s .pre .0) (s .pre .1)
 
--- src/lib.rt:151:17
 mul-start : tie.Need-mul-start
 mul-start c = omega (arith, ends (c .before .before .before))
 
--- src/lib.rt:152:15
 add-end : tie.Need-add-end
 add-end c = omega (arith, ends (c .before .before .before))
 
--- src/lib.rt:153:9
 relation-requires : tie.Need-relation-requires
 relation-requires c κs = search needs
 
--- src/lib.rt:154:15
 sub-apply-row : tie.Need-sub-apply-row
 sub-apply-row c = search needs
 
--- src/lib.rt:154:15
 part-apply-row-start : tie.Need-part-apply-row-start
 part-apply-row-start c = search needs
 
--- src/lib.rt:154:15
 part-apply-row-end : tie.Need-part-apply-row-end
 part-apply-row-end c = ends (c .before .before .before .before)
 
--- src/lib.rt:154:5
 apply-row-requires : tie.Need-apply-row-requires
 apply-row-requires c κs = search needs
 
--- src/lib.rt:145:1
 same-length : tie.Need-same-length
 same-length c = search needs
 
--- src/lib.rt:145:1
 returns : tie.Need-returns
 unfolding nodeAfter
 returns c =

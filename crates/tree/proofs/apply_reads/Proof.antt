@@ -1,27 +1,21 @@
+-- The change from the root is the visit that makes all the reads at once (Meaning).
 use mathlib.Core.Path.{_∙_}
+use borrow.Author.Needs.{needs}
 use Rattle.tree.proofs.Meaning.{means-after}
 use Rattle.tree.proofs.Visits.{held-ready, means-reads}
-use native.Mathlib.Omega.{arith}
-use borrow.Author.Needs.{needs}
 use Rattle.tree.proofs.apply_reads.Statement.{statement}
 use Rattle.tree.proofs.apply_reads.Tie as tie
-use Rattle.tree.proofs.apply_reads.Reads as reads
-use Rattle.tree.proofs.apply_reads.Lts as lts
-use Rattle.tree.proofs.apply_from.Reads as apply-from-reads
 
--- src/lib.rt:367:5
 apply-from-requires : tie.Need-apply-from-requires
-apply-from-requires c κs = 
+apply-from-requires c κs =
     let s = c .before .before .before .before in
     (held-ready _ (s .pre .0 .0) _ _ (s .pre .0 .1) (s .pre .1 .0) (s .pre .1 .1), s .pre .0 .1 .root)
 
--- src/lib.rt:354:1
 same-length : tie.Need-same-length
 same-length c = search needs
 
--- src/lib.rt:354:1
 returns : tie.Need-returns
-returns c = 
+returns c =
     let s = c .before .before .before .before .before .before .before in
     λ nodes holds.
     c .before .before .apply-from .ensures

@@ -1,16 +1,17 @@
-use Rattle.tree.proofs.Meaning.{means-after}
-use Rattle.tree.proofs.Visits.{held-ready, means-release}
-use Rattle.definition.specs.Memory.Liveness.{Live}
-use Rattle.permission.specs.Codes.{unprotectedCode}
-use mathlib.Core.List.{List, map}
-use lib.ListN.{length}
-use Prim.Native.Nat.{ℕ, _+_, _*_, _≤_}
-use Rattle.tree.proofs.Releases.{held-row, lacks-mark, lacks-code, root-lacks, unprotected-table, unprotected-holds, released-marks, dead-marks, spared-unread, release-16, release-visits, release-accepted, release-refused}
-use Rattle.tree.proofs.Places.{width-of, part-row, put-back}
-use Rattle.tree.proofs.Held.{held-fits, held-count, marks-count, held-marks}
-use mathlib.Core.Path.{_≡_, refl, sym, ap, ap₂, _∙_}
+-- The table with the row unprotected holds the nodes with that node unprotected; the visit then leaves the definition's.
+use Prim.Native.Nat.{_+_, _*_, _≤_}
+use mathlib.Core.List.{map}
+use mathlib.Core.Path.{_∙_}
 use native.Mathlib.Omega.{arith}
 use borrow.Author.Needs.{needs}
+use lib.ListN.{length}
+use Rattle.definition.specs.Memory.Liveness.{Live}
+use Rattle.permission.specs.Codes.{unprotectedCode}
+use Rattle.tree.proofs.Meaning.{means-after}
+use Rattle.tree.proofs.Visits.{held-ready, means-release}
+use Rattle.tree.proofs.Releases.{held-row, unprotected-table, unprotected-holds}
+use Rattle.tree.proofs.Places.{put-back}
+use Rattle.tree.proofs.Held.{held-fits, held-count}
 use Rattle.tree.proofs.apply_release.Statement.{statement}
 use Rattle.tree.proofs.apply_release.Tie as tie
 use Rattle.tree.proofs.apply_release.Reads as reads
@@ -22,52 +23,45 @@ use Rattle.tree.proofs.unprotect_row.Reads as unprotect-row-reads
 ends : (s : lts.Start (unprotect-row-reads.Asked, unprotect-row-reads.Learnt, apply-from-reads.Asked, apply-from-reads.Learnt) reads.Pre reads.Post) → s .args .node * s .args .width + s .args .width ≤ length (s .args .codes .now)
 ends s = held-fits (s .pre .0 .0) (s .args .width) (s .args .codes .now) (s .pre .0 .1 .table) (s .args .node) (omega (arith, held-count (s .pre .0 .1)))
 
--- src/lib.rt:450:17
 mul-start : tie.Need-mul-start
 mul-start c = omega (arith, ends (c .before .before .before))
 
--- src/lib.rt:451:15
 add-end : tie.Need-add-end
 add-end c = omega (arith, ends (c .before .before .before))
 
--- src/lib.rt:452:19
 sub-unprotect-row : tie.Need-sub-unprotect-row
 sub-unprotect-row c = search needs
 
--- src/lib.rt:452:19
 part-unprotect-row-start : tie.Need-part-unprotect-row-start
 part-unprotect-row-start c = search needs
 
--- src/lib.rt:452:19
 part-unprotect-row-end : tie.Need-part-unprotect-row-end
 part-unprotect-row-end c = ends (c .before .before .before)
 
--- src/lib.rt:452:5
 unprotect-row-requires : tie.Need-unprotect-row-requires
 unprotect-row-requires c κs = search needs
 
--- src/lib.rt:461:5
 apply-from-requires : tie.Need-apply-from-requires
-apply-from-requires c κs = 
+apply-from-requires c κs =
     let s = c .before .before .before .before .before .before .before .before in
     let n = s .args .node in
     let width = s .args .width in
     let codes = s .args .codes .now in
     let nodes = s .pre .0 .0 in
     let held = s .pre .0 .1 in
-    let l = held-count held in
-    (held-ready _ _ _ _
-    (unprotected-holds Live nodes width codes (held .table) n (omega arith) (s .args .parents .now) _ held
-    (put-back (map unprotectedCode) width n codes _ (c .before .before .before .unprotect-row .ensures) ∙ unprotected-table Live nodes width codes (held .table) n (omega arith)))
-    (s .pre .1 .0) (omega arith), held .root)
+    let l = held-count held in (
+      held-ready _ _ _ _
+          (unprotected-holds Live nodes width codes (held .table) n (omega arith) (s .args .parents .now) _ held
+          (put-back (map unprotectedCode) width n codes _ (c .before .before .before .unprotect-row .ensures) ∙ unprotected-table Live nodes width codes (held .table) n (omega arith)))
+          (s .pre .1 .0) (omega arith),
+      held .root,
+    )
 
--- src/lib.rt:445:1
 same-length : tie.Need-same-length
 same-length c = search needs
 
--- src/lib.rt:445:1
 returns : tie.Need-returns
-returns c = 
+returns c =
     let s = c .before .before .before .before .before .before .before .before .before .before .before in
     let n = s .args .node in
     let width = s .args .width in

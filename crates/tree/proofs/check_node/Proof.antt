@@ -1,13 +1,12 @@
+-- The part that is lent is the node's row.
 use Prim.Native.Nat.{ℕ, _+_, _-_, _*_, _≤_}
-use mathlib.Core.Path.{_≡_, ap, ap₂, _∙_}
-use mathlib.Core.List.{List, _++_}
+use mathlib.Core.Path.{ap₂, _∙_}
 use native.Mathlib.Omega.{arith}
-use lib.ListN.{length, take, drop}
-use lib.Seq.{slice}
-use Rattle.definition.specs.Permission.{NodeRelation}
-use Rattle.tree.specs.Walk.{rowRefusal, nodeRefusal, nodeAfter, rowAfter}
-use Rattle.tree.proofs.Places.{row-in, width-of}
 use borrow.Author.Needs.{needs}
+use lib.ListN.{length, take, drop}
+use Rattle.definition.specs.Permission.{NodeRelation}
+use Rattle.tree.specs.Walk.{rowRefusal, nodeRefusal}
+use Rattle.tree.proofs.Places.{row-in, width-of}
 use Rattle.tree.proofs.check_node.Statement.{statement}
 use Rattle.tree.proofs.check_node.Tie as tie
 use Rattle.tree.proofs.check_node.Reads as reads
@@ -20,35 +19,27 @@ ends : (s : lts.Start (relation-reads.Asked, relation-reads.Learnt, check-row-re
     → s .args .n * s .args .v .width + s .args .v .width ≤ length (s .args .codes .now)
 ends s = row-in (s .args .v) (s .args .parents .now) (s .args .codes .now) (s .args .n) (s .pre .0) (s .pre .1)
 
--- src/lib.rt:138:17
 mul-start : tie.Need-mul-start
 mul-start c = omega (arith, ends (c .before .before .before))
 
--- src/lib.rt:139:15
 add-end : tie.Need-add-end
 add-end c = omega (arith, ends (c .before .before .before))
 
--- src/lib.rt:140:9
 relation-requires : tie.Need-relation-requires
 relation-requires c κs = search needs
 
--- src/lib.rt:141:15
 sub-check-row : tie.Need-sub-check-row
 sub-check-row c = search needs
 
--- src/lib.rt:141:15
 part-check-row-start : tie.Need-part-check-row-start
 part-check-row-start c = search needs
 
--- src/lib.rt:141:15
 part-check-row-end : tie.Need-part-check-row-end
 part-check-row-end c = ends (c .before .before .before .before)
 
--- src/lib.rt:141:5
 check-row-requires : tie.Need-check-row-requires
 check-row-requires c κs = search needs
 
--- src/lib.rt:132:1
 returns : tie.Need-returns
 unfolding nodeRefusal
 returns c =

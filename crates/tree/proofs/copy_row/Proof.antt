@@ -1,13 +1,12 @@
-use Rattle.tree.proofs.Loops.{copiedTo, copied-to-length, copy-turn, copied-all}
-use lib.ListN.{length, getD, drop}
-use Prim.Native.Nat.{ℕ, _+_, _-_, _≤_, _<_}
-use mathlib.Core.Path.{_≡_, refl, sym, ap, _∙_}
-use borrow.Author.Needs.{needs}
+-- The bytes before i are copied.
+use Prim.Native.Nat.{_+_, _-_, _≤_}
+use mathlib.Core.Path.{_≡_, refl, ap, _∙_}
 use native.Mathlib.Omega.{arith}
+use borrow.Author.Needs.{needs}
+use lib.ListN.{length}
+use Rattle.tree.proofs.Loops.{copiedTo, copied-to-length, copy-turn, copied-all}
 use Rattle.tree.proofs.copy_row.Statement.{statement}
 use Rattle.tree.proofs.copy_row.Tie as tie
-use Rattle.tree.proofs.copy_row.Reads as reads
-use Rattle.tree.proofs.copy_row.Lts as lts
 
 abbrev Inv-loop : tie.InvT-loop
 Inv-loop row out₀ i₀ out i =
@@ -16,41 +15,33 @@ Inv-loop row out₀ i₀ out i =
 abbrev μ-loop : tie.MeasureT-loop
 μ-loop row out₀ i₀ out i = length row - i
 
--- src/lib.rt:390:5
 loop-holds : tie.Need-loop-holds Inv-loop μ-loop
 loop-holds c = (omega arith, refl, λ fits. refl)
 
--- src/lib.rt:391:18
 shared-slice-read-out : tie.Need-shared-slice-read-out Inv-loop μ-loop
 shared-slice-read-out c = search needs
 
--- src/lib.rt:391:9
 slice-write-out : tie.Need-slice-write-out Inv-loop μ-loop
 slice-write-out c = search needs
 
--- src/lib.rt:392:9
 add-i : tie.Need-add-i Inv-loop μ-loop
 add-i c = search needs
 
--- src/lib.rt:390:5
 loop-less : tie.Need-loop-less Inv-loop μ-loop
 loop-less c = search needs
 
--- src/lib.rt:390:5
 loop-again : tie.Need-loop-again Inv-loop μ-loop
-loop-again c = 
+loop-again c =
     let s = c .before .before .before in
     let l = c .before .before .loop in
     let e = copy-turn (s .args .row .now) (s .args .out .now) (s .pre) (l .i) (omega arith) (l .out) _ (l .inv .2 (s .pre)) refl in
     (omega arith, ap length e ∙ copied-to-length (s .args .row .now) (s .args .out .now) (s .pre) (l .i + 1) (omega arith), λ fits. e)
 
--- src/lib.rt:385:1
 same-length : tie.Need-same-length Inv-loop μ-loop
 same-length c = c .before .loop .inv .1
 
--- src/lib.rt:385:1
 returns : tie.Need-returns Inv-loop μ-loop
-returns c = 
+returns c =
     let s = c .before .before in
     let l = c .before .loop in
     l .inv .2 (s .pre) ∙ copied-all (s .args .row .now) (s .args .out .now) (s .pre) (l .i) (omega arith)

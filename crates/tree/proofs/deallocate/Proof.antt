@@ -1,56 +1,42 @@
-use Rattle.tree.proofs.Strong.{write-refused, strong-refused, write-accepted}
+-- The write is refused, or a strong protector prevents, or neither.
 use mathlib.Core.Path.{refl, sym, _∙_}
-use native.Mathlib.Omega.{arith}
 use borrow.Author.Needs.{needs}
+use Rattle.tree.proofs.Strong.{write-refused, strong-refused, write-accepted}
 use Rattle.tree.proofs.deallocate.Statement.{statement}
 use Rattle.tree.proofs.deallocate.Tie as tie
-use Rattle.tree.proofs.deallocate.Reads as reads
-use Rattle.tree.proofs.deallocate.Lts as lts
-use Rattle.tree.proofs.access_refusal.Reads as access-refusal-reads
-use Rattle.tree.proofs.apply_access.Reads as apply-access-reads
-use Rattle.tree.proofs.strong_protector_after_write.Reads as strong-protector-after-write-reads
 
--- src/lib.rt:317:9
 access-refusal-requires : tie.Need-access-refusal-requires
 access-refusal-requires c κs = search needs
 
--- src/lib.rt:319:9
 same-length : tie.Need-same-length
 same-length c = search needs
 
--- src/lib.rt:319:9
 returns : tie.Need-returns
-returns c = 
+returns c =
     let s = c .before .before .before .before .before .before in
     λ nodes held.
     write-refused nodes (s .args .node) (s .args .width) (c .before .access-refusal .result) _ (c .before .access-refusal .ensures nodes (held .holds)) (c .if1 .taken) (held .holds .table .rows)
 
--- src/lib.rt:321:8
 strong-protector-after-write-requires : tie.Need-strong-protector-after-write-requires
 strong-protector-after-write-requires c κs = search needs
 
--- src/lib.rt:322:9
 same-length-2 : tie.Need-same-length-2
 same-length-2 c = search needs
 
--- src/lib.rt:322:9
 returns-2 : tie.Need-returns-2
-returns-2 c = 
+returns-2 c =
     let s = c .before .before .before .before .before .before .before .before .before in
     λ nodes held.
     strong-refused nodes (s .args .node) (s .args .width) 24 _ (sym (c .before .before .before .before .access-refusal .ensures nodes (held .holds)) ∙ c .before .before .before .if1 .left) (sym (c .before .strong-protector-after-write .ensures nodes held) ∙ c .if2 .taken) refl (held .holds .table .rows)
 
--- src/lib.rt:324:5
 apply-access-requires : tie.Need-apply-access-requires
 apply-access-requires c κs = search needs
 
--- src/lib.rt:312:1
 same-length-3 : tie.Need-same-length-3
 same-length-3 c = search needs
 
--- src/lib.rt:312:1
 returns-3 : tie.Need-returns-3
-returns-3 c = 
+returns-3 c =
     let s = c .before .before .before .before .before .before .before .before .before .before .before .before .before in
     λ nodes held.
     write-accepted nodes (s .args .node) (s .args .width) 0 _ (sym (c .before .before .before .before .before .before .before .before .access-refusal .ensures nodes (held .holds)) ∙ c .before .before .before .before .before .before .before .if1 .left) (sym (c .before .before .before .before .before .strong-protector-after-write .ensures nodes held) ∙ c .before .before .before .before .if2 .left) refl (c .before .before .apply-access .ensures nodes (held .holds))

@@ -1,16 +1,15 @@
-use Rattle.permission.specs.Codes.{isProtectedCode}
-use Rattle.definition.specs.Notation.{any}
-use Prim.Native.Nat.{ℕ}
-use mathlib.Core.Bool.{not}
-use mathlib.Core.List.{List}
-use lib.ListN.{length}
+-- The mark, and then the row that the table holds.
 use Prim.Native.Nat.{_+_, _*_, _≤_}
-use Rattle.tree.proofs.Releases.{held-row, lacks-mark, lacks-code, root-lacks, unprotected-table, unprotected-holds, released-marks, dead-marks, spared-unread, release-16, release-visits, release-accepted, release-refused}
-use Rattle.tree.proofs.Places.{width-of, part-row, put-back}
-use Rattle.tree.proofs.Held.{held-fits, held-count, marks-count, held-marks}
-use mathlib.Core.Path.{_≡_, refl, sym, ap, ap₂, _∙_}
+use mathlib.Core.Bool.{not}
+use mathlib.Core.Path.{ap, _∙_}
 use native.Mathlib.Omega.{arith}
 use borrow.Author.Needs.{needs}
+use lib.ListN.{length}
+use Rattle.definition.specs.Notation.{any}
+use Rattle.permission.specs.Codes.{isProtectedCode}
+use Rattle.tree.proofs.Releases.{lacks-mark, lacks-code}
+use Rattle.tree.proofs.Places.{part-row}
+use Rattle.tree.proofs.Held.{held-fits, marks-count}
 use Rattle.tree.proofs.lacks_protector.Statement.{statement}
 use Rattle.tree.proofs.lacks_protector.Tie as tie
 use Rattle.tree.proofs.lacks_protector.Reads as reads
@@ -21,41 +20,32 @@ use Rattle.tree.proofs.has_unprotected.Reads as has-unprotected-reads
 ends : (s : lts.Start (has-unprotected-reads.Asked, has-unprotected-reads.Learnt) reads.Pre reads.Post) → s .args .node * s .args .width + s .args .width ≤ length (s .args .codes .now)
 ends s = held-fits (s .pre .0 .0) (s .args .width) (s .args .codes .now) (s .pre .0 .1 .table) (s .args .node) (omega (arith, marks-count (s .pre .0 .0) (s .args .protectors .now) (s .pre .0 .1 .marked)))
 
--- src/lib.rt:412:8
 shared-slice-read-if1 : tie.Need-shared-slice-read-if1
 shared-slice-read-if1 c = search needs
 
--- src/lib.rt:413:9
 returns : tie.Need-returns
 returns c = λ nodes held. let s = c .before .before .before .before in lacks-mark nodes (s .args .width) (s .args .protectors .now) (s .args .codes .now) held (s .args .node) (c .if1 .taken)
 
--- src/lib.rt:415:17
 mul-start : tie.Need-mul-start
 mul-start c = omega (arith, ends (c .before .before .before .before))
 
--- src/lib.rt:416:15
 add-end : tie.Need-add-end
 add-end c = omega (arith, ends (c .before .before .before .before))
 
--- src/lib.rt:417:21
 sub-has-unprotected : tie.Need-sub-has-unprotected
 sub-has-unprotected c = search needs
 
--- src/lib.rt:417:21
 part-has-unprotected-start : tie.Need-part-has-unprotected-start
 part-has-unprotected-start c = search needs
 
--- src/lib.rt:417:21
 part-has-unprotected-end : tie.Need-part-has-unprotected-end
 part-has-unprotected-end c = ends (c .before .before .before .before)
 
--- src/lib.rt:417:5
 has-unprotected-requires : tie.Need-has-unprotected-requires
 has-unprotected-requires c κs = search needs
 
--- src/lib.rt:407:1
 returns-2 : tie.Need-returns-2
-returns-2 c = 
+returns-2 c =
     let s = c .before .before .before .before .before .before in
     λ nodes held.
     c .has-unprotected .ensures

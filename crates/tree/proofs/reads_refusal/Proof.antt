@@ -1,60 +1,50 @@
-use Rattle.tree.proofs.Inits.{readsLeft, reads-all, reads-skipped, reads-passed, reads-refused, reads-end}
-use Rattle.tree.specs.Table.{Holds}
-use Rattle.permission.specs.Codes.{accessKind, maybeAccess}
-use Rattle.definition.specs.Tree.{Node}
-use lib.ListN.{length}
+-- The invariant: the first refusal of the reads that are left is that of all.
+use Prim.Native.Nat.{_-_, _≤_}
 use mathlib.Core.List.{List}
 use mathlib.Core.Logic.{⊎-elim}
 use mathlib.Core.Path.{_≡_, refl, sym, ap, _∙_}
-use Prim.Native.Nat.{ℕ, _+_, _-_, _≤_, _<_}
-use borrow.Author.Needs.{needs}
 use native.Mathlib.Omega.{arith}
+use borrow.Author.Needs.{needs}
+use lib.ListN.{length}
+use Rattle.definition.specs.Tree.{Node}
+use Rattle.permission.specs.Codes.{accessKind, maybeAccess}
+use Rattle.tree.specs.Table.{Holds}
+use Rattle.tree.proofs.Inits.{readsLeft, reads-all, reads-skipped, reads-passed, reads-refused, reads-end}
 use Rattle.tree.proofs.reads_refusal.Statement.{statement}
 use Rattle.tree.proofs.reads_refusal.Tie as tie
-use Rattle.tree.proofs.reads_refusal.Reads as reads
-use Rattle.tree.proofs.reads_refusal.Lts as lts
-use Rattle.permission.proofs.init_access.Reads as init-access-reads
-use Rattle.tree.proofs.access_refusal.Reads as access-refusal-reads
 
 abbrev Inv-loop : tie.InvT-loop
-Inv-loop parents codes inside width node from k₀ k = 
+Inv-loop parents codes inside width node from k₀ k =
     (k ≤ length inside) × ((nodes : List Node) → Holds nodes width parents codes → readsLeft node from inside nodes k ≡ readsLeft node from inside nodes k₀)
 
 abbrev μ-loop : tie.MeasureT-loop
 μ-loop parents codes inside width node from k₀ k = length inside - k
 
--- src/lib.rt:338:5
 loop-holds : tie.Need-loop-holds Inv-loop μ-loop
 loop-holds c = (omega arith, λ nodes holds. refl)
 
--- src/lib.rt:339:39
 shared-slice-read-init-access : tie.Need-shared-slice-read-init-access Inv-loop μ-loop
 shared-slice-read-init-access c = search needs
 
--- src/lib.rt:339:15
 init-access-requires : tie.Need-init-access-requires Inv-loop μ-loop
 init-access-requires c κs = search needs
 
 enum-told : tie.Need-enum-told Inv-loop μ-loop
 enum-told c = search needs
 
--- src/lib.rt:341:33
 enum-known-kind : tie.Need-enum-known-kind Inv-loop μ-loop
 enum-known-kind c = search needs
 
--- src/lib.rt:342:81
-add-access-refusal : tie.Need-add-access-refusal Inv-loop μ-loop
-add-access-refusal c = search needs
+add-at : tie.Need-add-at Inv-loop μ-loop
+add-at c = search needs
 
--- src/lib.rt:342:21
 access-refusal-requires : tie.Need-access-refusal-requires Inv-loop μ-loop
-access-refusal-requires c κs = 
+access-refusal-requires c κs =
     let s = c .before .before .before .before .before .before .before .before .before .before in
     (s .pre .0, (s .pre .1 .0, omega arith))
 
--- src/lib.rt:344:21
 returns : tie.Need-returns Inv-loop μ-loop
-returns c = 
+returns c =
     let s = c .before .before .before .before .before .before .before .before .before .before .before .before in
     let l = c .before .before .before .before .before .before .before .before .loop in
     let node = s .args .node in
@@ -66,23 +56,19 @@ returns c =
     ∙ l .inv .1 nodes holds
     ∙ reads-all node from inside nodes
 
--- src/lib.rt:348:9
 add-k : tie.Need-add-k Inv-loop μ-loop
 add-k c = search needs
 
--- src/lib.rt:338:5
 loop-less : tie.Need-loop-less Inv-loop μ-loop
 loop-less c = search needs
 
--- src/lib.rt:338:5
 loop-again : tie.Need-loop-again Inv-loop μ-loop
-loop-again c = 
+loop-again c =
     let s = c .before .before .before .before .before .before .before .before in
     let l = c .before .before .before .before .loop in
     let node = s .args .node in
     let from = s .args .from in
-    let inside = s .args .inside .now in
-    (
+    let inside = s .args .inside .now in (
       omega arith,
       λ nodes holds.
           ⊎-elim
@@ -94,9 +80,8 @@ loop-again c =
           ∙ l .inv .1 nodes holds,
     )
 
--- src/lib.rt:332:1
 returns-2 : tie.Need-returns-2 Inv-loop μ-loop
-returns-2 c = 
+returns-2 c =
     let s = c .before .before .before .before .before in
     let l = c .before .loop in
     let node = s .args .node in
@@ -115,7 +100,7 @@ reads-refusal-spec =
     init-access-requires
     enum-told
     enum-known-kind
-    add-access-refusal
+    add-at
     access-refusal-requires
     returns
     add-k

@@ -1,21 +1,18 @@
+-- The loop climbs from the accessed node: whether `node` lies above it stays the same, until `node` is reached or passed.
+use Prim.Native.Nat.{_<_}
 use mathlib.Core.Bool.{Bool, true}
+use mathlib.Core.Path.{_≡_, refl, sym, ap, _∙_}
+use native.Mathlib.Omega.{arith}
+use borrow.Author.Tests.{ne-eqb}
+use borrow.Author.Needs.{needs}
+use lib.ListN.{length}
 use Rattle.definition.proofs.Trees.{parent-earlier, above-itself, above-parent, not-above-smaller}
 use Rattle.definition.specs.Tree.{isAbove}
-use Rattle.definition.specs.Tree as definition
 use Rattle.definition.specs.Permission.NodeRelation.{Local, Foreign}
 use Rattle.definition.specs.Notation.{if_then_else_}
-use borrow.Author.Tests.{ne-eqb}
-use lib.ListN.{length, getD}
-use mathlib.Core.Bool.{Bool}
-use mathlib.Core.Path.{_≡_, refl, sym, ap, _∙_}
-use Prim.Native.Nat.{_<_}
-use borrow.Author.Needs.{needs}
-use native.Mathlib.Omega.{arith}
+use Rattle.definition.specs.Tree as definition
 use Rattle.tree.proofs.relation.Statement.{statement}
 use Rattle.tree.proofs.relation.Tie as tie
-use Rattle.tree.proofs.relation.Reads as reads
-use Rattle.tree.proofs.relation.Lts as lts
-use Rattle.tree.proofs.wide.Reads as wide-reads
 
 abbrev Inv-loop : tie.InvT-loop
 Inv-loop parents node accessed x₀ x = (x < length parents) × (isAbove parents node x ≡ isAbove parents node accessed)
@@ -23,31 +20,25 @@ Inv-loop parents node accessed x₀ x = (x < length parents) × (isAbove parents
 abbrev μ-loop : tie.MeasureT-loop
 μ-loop parents node accessed x₀ x = x
 
--- src/lib.rt:82:5
 loop-holds : tie.Need-loop-holds Inv-loop μ-loop
 loop-holds c = (c .before .pre .1, refl)
 
--- src/lib.rt:83:18
 mul-wide : tie.Need-mul-wide Inv-loop μ-loop
 mul-wide c = search needs
 
--- src/lib.rt:83:18
 shared-slice-read-wide : tie.Need-shared-slice-read-wide Inv-loop μ-loop
 shared-slice-read-wide c = search needs
 
--- src/lib.rt:83:9
 wide-requires : tie.Need-wide-requires Inv-loop μ-loop
 wide-requires c κs = search needs
 
--- src/lib.rt:82:5
 loop-less : tie.Need-loop-less Inv-loop μ-loop
-loop-less c = 
+loop-less c =
     let x = c .before .before .before .loop .x in
     omega (arith, c .wide .ensures, parent-earlier _ (c .before .before .before .before .before .pre .0) x (omega arith))
 
--- src/lib.rt:82:5
 loop-again : tie.Need-loop-again Inv-loop μ-loop
-loop-again c = 
+loop-again c =
     let s = c .before .before .before .before .before in
     let x = c .before .before .before .loop .x in
     let up = parent-earlier (s .args .parents .now) (s .pre .0) x (omega arith) in
@@ -57,18 +48,16 @@ loop-again c =
           ∙ c .before .before .before .loop .inv .1,
     )
 
--- src/lib.rt:76:1
 returns : tie.Need-returns Inv-loop μ-loop
 unfolding definition.relation
-returns c = 
+returns c =
     let s = c .before .before .before .before in
     let up : isAbove (s .args .parents .now) (s .args .node) (c .before .before .loop .x) ≡ true = rw (c .if1 .taken) (above-itself (s .args .parents .now) (s .args .node)) in
     sym (ap (λ (b : Bool). if b then Local else Foreign) (sym (c .before .before .loop .inv .1) ∙ up))
 
--- src/lib.rt:76:1
 returns-2 : tie.Need-returns-2 Inv-loop μ-loop
 unfolding definition.relation
-returns-2 c = 
+returns-2 c =
     let s = c .before .before .before .before in
     let x = c .before .before .loop .x in
     sym (ap (λ (b : Bool). if b then Local else Foreign) (sym (c .before .before .loop .inv .1) ∙ not-above-smaller (s .args .parents .now) (s .pre .0) (s .args .node) x (omega arith)))

@@ -1,14 +1,14 @@
-use Rattle.tree.proofs.Releases.{root-lacks, released-marks, release-protected, release-accepted, release-refused}
-use Rattle.tree.proofs.Places.{lent-row}
-use Rattle.tree.proofs.Held.{held-fits, held-count, marks-count, held-marks}
-use Rattle.definition.specs.Memory.Liveness.{Live}
-use Prim.Native.Nat.{ℕ}
+-- A release that is not refused is not the root's, which has no protector.
+use Prim.Native.Nat.{ℕ, _+_, _*_, _≤_}
 use mathlib.Core.List.{List}
-use lib.ListN.{length, set}
-use Prim.Native.Nat.{_+_, _*_, _≤_}
-use mathlib.Core.Path.{_≡_, refl, sym, ap, ap₂, _∙_}
+use mathlib.Core.Path.{sym, ap, _∙_}
 use native.Mathlib.Omega.{arith}
 use borrow.Author.Needs.{needs}
+use lib.ListN.{length, set}
+use Rattle.definition.specs.Memory.Liveness.{Live}
+use Rattle.tree.proofs.Releases.{root-lacks, released-marks, release-protected, release-accepted, release-refused}
+use Rattle.tree.proofs.Places.{lent-row}
+use Rattle.tree.proofs.Held.{held-fits, held-count, marks-count}
 use Rattle.tree.proofs.release.Statement.{statement}
 use Rattle.tree.proofs.release.Tie as tie
 use Rattle.tree.proofs.release.Reads as reads
@@ -20,45 +20,40 @@ use Rattle.tree.proofs.release_refusal.Reads as release-refusal-reads
 ends : (s : lts.Start (release-refusal-reads.Asked, release-refusal-reads.Learnt, apply-release-reads.Asked, apply-release-reads.Learnt) reads.Pre reads.Post) → s .args .node * s .args .width + s .args .width ≤ length (s .args .codes .now)
 ends s = held-fits (s .pre .0 .0) (s .args .width) (s .args .codes .now) (s .pre .0 .1 .holds .table) (s .args .node) (omega (arith, held-count (s .pre .0 .1 .holds)))
 
--- src/lib.rt:472:9
 release-refusal-requires : tie.Need-release-refusal-requires
 release-refusal-requires c κs = search needs
 
--- src/lib.rt:474:9
 apply-release-requires : tie.Need-apply-release-requires
-apply-release-requires c κs = 
+apply-release-requires c κs =
     let s = c .before .before .before .before .before .before .before .before .before .before .before .before .before in
     let n = s .args .node in
     let nodes = s .pre .0 .0 in
     let held = s .pre .0 .1 in
-    let refusal = c .before .before .before .before .before .release-refusal in
-    ((nodes, held .holds), (
-      s .pre .1 .0,
-      root-lacks nodes (held .rootFree) n (release-protected Live nodes n (sym (refusal .ensures .1 nodes held) ∙ c .before .before .if1 .taken)),
-      lent-row (s .args .width) n (s .args .codes .now) (s .args .lent .now) _ (ends s) (refusal .ensures .0),
-    ))
+    let refusal = c .before .before .before .before .before .release-refusal in (
+      (nodes, held .holds),
+      (
+        s .pre .1 .0,
+        root-lacks nodes (held .rootFree) n (release-protected Live nodes n (sym (refusal .ensures .1 nodes held) ∙ c .before .before .if1 .taken)),
+        lent-row (s .args .width) n (s .args .codes .now) (s .args .lent .now) _ (ends s) (refusal .ensures .0),
+      ),
+    )
 
--- src/lib.rt:475:9
 slice-write-protectors : tie.Need-slice-write-protectors
-slice-write-protectors c = 
+slice-write-protectors c =
     let s = c .before .before .before .before .before .before .before .before .before .before .before .before .before .before .before .before in
     omega (arith, held-count (s .pre .0 .1 .holds), marks-count (s .pre .0 .0) (s .args .protectors .now) (s .pre .0 .1 .marked))
 
--- src/lib.rt:466:1
 same-length : tie.Need-same-length
 same-length c = search needs
 
--- src/lib.rt:466:1
 same-length-2 : tie.Need-same-length-2
 same-length-2 c = search needs
 
--- src/lib.rt:466:1
 same-length-3 : tie.Need-same-length-3
 same-length-3 c = search needs
 
--- src/lib.rt:466:1
 returns : tie.Need-returns
-returns c = 
+returns c =
     let s = c .before .before .before .before .before .before .before .before .before .before .before .before .before .before .before .before in
     let n = s .args .node in
     let refusal = c .before .before .before .before .before .before .before .before .release-refusal in (
@@ -67,21 +62,17 @@ returns c =
           release-accepted Live nodes n (refusal .result) _ _ (refusal .ensures .1 nodes held) (c .before .before .before .before .before .if1 .taken) (ap (λ (m : List ℕ). set m n 0) (held .marked) ∙ released-marks nodes n) (c .before .before .apply-release .ensures nodes (held .holds)),
     )
 
--- src/lib.rt:466:1
 same-length-4 : tie.Need-same-length-4
 same-length-4 c = search needs
 
--- src/lib.rt:466:1
 same-length-5 : tie.Need-same-length-5
 same-length-5 c = search needs
 
--- src/lib.rt:466:1
 same-length-6 : tie.Need-same-length-6
 same-length-6 c = search needs
 
--- src/lib.rt:466:1
 returns-2 : tie.Need-returns-2
-returns-2 c = 
+returns-2 c =
     let s = c .before .before .before .before .before .before .before .before .before .before .before in
     let n = s .args .node in
     let refusal = c .before .before .before .release-refusal in (

@@ -1,20 +1,16 @@
+-- 16, or the first refusal of the visit, which does not read the released node: its row need not be unprotected yet.
+use Prim.Native.Nat.{_+_, _*_, _-_, _≤_}
+use mathlib.Core.Path.{refl, sym, _∙_}
+use native.Mathlib.Omega.{arith}
+use borrow.Author.Needs.{needs}
+use lib.ListN.{length}
+use Rattle.definition.specs.Frame.{releaseVisit, unprotectNode}
+use Rattle.definition.specs.Memory.Liveness.{Live}
 use Rattle.tree.proofs.Places.{copied-row, lent-row}
 use Rattle.tree.proofs.Meaning.{means-refusal}
 use Rattle.tree.proofs.Visits.{held-ready, means-release}
-use Rattle.tree.specs.Walk.{rowAt}
-use Rattle.definition.specs.Frame.{releaseVisit, unprotectNode}
-use Rattle.definition.specs.Memory.Liveness.{Live}
-use mathlib.Core.Bool.{true, false}
-use mathlib.Core.List.{List, _++_}
-use lib.Seq.{length-take-le, take-at}
-use lib.ListN.{length, take, drop}
-use Prim.Native.Nat.{ℕ, _+_, _*_, _-_, _≤_}
-use Rattle.tree.proofs.Releases.{held-row, lacks-mark, lacks-code, root-lacks, unprotected-table, unprotected-holds, released-marks, dead-marks, spared-unread, release-16, release-visits, release-accepted, release-refused}
-use Rattle.tree.proofs.Places.{width-of, part-row, put-back}
+use Rattle.tree.proofs.Releases.{held-row, root-lacks, spared-unread, release-16, release-visits}
 use Rattle.tree.proofs.Held.{held-fits, held-count, marks-count, held-marks}
-use mathlib.Core.Path.{_≡_, refl, sym, ap, ap₂, _∙_}
-use native.Mathlib.Omega.{arith}
-use borrow.Author.Needs.{needs}
 use Rattle.tree.proofs.release_refusal.Statement.{statement}
 use Rattle.tree.proofs.release_refusal.Tie as tie
 use Rattle.tree.proofs.release_refusal.Reads as reads
@@ -27,61 +23,49 @@ use Rattle.tree.proofs.lacks_protector.Reads as lacks-protector-reads
 ends : (s : lts.Start (copy-row-reads.Asked, copy-row-reads.Learnt, lacks-protector-reads.Asked, lacks-protector-reads.Learnt, check-from-reads.Asked, check-from-reads.Learnt) reads.Pre reads.Post) → s .args .node * s .args .width + s .args .width ≤ length (s .args .codes .now)
 ends s = held-fits (s .pre .0 .0) (s .args .width) (s .args .codes .now) (s .pre .0 .1 .holds .table) (s .args .node) (omega (arith, held-count (s .pre .0 .1 .holds)))
 
--- src/lib.rt:427:17
 mul-start : tie.Need-mul-start
 mul-start c = omega (arith, ends (c .before .before .before .before))
 
--- src/lib.rt:428:15
 add-end : tie.Need-add-end
 add-end c = omega (arith, ends (c .before .before .before .before))
 
--- src/lib.rt:429:14
 sub-copy-row : tie.Need-sub-copy-row
 sub-copy-row c = search needs
 
--- src/lib.rt:429:14
 part-copy-row-start : tie.Need-part-copy-row-start
 part-copy-row-start c = search needs
 
--- src/lib.rt:429:14
 part-copy-row-end : tie.Need-part-copy-row-end
 part-copy-row-end c = ends (c .before .before .before .before)
 
--- src/lib.rt:429:5
 copy-row-requires : tie.Need-copy-row-requires
 copy-row-requires c κs = search needs
 
--- src/lib.rt:430:8
 lacks-protector-requires : tie.Need-lacks-protector-requires
-lacks-protector-requires c κs = 
+lacks-protector-requires c κs =
     let s = c .before .before .before .before .before .before .before .before .before in
     ((s .pre .0 .0, held-marks (s .pre .0 .1)), omega (arith, held-count (s .pre .0 .1 .holds), marks-count (s .pre .0 .0) (s .args .protectors .now) (s .pre .0 .1 .marked)))
 
--- src/lib.rt:431:9
 same-length : tie.Need-same-length
 same-length c = search needs
 
--- src/lib.rt:431:9
 returns : tie.Need-returns
-returns c = 
+returns c =
     let s = c .before .before .before .before .before .before .before .before .before .before .before in (
       copied-row (s .args .width) (s .args .node) (s .args .codes .now) (s .args .lent .now) _ (ends s) (c .before .before .before .before .copy-row .ensures),
       λ nodes held. release-16 Live nodes (s .args .node) (sym (c .before .lacks-protector .ensures nodes (held-marks held)) ∙ c .if1 .taken),
     )
 
--- src/lib.rt:441:5
 check-from-requires : tie.Need-check-from-requires
-check-from-requires c κs = 
+check-from-requires c κs =
     let s = c .before .before .before .before .before .before .before .before .before .before .before .before in
     (held-ready _ (s .pre .0 .0) _ _ (s .pre .0 .1 .holds) (s .pre .1 .0) (omega arith), s .pre .0 .1 .holds .root)
 
--- src/lib.rt:421:1
 same-length-2 : tie.Need-same-length-2
 same-length-2 c = search needs
 
--- src/lib.rt:421:1
 returns-2 : tie.Need-returns-2
-returns-2 c = 
+returns-2 c =
     let s = c .before .before .before .before .before .before .before .before .before .before .before .before .before in
     let n = s .args .node in
     let width = s .args .width in

@@ -1,18 +1,16 @@
-use Rattle.permission.specs.Codes.{nodeRelation, nextCode, preventsCode}
-use Rattle.definition.specs.Permission.AccessKind.{Write}
+-- A search: what is left of it is the answer of the whole.
+use Prim.Native.Nat.{_-_, _≤_}
 use mathlib.Core.Option.{some}
-use Rattle.tree.proofs.Loops.{any-here, any-later, any-end}
-use Rattle.definition.specs.Notation.{any}
-use lib.ListN.{length, getD, drop}
-use Prim.Native.Nat.{ℕ, _+_, _-_, _≤_, _<_}
-use mathlib.Core.Path.{_≡_, refl, sym, ap, _∙_}
-use borrow.Author.Needs.{needs}
+use mathlib.Core.Path.{_≡_, refl, sym, _∙_}
 use native.Mathlib.Omega.{arith}
+use borrow.Author.Needs.{needs}
+use lib.ListN.{length, drop}
+use Rattle.definition.specs.Permission.AccessKind.{Write}
+use Rattle.definition.specs.Notation.{any}
+use Rattle.permission.specs.Codes.{nodeRelation, nextCode, preventsCode}
+use Rattle.tree.proofs.Loops.{any-here, any-later, any-end}
 use Rattle.tree.proofs.row_prevents_after_write.Statement.{statement}
 use Rattle.tree.proofs.row_prevents_after_write.Tie as tie
-use Rattle.tree.proofs.row_prevents_after_write.Reads as reads
-use Rattle.tree.proofs.row_prevents_after_write.Lts as lts
-use Rattle.tree.proofs.code_prevents_after_write.Reads as code-prevents-after-write-reads
 
 abbrev Inv-loop : tie.InvT-loop
 Inv-loop row relation i₀ i = (i ≤ length row) × (any (λ k. preventsCode (nextCode (some Write) (nodeRelation relation) k)) (drop i row) ≡ any (λ k. preventsCode (nextCode (some Write) (nodeRelation relation) k)) row)
@@ -20,44 +18,36 @@ Inv-loop row relation i₀ i = (i ≤ length row) × (any (λ k. preventsCode (n
 abbrev μ-loop : tie.MeasureT-loop
 μ-loop row relation i₀ i = length row - i
 
--- src/lib.rt:281:5
 loop-holds : tie.Need-loop-holds Inv-loop μ-loop
 loop-holds c = (omega arith, refl)
 
--- src/lib.rt:282:38
 shared-slice-read-code-prevents-after-write :
     tie.Need-shared-slice-read-code-prevents-after-write Inv-loop μ-loop
 shared-slice-read-code-prevents-after-write c = search needs
 
--- src/lib.rt:282:12
 code-prevents-after-write-requires : tie.Need-code-prevents-after-write-requires Inv-loop μ-loop
 code-prevents-after-write-requires c κs = search needs
 
--- src/lib.rt:283:13
 returns : tie.Need-returns Inv-loop μ-loop
-returns c = 
+returns c =
     let s = c .before .before .before .before .before .before in
     let l = c .before .before .before .before .loop in
     sym (any-here (λ k. preventsCode (nextCode (some Write) (nodeRelation (s .args .relation)) k)) 0 (s .args .row .now) (l .i) (omega arith) (sym (c .before .code-prevents-after-write .ensures) ∙ c .if1 .taken)) ∙ l .inv .1
 
--- src/lib.rt:285:9
 add-i : tie.Need-add-i Inv-loop μ-loop
 add-i c = search needs
 
--- src/lib.rt:281:5
 loop-less : tie.Need-loop-less Inv-loop μ-loop
 loop-less c = search needs
 
--- src/lib.rt:281:5
 loop-again : tie.Need-loop-again Inv-loop μ-loop
-loop-again c = 
+loop-again c =
     let s = c .before .before .before .before .before .before in
     let l = c .before .before .before .before .loop in
     (omega arith, any-later (λ k. preventsCode (nextCode (some Write) (nodeRelation (s .args .relation)) k)) 0 (s .args .row .now) (l .i) (omega arith) (sym (c .before .code-prevents-after-write .ensures) ∙ c .if1 .left) ∙ l .inv .1)
 
--- src/lib.rt:277:1
 returns-2 : tie.Need-returns-2 Inv-loop μ-loop
-returns-2 c = 
+returns-2 c =
     let s = c .before .before .before in
     sym (any-end (λ k. preventsCode (nextCode (some Write) (nodeRelation (s .args .relation)) k)) 0 (s .args .row .now) (c .before .loop .i) (omega arith)) ∙ c .before .loop .inv .1
 

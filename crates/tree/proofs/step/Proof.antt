@@ -1,28 +1,20 @@
-use native.Mathlib.Omega.{arith}
+-- Without an access the code stays; else it is `transition`.
 use borrow.Author.Needs.{needs}
 use Rattle.tree.proofs.step.Statement.{statement}
 use Rattle.tree.proofs.step.Tie as tie
-use Rattle.tree.proofs.step.Reads as reads
-use Rattle.tree.proofs.step.Lts as lts
-use Rattle.permission.proofs.transition.Reads as transition-reads
 
--- src/lib.rt:70:33
 enum-told : tie.Need-enum-told
 enum-told c = search needs
 
--- src/lib.rt:71:29
 enum-known-access : tie.Need-enum-known-access
 enum-known-access c = search needs
 
--- src/lib.rt:71:35
 transition-requires : tie.Need-transition-requires
 transition-requires c κs = search needs
 
--- src/lib.rt:66:1
 returns : tie.Need-returns
 returns c = rw (c .enum-told .given .1)
 
--- src/lib.rt:66:1
 returns-2 : tie.Need-returns-2
 returns-2 c = rw (c .before .before .access .given .1) (c .transition .ensures)
 

@@ -1,24 +1,21 @@
-use Rattle.tree.proofs.Strong.{strong-prevents, other-prevents-not}
-use Rattle.tree.proofs.Loops.{any-here, any-later, any-end}
-use Rattle.permission.specs.Codes.{nodeRelation}
-use Rattle.definition.proofs.Visits.{visited-length}
-use Rattle.definition.specs.Tree.{noNode}
-use mathlib.Core.Bool.{true, false}
+-- A search through the nodes: what is left of it is the answer of the whole.
+use Prim.Native.Nat.{_*_, ℕ, _+_, _-_, _≤_, _<_}
 use mathlib.Core.Logic.{⊎-elim}
-use Prim.Native.Nat.{_*_}
-use Rattle.tree.proofs.Held.{held-fits, held-count, marks-count, held-marks}
-use Rattle.tree.specs.Requests.{bytesVisit}
-use Rattle.tree.specs.Table.{HoldsAll}
+use mathlib.Core.List.{List}
+use mathlib.Core.Path.{_≡_, refl, sym, _∙_}
+use native.Mathlib.Omega.{arith}
+use borrow.Author.Needs.{needs}
+use lib.ListN.{length, drop}
+use Rattle.definition.proofs.Visits.{visited-length}
+use Rattle.definition.specs.Tree.{noNode, Node, visited, accessVisit}
 use Rattle.definition.specs.Memory.{nodePreventsDeallocation}
-use Rattle.definition.specs.Tree.{Node, visited}
 use Rattle.definition.specs.Permission.AccessKind.{Write}
 use Rattle.definition.specs.Notation.{any}
-use lib.ListN.{length, drop}
-use mathlib.Core.List.{List}
-use mathlib.Core.Path.{_≡_, refl, sym, ap, _∙_}
-use Prim.Native.Nat.{ℕ, _+_, _-_, _≤_, _<_}
-use borrow.Author.Needs.{needs}
-use native.Mathlib.Omega.{arith}
+use Rattle.permission.specs.Codes.{nodeRelation}
+use Rattle.tree.specs.Table.{HoldsAll}
+use Rattle.tree.proofs.Strong.{strong-prevents, other-prevents-not}
+use Rattle.tree.proofs.Loops.{any-here, any-later, any-end}
+use Rattle.tree.proofs.Held.{held-fits, held-count, marks-count}
 use Rattle.tree.proofs.strong_protector_after_write.Statement.{statement}
 use Rattle.tree.proofs.strong_protector_after_write.Tie as tie
 use Rattle.tree.proofs.strong_protector_after_write.Reads as reads
@@ -27,8 +24,8 @@ use Rattle.tree.proofs.relation.Reads as relation-reads
 use Rattle.tree.proofs.row_prevents_after_write.Reads as row-prevents-after-write-reads
 
 abbrev Inv-loop : tie.InvT-loop
-Inv-loop parents protectors codes width node n₀ n = 
-    (n ≤ length parents) × ((nodes : List Node) → HoldsAll nodes width parents protectors codes → any nodePreventsDeallocation (drop n (visited (bytesVisit Write node 0 width) nodes)) ≡ any nodePreventsDeallocation (visited (bytesVisit Write node 0 width) nodes))
+Inv-loop parents protectors codes width node n₀ n =
+    (n ≤ length parents) × ((nodes : List Node) → HoldsAll nodes width parents protectors codes → any nodePreventsDeallocation (drop n (visited (accessVisit Write node 0 width) nodes)) ≡ any nodePreventsDeallocation (visited (accessVisit Write node 0 width) nodes))
 
 abbrev μ-loop : tie.MeasureT-loop
 μ-loop parents protectors codes width node n₀ n = length parents - n
@@ -38,47 +35,37 @@ ends : (s : lts.Start (relation-reads.Asked, relation-reads.Learnt, row-prevents
     → n * s .args .width + s .args .width ≤ length (s .args .codes .now)
 ends s n l = held-fits (s .pre .0 .0) (s .args .width) (s .args .codes .now) (s .pre .0 .1 .holds .table) n (omega (arith, held-count (s .pre .0 .1 .holds)))
 
--- src/lib.rt:297:5
 loop-holds : tie.Need-loop-holds Inv-loop μ-loop
 loop-holds c = (omega arith, λ nodes held. refl)
 
--- src/lib.rt:298:12
 shared-slice-read-if1 : tie.Need-shared-slice-read-if1 Inv-loop μ-loop
-shared-slice-read-if1 c = 
+shared-slice-read-if1 c =
     let s = c .before .before .before .before .before .before in
     omega (arith, c .before .before .loop .inv .0, held-count (s .pre .0 .1 .holds), marks-count (s .pre .0 .0) (s .args .protectors .now) (s .pre .0 .1 .marked))
 
--- src/lib.rt:299:25
 mul-start : tie.Need-mul-start Inv-loop μ-loop
 mul-start c = omega (arith, ends (c .before .before .before .before .before .before .before) (c .before .before .before .loop .n) (omega arith))
 
--- src/lib.rt:300:23
 add-end : tie.Need-add-end Inv-loop μ-loop
 add-end c = omega (arith, ends (c .before .before .before .before .before .before .before) (c .before .before .before .loop .n) (omega arith))
 
--- src/lib.rt:301:17
 relation-requires : tie.Need-relation-requires Inv-loop μ-loop
 relation-requires c κs = (c .before .before .before .before .before .before .before .pre .0 .1 .holds .earlier, c .before .before .before .before .before .before .before .pre .1)
 
--- src/lib.rt:302:41
 sub-row-prevents-after-write : tie.Need-sub-row-prevents-after-write Inv-loop μ-loop
 sub-row-prevents-after-write c = search needs
 
--- src/lib.rt:302:41
 part-row-prevents-after-write-start : tie.Need-part-row-prevents-after-write-start Inv-loop μ-loop
 part-row-prevents-after-write-start c = search needs
 
--- src/lib.rt:302:41
 part-row-prevents-after-write-end : tie.Need-part-row-prevents-after-write-end Inv-loop μ-loop
 part-row-prevents-after-write-end c = ends (c .before .before .before .before .before .before .before .before) (c .before .before .before .before .loop .n) (omega arith)
 
--- src/lib.rt:302:16
 row-prevents-after-write-requires : tie.Need-row-prevents-after-write-requires Inv-loop μ-loop
 row-prevents-after-write-requires c κs = search needs
 
--- src/lib.rt:303:17
 returns : tie.Need-returns Inv-loop μ-loop
-returns c = 
+returns c =
     let s = c .before .before .before .before .before .before .before .before .before .before .before in
     let l = c .before .before .before .before .before .before .before .loop in
     let width = s .args .width in
@@ -88,34 +75,30 @@ returns c =
     let node = s .args .node in
     λ nodes held.
     let k : l .n < length nodes = omega (arith, held-count (held .holds)) in
-    sym (any-here nodePreventsDeallocation noNode (visited (bytesVisit Write node 0 width) nodes) (l .n) (omega (arith, visited-length (bytesVisit Write node 0 width) nodes))
+    sym (any-here nodePreventsDeallocation noNode (visited (accessVisit Write node 0 width) nodes) (l .n) (omega (arith, visited-length (accessVisit Write node 0 width) nodes))
     (strong-prevents nodes width ps protectors codes held node (l .n) k (c .before .before .before .before .if1 .taken) (c .before .row-prevents-after-write .result) (nodeRelation (c .before .before .before .relation .result)) (c .before .before .before .relation .ensures) (c .before .row-prevents-after-write .ensures)
     ∙ c .if2 .taken))
     ∙ l .inv .1 nodes held
 
--- src/lib.rt:306:9
 add-n : tie.Need-add-n Inv-loop μ-loop
 add-n c = search needs
 
--- src/lib.rt:297:5
 loop-less : tie.Need-loop-less Inv-loop μ-loop
 loop-less c = search needs
 
--- src/lib.rt:297:5
 loop-again : tie.Need-loop-again Inv-loop μ-loop
-loop-again c = 
+loop-again c =
     let s = c .before .before .before .before .before .before .before in
     let l = c .before .before .before .loop in
     let width = s .args .width in
     let ps = s .args .parents .now in
     let protectors = s .args .protectors .now in
     let codes = s .args .codes .now in
-    let node = s .args .node in
-    (
+    let node = s .args .node in (
       omega arith,
       λ nodes held.
           let k : l .n < length nodes = omega (arith, held-count (held .holds)) in
-          any-later nodePreventsDeallocation noNode (visited (bytesVisit Write node 0 width) nodes) (l .n) (omega (arith, visited-length (bytesVisit Write node 0 width) nodes))
+          any-later nodePreventsDeallocation noNode (visited (accessVisit Write node 0 width) nodes) (l .n) (omega (arith, visited-length (accessVisit Write node 0 width) nodes))
           (⊎-elim
           (λ w.
           strong-prevents nodes width ps protectors codes held node (l .n) k (w .0 .taken) (w .3 .result) (nodeRelation (w .1 .result)) (w .1 .ensures) (w .3 .ensures) ∙ w .4 .left)
@@ -124,9 +107,8 @@ loop-again c =
           ∙ l .inv .1 nodes held,
     )
 
--- src/lib.rt:291:1
 returns-2 : tie.Need-returns-2 Inv-loop μ-loop
-returns-2 c = 
+returns-2 c =
     let s = c .before .before .before .before .before in
     let l = c .before .loop in
     let width = s .args .width in
@@ -135,7 +117,7 @@ returns-2 c =
     let codes = s .args .codes .now in
     let node = s .args .node in
     λ nodes held.
-    sym (any-end nodePreventsDeallocation noNode (visited (bytesVisit Write node 0 width) nodes) (l .n) (omega (arith, visited-length (bytesVisit Write node 0 width) nodes, held-count (held .holds)))) ∙ l .inv .1 nodes held
+    sym (any-end nodePreventsDeallocation noNode (visited (accessVisit Write node 0 width) nodes) (l .n) (omega (arith, visited-length (accessVisit Write node 0 width) nodes, held-count (held .holds)))) ∙ l .inv .1 nodes held
 
 pub strong-protector-after-write-spec : {M : Type 1} → statement M
 strong-protector-after-write-spec =
