@@ -33,9 +33,16 @@ module _ (kind exponent : ℕ) (e : badAllocation kind exponent ≡ false) where
   pub allocation-exponent : exponent ≤ 29
   allocation-exponent = exponent-fine exponent (tests .0)
 
-pub store-exponent : (bytes : List ℕ) (exponent : ℕ) → badStore bytes exponent ≡ false → badExponent exponent ≡ false
-unfolding badStore
-store-exponent bytes exponent e = or-neither (badExponent exponent) (any badByte bytes) e .0
+module _ (bytes : List ℕ) (exponent : ℕ) (e : badStore bytes exponent ≡ false) where
+  store-tests : (badExponent exponent ≡ false) × (any badByte bytes ≡ false)
+  unfolding badStore
+  store-tests = or-neither (badExponent exponent) (any badByte bytes) e
+
+  pub store-exponent : badExponent exponent ≡ false
+  store-exponent = store-tests .0
+
+  pub store-bytes : any badByte bytes ≡ false
+  store-bytes = store-tests .1
 
 -- ---- these tests are the definition's of a request's words, where the fields that have no use are zero
 or-skip : (a b : Bool) → a ≡ false → a || b ≡ b
