@@ -124,15 +124,25 @@ impl Comparison {
             let run = generate::run(seed, index);
             *self.origins.entry(run.origin).or_default() += 1;
             self.count(&run.bytes);
-            self.send(&run.bytes);
-            ahead.push_back((index, run.bytes));
-            if ahead.len() >= AHEAD {
-                let (index, run) = ahead.pop_front().expect("not empty");
-                self.compare(index, &run, &mut ahead)?;
-            }
+            self.ask(index, run.bytes, &mut ahead)?;
         }
-        while let Some((index, run)) = ahead.pop_front() {
-            self.compare(index, &run, &mut ahead)?;
+        self.compare_rest(&mut ahead)
+    }
+
+    /// Hands an input to both programs, which may work on a few of them before the first is compared.
+    fn ask(&mut self, index: u64, input: Vec<u8>, ahead: &mut VecDeque<(u64, Vec<u8>)>) -> std::io::Result<()> {
+        self.send(&input);
+        ahead.push_back((index, input));
+        if ahead.len() >= AHEAD {
+            let (index, input) = ahead.pop_front().expect("not empty");
+            self.compare(index, &input, ahead)?;
+        }
+        Ok(())
+    }
+
+    fn compare_rest(&mut self, ahead: &mut VecDeque<(u64, Vec<u8>)>) -> std::io::Result<()> {
+        while let Some((index, input)) = ahead.pop_front() {
+            self.compare(index, &input, ahead)?;
         }
         Ok(())
     }
@@ -228,17 +238,9 @@ impl Comparison {
                 self.reached.add(&reached);
             }
             let whole = [(text.len() as u32).to_be_bytes().to_vec(), text, run].concat();
-            self.send(&whole);
-            ahead.push_back((index, whole));
-            if ahead.len() >= AHEAD {
-                let (index, run) = ahead.pop_front().expect("not empty");
-                self.compare(index, &run, &mut ahead)?;
-            }
+            self.ask(index, whole, &mut ahead)?;
         }
-        while let Some((index, run)) = ahead.pop_front() {
-            self.compare(index, &run, &mut ahead)?;
-        }
-        Ok(())
+        self.compare_rest(&mut ahead)
     }
 
     fn report(&self) -> u64 {
