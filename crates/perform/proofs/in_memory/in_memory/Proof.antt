@@ -1,0 +1,200 @@
+-- Each arm knows its kind, and the core's outcome is the definition's at the request's fields (Memories).
+use mathlib.Core.Path.{ap, refl}
+use mir.Syntax.{w64}
+use mir.Facts.{toZ-ofZ}
+use borrow.Author.Needs.{needs, sfits-of}
+use Rattle.pointer.specs.Pointer.{back, ahead}
+use Rattle.memory.proofs.Afterwards.{holds-trees, holds-bytes, holds-marked}
+use Rattle.tables.proofs.ReadBack.{holds-records}
+use Rattle.perform.proofs.Memories.{can, allocate-left, deallocate-kind, deallocate-left, load-exponent, store-exponent, load-left, store-left, dereferenceable-left, signed-left, leak-left, not-alone, not-a-kind}
+use Rattle.perform.proofs.in_memory.in_memory.Statement.{statement}
+use Rattle.perform.proofs.in_memory.in_memory.Tie as tie
+
+wide-requires : tie.Need-wide-requires
+wide-requires c κs = search needs
+
+wide-requires-2 : tie.Need-wide-requires-2
+wide-requires-2 c κs = search needs
+
+wide-requires-3 : tie.Need-wide-requires-3
+wide-requires-3 c κs = search needs
+
+pointer-requires : tie.Need-pointer-requires
+pointer-requires c κs = search needs
+
+enum-told : tie.Need-enum-told
+enum-told c = search needs
+
+allocate-requires : tie.Need-allocate-requires
+allocate-requires c κs = let s = c .before .before .before .before .before .before .before .before .before .before .before .before .before .before in (s .pre .0 .memory, (_, can (s .pre .1) (c .before .before .enum-told .given .1) (c .before .before .before .before .before .before .before .wide .ensures) (c .before .before .before .before .before .before .wide2 .ensures) (c .before .before .before .before .before .wide3 .ensures)))
+
+enum-told-2 : tie.Need-enum-told-2
+enum-told-2 c = search needs
+
+deallocate-requires : tie.Need-deallocate-requires
+deallocate-requires c κs = let s = c .before .before .before .before .before .before .before .before .before .before .before .before .before .before in (s .pre .0 .memory, holds-marked (s .pre .1 .holds))
+
+enum-told-3 : tie.Need-enum-told-3
+enum-told-3 c = search needs
+
+load-requires : tie.Need-load-requires
+load-requires c κs = let s = c .before .before .before .before .before .before .before .before .before .before .before .before .before .before in ((s .pre .0 .memory, holds-trees (s .pre .1 .holds)), load-exponent (s .pre .1) (c .before .before .enum-told3 .given .1) (c .before .before .before .before .before .wide3 .ensures))
+
+enum-told-4 : tie.Need-enum-told-4
+enum-told-4 c = search needs
+
+store-requires : tie.Need-store-requires
+store-requires c κs = let s = c .before .before .before .before .before .before .before .before .before .before .before .before .before .before .before in ((s .pre .0 .memory, holds-bytes (s .pre .1 .holds)), store-exponent (s .pre .1) (c .before .before .before .enum-told4 .given .1) (c .before .before .before .before .before .before .wide3 .ensures))
+
+enum-told-5 : tie.Need-enum-told-5
+enum-told-5 c = search needs
+
+dereferenceable-requires : tie.Need-dereferenceable-requires
+dereferenceable-requires c κs = let s = c .before .before .before .before .before .before .before .before .before .before .before .before .before in (s .pre .0 .memory, holds-records (s .pre .1 .holds))
+
+enum-told-6 : tie.Need-enum-told-6
+enum-told-6 c = search needs
+
+signed-length-requires : tie.Need-signed-length-requires
+signed-length-requires c κs = search needs
+
+signed-dereferenceable-requires : tie.Need-signed-dereferenceable-requires
+signed-dereferenceable-requires c κs = let s = c .before .before .before .before .before .before .before .before .before .before .before .before .before .before in (s .pre .0 .memory, holds-records (s .pre .1 .holds))
+
+enum-told-7 : tie.Need-enum-told-7
+enum-told-7 c = search needs
+
+leak-check-requires : tie.Need-leak-check-requires
+leak-check-requires c κs = let s = c .before .before .before .before .before .before .before .before .before .before .before .before .before in (s .pre .0 .memory, holds-records (s .pre .1 .holds))
+
+enum-told-8 : tie.Need-enum-told-8
+enum-told-8 c = search needs
+
+enum-told-9 : tie.Need-enum-told-9
+enum-told-9 c = search needs
+
+enum-told-10 : tie.Need-enum-told-10
+enum-told-10 c = search needs
+
+enum-told-11 : tie.Need-enum-told-11
+enum-told-11 c = search needs
+
+same-length : tie.Need-same-length
+same-length c = search needs
+
+same-length-2 : tie.Need-same-length-2
+same-length-2 c = search needs
+
+returns : tie.Need-returns
+returns c = λ s h. allocate-left h (c .before .before .before .before .before .before .before .enum-told .given .1) (c .before .before .before .before .before .before .before .before .before .before .before .before .wide .ensures) (c .before .before .before .before .before .before .before .before .before .before .before .wide2 .ensures) (c .before .before .before .before .before .before .before .before .before .before .wide3 .ensures) (c .before .before .before .before .allocate .ensures (s .memory) _ (can h (c .before .before .before .before .before .before .before .enum-told .given .1) (c .before .before .before .before .before .before .before .before .before .before .before .before .wide .ensures) (c .before .before .before .before .before .before .before .before .before .before .before .wide2 .ensures) (c .before .before .before .before .before .before .before .before .before .before .wide3 .ensures)))
+
+same-length-3 : tie.Need-same-length-3
+same-length-3 c = search needs
+
+same-length-4 : tie.Need-same-length-4
+same-length-4 c = search needs
+
+returns-2 : tie.Need-returns-2
+returns-2 c = λ s h. deallocate-left h (c .before .before .before .before .before .before .before .enum-told2 .given .1) (c .before .before .before .before .before .before .before .before .before .pointer .ensures) (c .before .before .before .before .before .before .before .before .before .before .before .before .wide .ensures) (c .before .before .before .before .before .before .before .before .before .before .before .wide2 .ensures) (c .before .before .before .before .before .before .before .before .before .before .wide3 .ensures) (c .before .before .before .before .deallocate .ensures (s .memory) _ (holds-marked (h .holds)) (deallocate-kind h (c .before .before .before .before .before .before .before .enum-told2 .given .1) (c .before .before .before .before .before .before .before .before .before .pointer .ensures) (c .before .before .before .before .before .before .before .before .before .before .before .before .wide .ensures) (c .before .before .before .before .before .before .before .before .before .before .before .wide2 .ensures) (c .before .before .before .before .before .before .before .before .before .before .wide3 .ensures)))
+
+same-length-5 : tie.Need-same-length-5
+same-length-5 c = search needs
+
+same-length-6 : tie.Need-same-length-6
+same-length-6 c = search needs
+
+returns-3 : tie.Need-returns-3
+returns-3 c = λ s h. load-left h (c .before .before .before .before .before .before .before .pointer .ensures) (c .before .before .before .before .before .before .before .before .wide3 .ensures) (c .before .before .before .before .before .enum-told3 .given .1) (c .before .before .before .before .before .before .before .before .before .wide2 .ensures) (c .before .before .load .ensures (s .memory) (holds-trees (h .holds)))
+
+same-length-7 : tie.Need-same-length-7
+same-length-7 c = search needs
+
+same-length-8 : tie.Need-same-length-8
+same-length-8 c = search needs
+
+same-length-9 : tie.Need-same-length-9
+same-length-9 c = search needs
+
+returns-4 : tie.Need-returns-4
+returns-4 c = λ s h. store-left h (c .before .before .before .before .before .before .before .before .before .before .pointer .ensures) (c .before .before .before .before .before .before .before .before .before .before .before .wide3 .ensures) (c .before .before .before .before .before .before .before .before .enum-told4 .given .1) (c .before .before .before .before .store .ensures (s .memory) (holds-bytes (h .holds)))
+
+same-length-10 : tie.Need-same-length-10
+same-length-10 c = search needs
+
+returns-5 : tie.Need-returns-5
+returns-5 c = λ s h. dereferenceable-left h (c .before .before .before .before .pointer .ensures) (c .before .before .enum-told5 .given .1) (c .before .before .before .before .before .before .wide2 .ensures) (c .dereferenceable .ensures (s .memory) _ (holds-records (h .holds)))
+
+same-length-11 : tie.Need-same-length-11
+same-length-11 c = search needs
+
+returns-6 : tie.Need-returns-6
+returns-6 c = λ s h. let a = c .before .before .before .before .before .before .before .before .before .before .before .before .before .before .before in let same = toZ-ofZ {w = w64} {z = c .before .signed-length .result} (sfits-of (c .before .signed-length .ok)) in signed-left h (c .before .before .before .before .before .pointer .ensures) (c .before .before .before .enum-told6 .given .1) (c .before .signed-length .result) (c .before .signed-length .ensures) {r = c .signed-dereferenceable .result} (rw (← ap back same, ← ap ahead same) (c .signed-dereferenceable .ensures (s .memory) (a .args .words .now) (holds-records (h .holds))))
+
+same-length-12 : tie.Need-same-length-12
+same-length-12 c = search needs
+
+returns-7 : tie.Need-returns-7
+returns-7 c = λ s h. leak-left h (c .before .before .enum-told7 .given .1) (c .leak-check .ensures (s .memory) (holds-records (h .holds)))
+
+returns-8 : tie.Need-returns-8
+returns-8 c = λ s h. absurd (not-alone h (c .enum-told8 .given .1) refl)
+
+returns-9 : tie.Need-returns-9
+returns-9 c = λ s h. absurd (not-alone h (c .enum-told9 .given .1) refl)
+
+returns-10 : tie.Need-returns-10
+returns-10 c = λ s h. absurd (not-alone h (c .enum-told10 .given .1) refl)
+
+returns-11 : tie.Need-returns-11
+returns-11 c = λ s h. absurd (not-a-kind h (c .enum-told11 .given .1))
+
+pub in-memory-spec : {M : Type 1} → statement M
+in-memory-spec =
+    tie.close
+    (tie.spec
+    wide-requires
+    wide-requires-2
+    wide-requires-3
+    pointer-requires
+    enum-told
+    allocate-requires
+    enum-told-2
+    deallocate-requires
+    enum-told-3
+    load-requires
+    enum-told-4
+    store-requires
+    enum-told-5
+    dereferenceable-requires
+    enum-told-6
+    signed-length-requires
+    signed-dereferenceable-requires
+    enum-told-7
+    leak-check-requires
+    enum-told-8
+    enum-told-9
+    enum-told-10
+    enum-told-11
+    same-length
+    same-length-2
+    returns
+    same-length-3
+    same-length-4
+    returns-2
+    same-length-5
+    same-length-6
+    returns-3
+    same-length-7
+    same-length-8
+    same-length-9
+    returns-4
+    same-length-10
+    returns-5
+    same-length-11
+    returns-6
+    same-length-12
+    returns-7
+    returns-8
+    returns-9
+    returns-10
+    returns-11)

@@ -1,0 +1,122 @@
+-- Each arm leaves its part of the buffers as the definition says, and the rest as it was (Requests).
+use borrow.Author.Needs.{needs}
+use Rattle.perform.proofs.Requests.{is-alone, trees, frames, asked, left-memory, left-retag, new-closed, left-new-call, left-end-call}
+use Rattle.perform.proofs.perform.Statement.{statement}
+use Rattle.perform.proofs.perform.Tie as tie
+
+frame-used-requires : tie.Need-frame-used-requires
+frame-used-requires c κs = search needs
+
+enum-told : tie.Need-enum-told
+enum-told c = search needs
+
+retag-requires : tie.Need-retag-requires
+retag-requires c κs = let s = c .before .before .before .before .before .before .before .before .before .before .before .before .before .before .before in (s .pre .0, trees (s .pre .1 .0))
+
+enum-told-2 : tie.Need-enum-told-2
+enum-told-2 c = search needs
+
+new-call-requires : tie.Need-new-call-requires
+new-call-requires c κs = let s = c .before .before .before .before .before .before .before .before .before .before .before in let u = c .before .before .before .frame-used .ensures in ((s .pre .0, (frames (s .pre .1 .0), new-closed (s .pre .1 .0) (s .pre .1 .1) (u .0) (c .before .enum-told2 .given .1))), u .1)
+
+enum-told-3 : tie.Need-enum-told-3
+enum-told-3 c = search needs
+
+end-call-requires : tie.Need-end-call-requires
+end-call-requires c κs = let s = c .before .before .before .before .before .before .before .before .before .before .before .before .before .before .before in ((s .pre .0, trees (s .pre .1 .0)), c .before .before .before .before .before .before .before .frame-used .ensures .1)
+
+in-memory-requires : tie.Need-in-memory-requires
+in-memory-requires c κs = let s = c .before .before .before .before .before .before .before .before .before .before .before .before .before .before in (s .pre .0, asked (s .pre .1 .0) (s .pre .1 .1) (is-alone (s .args .q .kind) (c .before .before .before .before .before .match .keys4)))
+
+same-length : tie.Need-same-length
+same-length c = search needs
+
+same-length-2 : tie.Need-same-length-2
+same-length-2 c = search needs
+
+same-length-3 : tie.Need-same-length-3
+same-length-3 c = search needs
+
+same-length-4 : tie.Need-same-length-4
+same-length-4 c = search needs
+
+same-length-5 : tie.Need-same-length-5
+same-length-5 c = search needs
+
+returns : tie.Need-returns
+returns c = λ s h formed. left-retag h formed (c .before .before .before .before .before .before .before .before .before .before .before .before .before .before .before .before .enum-told .given .1) (c .before .before .before .before .before .before .before .before .before .before .retag .ensures s (trees h))
+
+same-length-6 : tie.Need-same-length-6
+same-length-6 c = search needs
+
+returns-2 : tie.Need-returns-2
+returns-2 c = λ s h formed. left-new-call h formed (c .before .before .before .before .before .before .frame-used .ensures .0) (c .before .before .before .before .enum-told2 .given .1) (c .before .before .new-call .ensures s (frames h))
+
+same-length-7 : tie.Need-same-length-7
+same-length-7 c = search needs
+
+same-length-8 : tie.Need-same-length-8
+same-length-8 c = search needs
+
+same-length-9 : tie.Need-same-length-9
+same-length-9 c = search needs
+
+same-length-10 : tie.Need-same-length-10
+same-length-10 c = search needs
+
+same-length-11 : tie.Need-same-length-11
+same-length-11 c = search needs
+
+returns-3 : tie.Need-returns-3
+returns-3 c = λ s h formed. left-end-call h formed (c .before .before .before .before .before .before .before .before .before .before .before .before .before .before .frame-used .ensures .0) (c .before .before .before .before .before .before .before .before .before .before .before .before .enum-told3 .given .1) (c .before .before .before .before .before .before .end-call .ensures s (trees h))
+
+same-length-12 : tie.Need-same-length-12
+same-length-12 c = search needs
+
+same-length-13 : tie.Need-same-length-13
+same-length-13 c = search needs
+
+same-length-14 : tie.Need-same-length-14
+same-length-14 c = search needs
+
+same-length-15 : tie.Need-same-length-15
+same-length-15 c = search needs
+
+same-length-16 : tie.Need-same-length-16
+same-length-16 c = search needs
+
+returns-4 : tie.Need-returns-4
+returns-4 c = λ s h formed. let q = c .before .before .before .before .before .before .before .before .before .before .before .before .before .before .before .before .before .before .before .before .before .args .q in let k = is-alone (q .kind) (c .before .before .before .before .before .before .before .before .before .before .before .before .match .keys4) in left-memory h formed k (c .before .before .before .before .before .before .in-memory .ensures s (asked h formed k))
+
+pub perform-spec : {M : Type 1} → statement M
+perform-spec =
+    tie.close
+    (tie.spec
+    frame-used-requires
+    enum-told
+    retag-requires
+    enum-told-2
+    new-call-requires
+    enum-told-3
+    end-call-requires
+    in-memory-requires
+    same-length
+    same-length-2
+    same-length-3
+    same-length-4
+    same-length-5
+    returns
+    same-length-6
+    returns-2
+    same-length-7
+    same-length-8
+    same-length-9
+    same-length-10
+    same-length-11
+    returns-3
+    same-length-12
+    same-length-13
+    same-length-14
+    same-length-15
+    same-length-16
+    returns-4)

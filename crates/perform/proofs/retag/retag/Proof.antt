@@ -1,0 +1,63 @@
+-- The kinds that add no node, and those that may.
+use mathlib.Core.Path.{sym, ap, _∙_}
+use borrow.Author.Needs.{needs}
+use Rattle.request.specs.Fields.{requestOf}
+use Rattle.definition.specs.Retag.{retagWithoutNode}
+use Rattle.definition.specs.Memory.{ThinPointer}
+use Rattle.perform.proofs.States.{records-held}
+use Rattle.perform.proofs.Retags.{left-without-node, left-with-node}
+use Rattle.perform.proofs.retag.retag.Statement.{statement}
+use Rattle.perform.proofs.retag.retag.Tie as tie
+
+adds-no-node-requires : tie.Need-adds-no-node-requires
+adds-no-node-requires c κs = search needs
+
+pointer-requires : tie.Need-pointer-requires
+pointer-requires c κs = search needs
+
+retag-without-node-requires : tie.Need-retag-without-node-requires
+retag-without-node-requires c κs = let s = c .before .before .before .before .before .before .before .before .before .before in (s .pre .0 .memory, records-held (s .pre .1))
+
+same-length : tie.Need-same-length
+same-length c = search needs
+
+returns : tie.Need-returns
+returns c = λ s h. let a = c .before .before .before .before .before .before .before .before .before .before .before in left-without-node h (requestOf (a .args .q) (a .args .following .now)) (sym (c .before .before .before .before .adds-no-node .ensures) ∙ c .before .before .before .if1 .taken) (λ words. c .retag-without-node .ensures s words (records-held h) ∙ ap (λ (p : ThinPointer). retagWithoutNode p s .0) (c .before .pointer .ensures))
+
+retag-with-mask-requires : tie.Need-retag-with-mask-requires
+retag-with-mask-requires c κs = search needs
+
+same-length-2 : tie.Need-same-length-2
+same-length-2 c = search needs
+
+same-length-3 : tie.Need-same-length-3
+same-length-3 c = search needs
+
+same-length-4 : tie.Need-same-length-4
+same-length-4 c = search needs
+
+same-length-5 : tie.Need-same-length-5
+same-length-5 c = search needs
+
+same-length-6 : tie.Need-same-length-6
+same-length-6 c = search needs
+
+returns-2 : tie.Need-returns-2
+returns-2 c = λ s h. let a = c .before .before .before .before .before .before .before .before .before .before .before .before .before .before .before .before .before .before .before .before .before .before .before .before in left-with-node s (requestOf (a .args .q) (a .args .following .now)) (sym (c .before .before .before .before .before .before .before .before .before .before .before .before .before .before .before .before .before .adds-no-node .ensures) ∙ c .before .before .before .before .before .before .before .before .before .before .before .before .before .before .before .before .if1 .left) (c .before .before .before .before .before .before .before .before .before .before .retag-with-mask .ensures s h)
+
+pub retag-spec : {M : Type 1} → statement M
+retag-spec =
+    tie.close
+    (tie.spec
+    adds-no-node-requires
+    pointer-requires
+    retag-without-node-requires
+    same-length
+    returns
+    retag-with-mask-requires
+    same-length-2
+    same-length-3
+    same-length-4
+    same-length-5
+    same-length-6
+    returns-2)

@@ -1,0 +1,55 @@
+// One request: 2, and then its kind (`perform`). The buffers are not tested again: they hold a state, and hold the next one afterwards.
+use answer::Answer;
+use request::Request;
+ghost use mathlib.Core.Path.{_≡_};
+ghost use mathlib.Core.List.{List};
+ghost use Prim.Native.Nat.{ℕ};
+ghost use Rattle.definition.specs.Frame.{State};
+ghost use Rattle.definition.specs.Run.{IsWord};
+ghost use Rattle.definition.specs.Valid.{All};
+ghost use Rattle.tables.specs.Held.{buffers};
+ghost use Rattle.entries.specs.Buffer.{HoldsFrames};
+ghost use Rattle.perform.specs.Performed.{HoldsState};
+ghost use Rattle.run.specs.Steps.{isRefused, Stepped};
+
+// The request falls under 2.
+fn is_refused(frames: &[u32], request: &[u32]) -> bool
+    requires { ⌜ ((s : State) × HoldsFrames (s .frames) (now frames)) ⌝ }
+    ensures { λ r. ⌜ ((s : State) → HoldsFrames (s .frames) (now (frames .entry)) → r ≡ isRefused s (now (request .entry))) ⌝ }
+{
+    let q = Request::of(request);
+    let f = q.frame_used();
+    let opened = entries::is_open(frames, f);
+    let following = request::following(request);
+    request::is_miscounted(request) | request::is_malformed(q, following, opened)
+}
+
+pub fn step(
+    allocs: &mut [u64],
+    parents: &mut [u16],
+    protectors: &mut [u8],
+    words: &mut [u32],
+    codes: &mut [u8],
+    frames: &mut [u32],
+    request: &[u32],
+) -> Answer
+    requires { ⌜ ((s : State) × HoldsState s (buffers (now allocs) (now parents) (now protectors) (now words) (now codes)) (now frames)) ⌝ }
+    ensures { λ r. ⌜ ((s : State) → HoldsState s (buffers (now (allocs .entry)) (now (parents .entry)) (now (protectors .entry)) (now (words .entry)) (now (codes .entry))) (now (frames .entry))
+        → Stepped s (now (request .entry)) r (buffers (now (allocs .exit)) (now (parents .exit)) (now (protectors .exit)) (now (words .exit)) (now (codes .exit))) (now (frames .exit))) ⌝ }
+{
+    if is_refused(frames, request) {
+        return Answer::Refused(2);
+    }
+    let q = Request::of(request);
+    let following = request::following(request);
+    perform::perform(
+        allocs,
+        parents,
+        protectors,
+        words,
+        codes,
+        frames,
+        q,
+        following,
+    )
+}
