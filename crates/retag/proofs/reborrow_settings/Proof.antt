@@ -1,0 +1,17 @@
+-- By what `safe_pointer` and `protector` give.
+use Rattle.retag.proofs.Fields.{freeze-flag}
+use borrow.Author.Needs.{needs}
+use Rattle.retag.proofs.reborrow_settings.Statement.{statement}
+use Rattle.retag.proofs.reborrow_settings.Tie as tie
+
+safe-pointer-requires : tie.Need-safe-pointer-requires
+safe-pointer-requires c κs = search needs
+
+protector-requires : tie.Need-protector-requires
+protector-requires c κs = search needs
+
+returns : tie.Need-returns
+returns c = λ mask. rw (c .before .safe-pointer .ensures, c .protector .ensures, freeze-flag (c .before .before .args .settings))
+
+pub reborrow-settings-spec : {M : Type 1} → statement M
+reborrow-settings-spec = tie.close (tie.spec safe-pointer-requires protector-requires returns)

@@ -1,0 +1,142 @@
+-- A list, turn by turn: what is left to do from the state that is held comes to what the whole list does from the empty one.
+use Prim.Native.Nat.{ℕ, _+_, _-_, _≤_, _<_}
+use mathlib.Core.Path.{_≡_, refl, sym, ap, subst, _∙_}
+use mathlib.Core.Bool.{true, false, false≢true}
+use mathlib.Core.List.{List, [], _∷_, _++_, append-nil, append-assoc}
+use native.Mathlib.Numerals.{add-one}
+use native.Mathlib.Omega.{arith}
+use lib.ListN.{length, getD, take, drop, length-drop, drop-of-length-le}
+use lib.Seq.{take-all, take-nil, drop-cons}
+use Rattle.definition.specs.Frame.{State, empty}
+use Rattle.definition.specs.Memory as definition
+use Rattle.definition.specs.Memory.{Memory}
+use Rattle.definition.specs.Run.{step, answers, final}
+use Rattle.definition.specs.Valid.{Valid}
+use Rattle.definition.proofs.Exchanges.{order-is-free}
+use Rattle.definition.proofs.Lists.{write-length}
+use Rattle.tables.specs.Encoding.{Buffers, recordOf, parentsOf, protectorsOf, wordsOf, codesOf, encode}
+use Rattle.tables.specs.Held.{buffers, Holds}
+use Rattle.tables.proofs.Focus.{length-held}
+use Rattle.tables.proofs.Sizes.{records-fit, parents-fit, protectors-fit, words-fit, codes-fit}
+use Rattle.tables.proofs.ReadBack.{holds-allocs, holds-parents, holds-protectors, holds-words, holds-codes}
+use Rattle.entries.specs.Buffer.{framesHeld}
+use Rattle.entries.proofs.FromValid.{valid-holds}
+use Rattle.entries.proofs.Frames.{buffer-length}
+use Rattle.perform.specs.Performed.{HoldsState}
+use Rattle.answer.specs.Answer.{answerOf}
+use Rattle.answer.specs.declared.Answer.{Answer}
+use Rattle.transcript.specs.Transcript.{answerWords, transcript, WrittenTo}
+use Rattle.transcript.specs.declared.Written.{Written}
+use Rattle.transcript.proofs.Answers.{loaded-length}
+use Rattle.run.specs.declared.ListRun.the-variants.{Refused, Answered}
+use Rattle.run.specs.Lists.{requestsFrom, requestsIn, haveLengths, Ran, ListRan}
+use Rattle.run.specs.Steps.{Stepped}
+use Rattle.run.specs.Turns.{Turned, Going}
+use Rattle.run.proofs.Zeros.{Lengths}
+
+-- ---- a part of the words
+module _ (words : List ℕ) (from end : ℕ) where
+  none : (n : ℕ) → take (n - n) (drop n words) ≡ []
+  none n = let e : n - n ≡ 0 = omega arith in ap (λ (k : ℕ). take k (drop n words)) e
+
+  pub part-behind : length words < from → take (length words - length words) (drop (length words) words) ≡ take (end - from) (drop from words)
+  part-behind h = none (length words) ∙ sym (ap (λ (l : List ℕ). take (end - from) l) (drop-of-length-le words {i = from} (omega arith)) ∙ take-nil (end - from))
+
+  pub part-before : end < from → take (length words - length words) (drop (length words) words) ≡ take (end - from) (drop from words)
+  part-before h = let e : end - from ≡ 0 = omega arith in none (length words) ∙ sym (ap (λ (k : ℕ). take k (drop from words)) e)
+
+  pub part-rest : length words < end → take (length words - from) (drop from words) ≡ take (end - from) (drop from words)
+  part-rest h =
+      let n = length-drop from words in
+      take-all (length words - from) (drop from words) (omega (arith, n)) ∙ sym (take-all (end - from) (drop from words) (omega (arith, n)))
+
+-- ---- the lengths of buffers that hold a state
+pub state-lengths : {s : State} {A P R W C F : List ℕ} → HoldsState s (buffers A P R W C) F → Lengths (buffers A P R W C) F
+state-lengths {s} {A} {P} {R} {W} {C} {F} h =
+    let m : Memory = s .memory in
+    let v : Valid m = h .valid .memory in
+    let k : Holds m (buffers A P R W C) = record { valid = v; equal = h .memory } in
+    record {
+      allocs = ap length (holds-allocs k) ∙ length-held 768 recordOf m (records-fit m v);
+      parents = ap length (holds-parents k) ∙ length-held 1024 parentsOf m (parents-fit m v);
+      protectors = ap length (holds-protectors k) ∙ length-held 1024 protectorsOf m (protectors-fit m v);
+      words = ap length (holds-words k) ∙ length-held 4096 wordsOf m (words-fit m v);
+      codes = ap length (holds-codes k) ∙ length-held 32768 codesOf m (codes-fit m v);
+      frames = buffer-length (s .frames) F 0 (valid-holds s F (h .valid) (h .frames)) (omega arith);
+    }
+
+pub written-length : {text before out : List ℕ} {w : Written} → WrittenTo text before out w → length out ≡ length before
+written-length {text} {before} h = ap length (h .contents) ∙ write-length 0 text before
+
+-- ---- one turn
+module _ {s : State} {ws : List ℕ} {r : Answer} {A P R W C F : List ℕ} (k : Stepped s ws r (buffers A P R W C) F) where
+  pub few-words : length (answerOf r W .words) ≤ 4096
+  few-words = omega (arith, loaded-length r W, state-lengths (k .holds) .words)
+
+  pub turned : {w w′ : Written} {out out′ : List ℕ}
+      → ((text before : List ℕ) → WrittenTo text before out w → WrittenTo (text ++ answerWords (answerOf r W)) before out′ w′)
+      → Turned s ws w out w′ (buffers A P R W C) F out′
+  turned {w} {w′} {out} {out′} f = record {
+    holds = k .holds;
+    written = λ text before t. subst (λ (a : definition.Answer). WrittenTo (text ++ answerWords a) before out′ w′) (k .answer) (f text before t);
+  }
+
+-- ---- the list
+module _ (words ends before : List ℕ) where
+  pub going-start : {w : Written} {b : Buffers} {F : List ℕ} → HoldsState empty b F → ((out : List ℕ) → WrittenTo [] out out w) → Going words ends before 0 0 w b F before
+  going-start h f = record { state = empty; text = []; holds = h; written = f before; to-end = refl; told = refl }
+
+  module _ {i : ℕ} (from : ℕ) (inside : i < length ends) where
+    next : {end : ℕ} → end ≡ getD ends i 0 → requestsFrom from (drop i ends) words ≡ take (end - from) (drop from words) ∷ requestsFrom end (drop (i + 1) ends) words
+    unfolding requestsFrom
+    next e = ap (λ (l : List ℕ). requestsFrom from l words) (drop-cons ends i 0 inside) ∙ rw (add-one, ← e)
+
+    pub going-on : {w w′ : Written} {b b′ : Buffers} {F F′ out out′ request : List ℕ} {end : ℕ} → (g : Going words ends before i from w b F out) → end ≡ getD ends i 0
+        → request ≡ take (end - from) (drop from words) → Turned (g .state) request w out w′ b′ F′ out′ → Going words ends before (i + 1) end w′ b′ F′ out′
+    unfolding final answers transcript
+    going-on {request = request} {end} g e is t =
+        let s = g .state in
+        let rest = requestsFrom end (drop (i + 1) ends) words in
+        let left : requestsFrom from (drop i ends) words ≡ request ∷ rest = next e ∙ ap (λ (ws : List ℕ). ws ∷ rest) (sym is) in
+        record {
+          state = step s request .1;
+          text = g .text ++ answerWords (step s request .0);
+          holds = t .holds;
+          written = t .written (g .text) before (g .written);
+          to-end = sym (ap (final s) left) ∙ g .to-end;
+          told =
+              append-assoc (g .text) (answerWords (step s request .0)) (transcript (answers (step s request .1) rest))
+              ∙ ap (λ (l : List (List ℕ)). g .text ++ transcript (answers s l)) (sym left)
+              ∙ g .told;
+        }
+
+  pub ran : {i from : ℕ} {w : Written} {b : Buffers} {F out : List ℕ} → length ends ≤ i → Going words ends before i from w b F out → Ran (requestsIn words ends) before w b F out
+  unfolding requestsFrom final answers transcript
+  ran {i} {from} {w} {b} {F} {out} all g =
+      let l : List (List ℕ) = requestsIn words ends in
+      let o = order-is-free empty l in
+      let none-left : drop i ends ≡ [] = drop-of-length-le ends {i = i} all in
+      let s-end : g .state ≡ final empty l = ap (λ (x : List ℕ). final (g .state) (requestsFrom from x words)) (sym none-left) ∙ g .to-end in
+      let told : g .text ≡ transcript (answers empty l) =
+      sym (append-nil (g .text)) ∙ ap (λ (x : List ℕ). g .text ++ transcript (answers (g .state) (requestsFrom from x words))) (sym none-left) ∙ g .told in
+      let memory : b ≡ encode (final empty l .memory) = g .holds .memory ∙ ap (λ (s : State). encode (s .memory)) s-end in
+      let frames : F ≡ framesHeld (final empty l .frames) = g .holds .frames ∙ ap (λ (s : State). framesHeld (s .frames)) s-end in
+      record {
+        written = subst (λ (text : List ℕ). WrittenTo text before out w) told (g .written);
+        memory = memory;
+        frames = frames;
+        order = o;
+        same-memory = λ places e. memory ∙ ap (λ (s : State). encode (s .memory)) (sym (o .same-end places e));
+        same-frames = λ places e. frames ∙ ap (λ (s : State). framesHeld (s .frames)) (sym (o .same-end places e));
+      }
+
+-- ---- for whatever is lent
+module _ {l : List (List ℕ)} {lent : Buffers} {lentF before : List ℕ} where
+  pub not-lent : haveLengths lent lentF ≡ false → ListRan l lent lentF before (Refused 1) lent lentF before
+  not-lent e = record {
+    refused = λ f. (refl, record { memory = refl; frames = refl; answers = refl });
+    ran = λ f. absurd (false≢true (sym e ∙ f));
+  }
+
+  pub list-ran : haveLengths lent lentF ≡ true → {w : Written} {b : Buffers} {F out : List ℕ} → Ran l before w b F out → ListRan l lent lentF before (Answered (w .at) (w .whole)) b F out
+  list-ran e {w} k = record { refused = λ f. absurd (false≢true (sym f ∙ e)); ran = λ f. (w, (refl, k)) }

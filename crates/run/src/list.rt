@@ -1,0 +1,131 @@
+// A list of requests from the empty memory. It goes on after a refusal. specs/Lists.antt says what it comes to, with demand 3.
+use crate::ListRun;
+use transcript::Written;
+ghost use mathlib.Core.Path.{_≡_};
+ghost use mathlib.Core.List.{List};
+ghost use Prim.Native.Nat.{ℕ, _-_};
+ghost use lib.ListN.{take, drop};
+ghost use Rattle.definition.specs.Frame.{State, empty};
+ghost use Rattle.tables.specs.Held.{buffers};
+ghost use Rattle.perform.specs.Performed.{HoldsState};
+ghost use Rattle.run.specs.Lists.{requestsIn, Ran, ListRan};
+ghost use Rattle.run.specs.Turns.{Turned};
+
+fn wide(x: u32) -> usize
+    ensures { λ r. ⌜ r ≡ x ⌝ }
+{
+    x as usize
+}
+
+// The words from one place up to another, as far as there are any.
+fn part<'a>(words: &'a [u32], from: usize, end: usize) -> &'a [u32]
+    ensures { λ r. ⌜ now r ≡ take (end - from) (drop from (now (words .entry))) ⌝ }
+{
+    let total = words.len();
+    if total < from {
+        return &words[total..];
+    }
+    if end < from {
+        return &words[total..];
+    }
+    if total < end {
+        return &words[from..];
+    }
+    &words[from..end]
+}
+
+// One request; its answer is written behind the others.
+fn turn(
+    allocs: &mut [u64],
+    parents: &mut [u16],
+    protectors: &mut [u8],
+    words: &mut [u32],
+    codes: &mut [u8],
+    frames: &mut [u32],
+    request: &[u32],
+    answers: &mut [u32],
+    w: Written,
+) -> Written
+    requires { ⌜ ((s : State) × HoldsState s (buffers (now allocs) (now parents) (now protectors) (now words) (now codes)) (now frames)) ⌝ }
+    ensures { λ r. ⌜ ((s : State) → HoldsState s (buffers (now (allocs .entry)) (now (parents .entry)) (now (protectors .entry)) (now (words .entry)) (now (codes .entry))) (now (frames .entry))
+        → Turned s (now (request .entry)) w (now (answers .entry)) r (buffers (now (allocs .exit)) (now (parents .exit)) (now (protectors .exit)) (now (words .exit)) (now (codes .exit))) (now (frames .exit)) (now (answers .exit))) ⌝ }
+{
+    let answer = crate::step::step(allocs, parents, protectors, words, codes, frames, request);
+    transcript::put_answer(answers, w, answer, words)
+}
+
+// The whole list, on buffers that hold the empty state.
+fn run_cleared(
+    allocs: &mut [u64],
+    parents: &mut [u16],
+    protectors: &mut [u8],
+    words: &mut [u32],
+    codes: &mut [u8],
+    frames: &mut [u32],
+    requests: &[u32],
+    ends: &[u32],
+    answers: &mut [u32],
+) -> Written
+    requires { ⌜ HoldsState empty (buffers (now allocs) (now parents) (now protectors) (now words) (now codes)) (now frames) ⌝ }
+    ensures { λ r. ⌜ Ran (requestsIn (now (requests .entry)) (now (ends .entry))) (now (answers .entry)) r
+        (buffers (now (allocs .exit)) (now (parents .exit)) (now (protectors .exit)) (now (words .exit)) (now (codes .exit))) (now (frames .exit)) (now (answers .exit)) ⌝ }
+{
+    let mut w = transcript::nothing_written();
+    let mut from = 0;
+    let mut i = 0;
+    while i < ends.len() {
+        let end = wide(ends[i]);
+        let request = part(requests, from, end);
+        w = turn(
+            allocs,
+            parents,
+            protectors,
+            words,
+            codes,
+            frames,
+            request,
+            answers,
+            w,
+        );
+        from = end;
+        i += 1;
+    }
+    w
+}
+
+// The requests' words, and where each ends. Memory and frames are emptied first; each answer is written to the lent buffer.
+pub fn run_list(
+    allocs: &mut [u64],
+    parents: &mut [u16],
+    protectors: &mut [u8],
+    words: &mut [u32],
+    codes: &mut [u8],
+    frames: &mut [u32],
+    requests: &[u32],
+    ends: &[u32],
+    answers: &mut [u32],
+) -> ListRun
+    ensures { λ r. ⌜ ListRan (requestsIn (now (requests .entry)) (now (ends .entry)))
+        (buffers (now (allocs .entry)) (now (parents .entry)) (now (protectors .entry)) (now (words .entry)) (now (codes .entry))) (now (frames .entry)) (now (answers .entry))
+        r (buffers (now (allocs .exit)) (now (parents .exit)) (now (protectors .exit)) (now (words .exit)) (now (codes .exit))) (now (frames .exit)) (now (answers .exit)) ⌝ }
+{
+    if !crate::clear::have_lengths(allocs, parents, protectors, words, codes, frames) {
+        return ListRun::Refused(1);
+    }
+    crate::clear::clear(allocs, parents, protectors, words, codes, frames);
+    let w = run_cleared(
+        allocs,
+        parents,
+        protectors,
+        words,
+        codes,
+        frames,
+        requests,
+        ends,
+        answers,
+    );
+    ListRun::Answered {
+        at: w.at,
+        whole: w.whole,
+    }
+}

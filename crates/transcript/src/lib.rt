@@ -1,0 +1,113 @@
+// Answers written one behind the other into a lent buffer. specs/Transcript.antt says in which words.
+use answer::Answer;
+use pointer::Provenance;
+ghost use mathlib.Core.Path.{_≡_};
+ghost use mathlib.Core.List.{List, [], _∷_, _++_};
+ghost use Prim.Native.Nat.{ℕ, _<_, _^_, min};
+ghost use lib.ListN.{length, take, drop};
+ghost use Rattle.pointer.specs.Pointer.{provenanceOf};
+ghost use Rattle.answer.specs.Answer.{answerOf};
+ghost use Rattle.transcript.specs.Transcript.{heading, answerWords, WrittenTo};
+
+// Where the next word goes, and whether all words so far found room.
+pub struct Written {
+    pub at: usize,
+    pub whole: bool,
+}
+
+pub fn nothing_written() -> Written
+    ensures { λ r. ⌜ ((out : List ℕ) → WrittenTo [] out out r) ⌝ }
+{
+    Written { at: 0, whole: true }
+}
+
+// A word for which there is no room is dropped.
+fn put(out: &mut [u32], w: Written, word: u32) -> Written
+    ensures { λ r. ⌜ ((text before : List ℕ) → WrittenTo text before (now (out .entry)) w
+        → WrittenTo (text ++ (word ∷ [])) before (now (out .exit)) r) ⌝ }
+{
+    let at = w.at;
+    let whole = w.whole;
+    if at < out.len() {
+        out[at] = word;
+        return Written { at: at + 1, whole };
+    }
+    Written { at, whole: false }
+}
+
+fn put_words(out: &mut [u32], w: Written, words: &[u32]) -> Written
+    ensures { λ r. ⌜ ((text before : List ℕ) → WrittenTo text before (now (out .entry)) w
+        → WrittenTo (text ++ now (words .entry)) before (now (out .exit)) r) ⌝ }
+{
+    let mut next = w;
+    let mut i: usize = 0;
+    while i < words.len() {
+        next = put(out, next, words[i]);
+        i += 1;
+    }
+    next
+}
+
+fn smaller(a: usize, b: usize) -> usize
+    ensures { λ r. ⌜ r ≡ min a b ⌝ }
+{
+    if a < b { a } else { b }
+}
+
+// `len` words from `start` on, as far as there are any.
+fn words_at<'d>(words: &'d [u32], start: usize, len: usize) -> &'d [u32]
+    ensures { λ r. ⌜ now r ≡ take len (drop start (now (words .entry))) ⌝ }
+{
+    let from = smaller(start, words.len());
+    let end = from + smaller(len, words.len() - from);
+    &words[from..end]
+}
+
+fn loaded_words<'d>(answer: Answer, words: &'d [u32]) -> &'d [u32]
+    ensures { λ r. ⌜ now r ≡ answerOf answer (now (words .entry)) .words ⌝ }
+{
+    match answer {
+        Answer::Words { start, len } => words_at(words, start, len),
+        Answer::Refused(_) => words_at(words, 0, 0),
+        Answer::Leak(_) => words_at(words, 0, 0),
+        Answer::Accepted => words_at(words, 0, 0),
+        Answer::Pointer(_) => words_at(words, 0, 0),
+    }
+}
+
+fn given_provenance(answer: Answer) -> Provenance
+    ensures { λ r. ⌜ ((words : List ℕ) → provenanceOf r ≡ answerOf answer words .pointer) ⌝ }
+{
+    match answer {
+        Answer::Pointer(p) => p,
+        Answer::Refused(_) => Provenance::None,
+        Answer::Leak(_) => Provenance::None,
+        Answer::Accepted => Provenance::None,
+        Answer::Words { start: _, len: _ } => Provenance::None,
+    }
+}
+
+fn heading(refusal: u8, provenance: Provenance, count: u32) -> [u32; 5]
+    ensures { λ r. ⌜ r ≡ heading refusal (provenanceOf provenance) count ⌝ }
+{
+    match provenance {
+        Provenance::None => [refusal as u32, 0, 0, 0, count],
+        Provenance::Of { allocation, node } => [refusal as u32, 1, allocation, node, count],
+    }
+}
+
+// Writes an answer behind the others. The number of its loaded words has to fit a word; there are at most as many as `words` has.
+pub fn put_answer(out: &mut [u32], w: Written, answer: Answer, words: &[u32]) -> Written
+    requires { ⌜ length (answerOf answer (now words) .words) < 2 ^ 32 ⌝ }
+    ensures { λ r. ⌜ ((text before : List ℕ) → WrittenTo text before (now (out .entry)) w
+        → WrittenTo (text ++ answerWords (answerOf answer (now (words .entry)))) before (now (out .exit)) r) ⌝ }
+{
+    let loaded = loaded_words(answer, words);
+    let head = heading(
+        answer.refusal(),
+        given_provenance(answer),
+        loaded.len() as u32,
+    );
+    let behind_head = put_words(out, w, &head);
+    put_words(out, behind_head, loaded)
+}
