@@ -21,4 +21,4 @@ module _ {l : List (List ℕ)} {before before′ : List ℕ} {w w′ : Written} 
 
   -- the second buffer has the first list's answers, exchanged as the requests were
   pub same-answers : WrittenTo (transcript (exchangeAll places (answers empty l))) before′ out′ w′
-  same-answers = subst (λ (as : List Answer). WrittenTo (transcript as) before′ out′ w′) (one .order .same-answers places may) (other .written)
+  same-answers = subst (λ (l : List Answer). WrittenTo (transcript l) before′ out′ w′) (one .order .same-answers places may) (other .written)
