@@ -94,7 +94,7 @@ pub fn following(words: &[u32]) -> &[u32]
 }
 
 // "Box at function entry is weak, references strong."
-fn entry_protector(p: SafePointer) -> Protected
+pub fn entry_protector(p: SafePointer) -> Protected
     ensures { λ r. ⌜ permission.protector r ≡ entryProtector (permission.safePointer p) ⌝ }
 {
     match p {

@@ -79,22 +79,11 @@ fn safe_pointer(settings: RetagSettings) -> SafePointer
     }
 }
 
-// "Box at function entry is weak, references strong."
-fn entry_protector(pointer: SafePointer) -> Protected
-    ensures { λ r. ⌜ permission.protector r ≡ definition.entryProtector (permission.safePointer pointer) ⌝ }
-{
-    match pointer {
-        SafePointer::SharedRef => Protected::Strong,
-        SafePointer::MutableRef => Protected::Strong,
-        SafePointer::Box => Protected::Weak,
-    }
-}
-
 fn protector(settings: RetagSettings) -> Protected
     ensures { λ r. ⌜ permission.protector r ≡ definition.protectorOf (fieldsOf settings) ⌝ }
 {
     if settings.function_entry {
-        return entry_protector(safe_pointer(settings));
+        return request::entry_protector(safe_pointer(settings));
     }
     Protected::No
 }
