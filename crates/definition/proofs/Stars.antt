@@ -24,7 +24,7 @@ use Rattle.definition.specs.Memory.AllocationKind.{Heap}
 use Rattle.definition.specs.Frame.Frame.{Closed}
 
 -- "This run (hexadecimal) has five requests"
-abbrev theRun : List (List ℕ)
+abbrev pub theRun : List (List ℕ)
 theRun =
     (0x00000001 ∷ 0x00000000 ∷ 0x00000010 ∷ 0x00000002 ∷ [])
     ∷ (0x40000101 ∷ 0x00000000 ∷ 0x00000010 ∷ 0x60000002 ∷ 0x00000000 ∷ 0x00000002 ∷ [])
@@ -42,14 +42,14 @@ pub bytesOf : List (List ℕ) → List ℕ
 bytesOf [] = []
 bytesOf (ws ∷ wss) = bytesOfWords ws ++ bytesOf wss
 
-abbrev pointerTo : ℕ → ℕ → Answer
+abbrev pub pointerTo : ℕ → ℕ → Answer
 pointerTo allocation node = givesPointer (some (record { allocation = allocation; node = node }))
 
 -- "It prints, whole: .."
-abbrev itsAnswers : List Answer
+abbrev pub itsAnswers : List Answer
 itsAnswers = pointerTo 0 0 ∷ pointerTo 0 1 ∷ accepted ∷ givesWords (0x80000007 ∷ []) ∷ refusedWith 18 ∷ []
 
-abbrev itsState : State
+abbrev pub itsState : State
 itsState =
     record {
       memory =

@@ -11,3 +11,4 @@ pub mod Request
 pub mod Run
 pub mod Valid
 pub mod Exchange
+pub mod Output

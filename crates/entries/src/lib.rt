@@ -11,7 +11,8 @@ ghost use Rattle.definition.specs.Frame.Frame.{Closed, Open};
 ghost use Rattle.entries.specs.List.{provenanceOf, noEntry, entriesOf, byValue, appended, loaded};
 ghost use Rattle.entries.specs.Buffer.{entryWord, entryIn, entriesAt, FitsEntry, HoldsFrames};
 
-// Whom a frame protects: a node of an allocation.
+// Whom a frame protects: a node of an allocation. It has C's layout, so that C and Rust can lend a list of them.
+#[repr(C)]
 pub struct Entry {
     pub allocation: u32,
     pub node: u32,

@@ -216,7 +216,7 @@ fn is_lent(
 }
 
 // The entries are the first `count` of a list of `len` places, of which the first 64 are given.
-fn end_call_list(
+pub fn end_call_list(
     len: usize,
     list: [Entry; 64],
     count: usize,

@@ -173,7 +173,7 @@ pub fn load_view<'d>(words: &'d [u32], start: usize, len: usize) -> &'d [u32]
 }
 
 // Copies src to the front of dst.
-fn copy_words(dst: &mut [u32], src: &[u32])
+pub fn copy_words(dst: &mut [u32], src: &[u32])
     requires { ⌜ length (now src) ≤ length (now dst) ⌝ }
     ensures { λ _. ⌜ now (dst .exit) ≡ now (src .entry) ++ drop (length (now (src .entry))) (now (dst .entry)) ⌝ }
 {

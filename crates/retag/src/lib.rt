@@ -31,7 +31,8 @@ ghost use Rattle.retag.specs.Entry.{lent, isLent, Entered};
 ghost use Rattle.retag.specs.Outcome.{Performed, enteredNode, outcomeOf};
 
 // What is retagged: extra (0 shared reference, 1 mutable reference, 2 box, 3 raw, 4 function, 5 vtable pointer), and the flags. They are read
-// where they have a use: unpin for a mutable reference, the others where a node is added.
+// where they have a use: unpin for a mutable reference, the others where a node is added. It has C's layout.
+#[repr(C)]
 pub struct RetagSettings {
     pub extra: u32,
     pub function_entry: bool,
@@ -46,10 +47,10 @@ pub struct RetagAnswer {
 }
 
 // What a retag comes to, and the entry that is put into the frame's list. For none the place is behind the list.
-struct RetagOutcome {
-    answer: RetagAnswer,
-    at: usize,
-    entry: Entry,
+pub struct RetagOutcome {
+    pub answer: RetagAnswer,
+    pub at: usize,
+    pub entry: Entry,
 }
 
 // ---- settings
@@ -249,7 +250,7 @@ fn is_lent(
 }
 
 // All of a retag but the store into the frame's list, whatever stands there.
-fn retag_list(
+pub fn retag_list(
     len: usize,
     count: usize,
     allocs: &mut [u64],

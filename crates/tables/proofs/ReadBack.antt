@@ -43,7 +43,7 @@ row-back [] = refl
 row-back (p ∷ row) = ap₂ _∷_ (permission-code p) (row-back row)
 
 -- ---- the nodes of one allocation, with other numbers behind
-nodes-back : (bytes : ℕ) (live : Bool) (n : ℕ) (nodes : List Node) (P R C : List ℕ) → AllFrom n (ValidNode bytes live) nodes
+pub nodes-back : (bytes : ℕ) (live : Bool) (n : ℕ) (nodes : List Node) (P R C : List ℕ) → AllFrom n (ValidNode bytes live) nodes
     → nodesIn (length nodes) bytes (map (λ (x : Node). x .parent) nodes ++ P) (map (λ (x : Node). protectorNumber (x .protected)) nodes ++ R)
     (concatMap rowOf nodes ++ C) ≡ nodes
 unfolding nodesIn concatMap

@@ -1,0 +1,98 @@
+-- The digits of numbers, one after the other.
+use Prim.Native.Nat.{ℕ, zero, suc, _+_, _-_, _*_, _/_, _%_, _^_, _≤_, _<_}
+use mathlib.Core.Bool.{Bool, true, false}
+use mathlib.Core.List.{List, [], _∷_, _++_}
+use mathlib.Core.Path.{_≡_, refl, sym, ap, _∙_}
+use native.Mathlib.Decide.{decLt}
+use native.Mathlib.Nat.{pow-suc}
+use native.Mathlib.Omega.{arith}
+use borrow.Author.Tests.{lt-ltb, le-ltb}
+use lib.ListN.{length, length-append}
+use lib.Pow.{pow-add}
+use Rattle.definition.specs.Output.{digit, decimalWithin, decimal, hexadecimal}
+
+-- ---- a digit
+pub digit-low : (n : ℕ) → n < 10 → n + 48 ≡ digit n
+unfolding digit
+digit-low n h = rw (lt-ltb n 10 h) (omega arith)
+
+pub digit-high : (n : ℕ) → 10 ≤ n → n + 87 ≡ digit n
+unfolding digit
+digit-high n h = rw (le-ltb n 10 h) (omega arith)
+
+-- ---- decimal
+-- the digits before the last, if there are any
+abbrev split : Bool → ℕ → ℕ → List ℕ
+split small most n = elim small [ true ↦ digit n ∷ [] | false ↦ decimalWithin most (n / 10) ++ (digit (n % 10) ∷ []) ]
+
+within-one : (most n : ℕ) → n < 10 → decimalWithin most n ≡ digit n ∷ []
+unfolding decimalWithin
+within-one zero n h = refl
+within-one (suc most) n h = ap (λ (b : Bool). split b most n) (lt-ltb n 10 h)
+
+within-more : (most n : ℕ) → 10 ≤ n → decimalWithin (suc most) n ≡ decimalWithin most (n / 10) ++ (digit (n % 10) ∷ [])
+unfolding decimalWithin
+within-more most n h = ap (λ (b : Bool). split b most n) (le-ltb n 10 h)
+
+-- n and more are enough
+within-enough : (most more n : ℕ) → n ≤ most → n ≤ more → decimalWithin most n ≡ decimalWithin more n
+within-enough zero more n h k = within-one zero n (omega arith) ∙ sym (within-one more n (omega arith))
+within-enough (suc most) zero n h k = within-one (suc most) n (omega arith) ∙ sym (within-one zero n (omega arith))
+within-enough (suc most) (suc more) n h k =
+    elim (decLt n 10) [
+      | yes l ↦ within-one (suc most) n l ∙ sym (within-one (suc more) n l)
+      | no l ↦
+          within-more most n (omega arith)
+          ∙ ap (λ (t : List ℕ). t ++ (digit (n % 10) ∷ [])) (within-enough most more (n / 10) (omega arith) (omega arith))
+          ∙ sym (within-more more n (omega arith))
+    ]
+
+pub decimal-one : (n : ℕ) → n < 10 → decimal n ≡ digit n ∷ []
+unfolding decimal
+decimal-one n h = within-one n n h
+
+pub decimal-more : (n : ℕ) → 10 ≤ n → decimal n ≡ decimal (n / 10) ++ (digit (n % 10) ∷ [])
+unfolding decimal
+decimal-more n h =
+    let e : n ≡ suc (n - 1) = omega arith in
+    ap (λ (k : ℕ). decimalWithin k n) e ∙ within-more (n - 1) n h
+    ∙ ap (λ (t : List ℕ). t ++ (digit (n % 10) ∷ [])) (within-enough (n - 1) (n / 10) (n / 10) (omega arith) (omega arith))
+
+-- a number below 10 to the k + 1 has at most k + 1 digits
+decimal-short : (k n : ℕ) → n < 10 ^ suc k → length (decimal n) ≤ suc k
+decimal-short zero n h = omega (arith, ap length (decimal-one n (omega arith)))
+decimal-short (suc k) n h =
+    elim (decLt n 10) [
+      | yes l ↦ omega (arith, ap length (decimal-one n l))
+      | no l ↦
+          let q : n / 10 < 10 ^ suc k = omega (arith, pow-suc 10 (suc k)) in
+          omega (
+            arith,
+            ap length (decimal-more n (omega arith)),
+            length-append (decimal (n / 10)) (digit (n % 10) ∷ []),
+            decimal-short k (n / 10) q,
+          )
+    ]
+
+pub decimal-length : (n : ℕ) → n < 2 ^ 64 → length (decimal n) ≤ 20
+decimal-length n h = decimal-short 19 n (omega arith)
+
+-- ---- hexadecimal
+sixteens : (d : ℕ) → 16 ^ d ≡ 2 ^ (d * 4)
+sixteens zero = refl
+sixteens (suc d) =
+    let e : suc d * 4 ≡ d * 4 + 4 = omega arith in
+    pow-suc 16 d ∙ ap (λ (k : ℕ). k * 16) (sixteens d) ∙ sym (pow-add 2 (d * 4) 4) ∙ ap (λ (k : ℕ). 2 ^ k) (sym e)
+
+-- the highest digit, which the code shifts down, and the others
+pub hex-next : (left n : ℕ) → 0 < left → hexadecimal left n ≡ (digit (n / 2 ^ ((left - 1) * 4) % 16) ∷ []) ++ hexadecimal (left - 1) n
+unfolding hexadecimal
+hex-next left n h =
+    let e : left ≡ suc (left - 1) = omega arith in
+    ap (λ (k : ℕ). hexadecimal k n) e
+    ∙ ap (λ (k : ℕ). digit (n / k % 16) ∷ hexadecimal (left - 1) n) (sixteens (left - 1))
+
+pub hex-length : (digits n : ℕ) → length (hexadecimal digits n) ≡ digits
+unfolding hexadecimal
+hex-length zero n = refl
+hex-length (suc digits) n = ap suc (hex-length digits n)

@@ -1,0 +1,63 @@
+-- By the provenance.
+use mathlib.Core.Option.{none}
+use mathlib.Core.Path.{sym, ap}
+use native.Mathlib.Omega.{arith}
+use borrow.Author.Needs.{needs}
+use Rattle.definition.specs.Output.{given, ended}
+use Rattle.pointer.specs.Pointer.{provenanceOf}
+use Rattle.pointer.specs.declared.Provenance.{Provenance}
+use Rattle.report.proofs.Lines.{words-length}
+use Rattle.report.proofs.Writes.{written-as}
+use Rattle.report.proofs.answers.put_pointer.Statement.{statement}
+use Rattle.report.proofs.answers.put_pointer.Tie as tie
+
+enum-told : tie.Need-enum-told
+enum-told c = search needs
+
+put-words-requires : tie.Need-put-words-requires
+put-words-requires c κs = record { fits = omega (arith, words-length (c .before .before .before .before .before .args .loaded .now), c .before .before .before .before .before .pre) }
+
+enum-known-pointer : tie.Need-enum-known-pointer
+enum-known-pointer c = search needs
+
+cast-put-provenance : tie.Need-cast-put-provenance
+cast-put-provenance c = search needs
+
+cast-put-provenance-2 : tie.Need-cast-put-provenance-2
+cast-put-provenance-2 c = search needs
+
+put-provenance-requires : tie.Need-put-provenance-requires
+put-provenance-requires c κs = search needs
+
+same-length : tie.Need-same-length
+same-length c = search needs
+
+returns : tie.Need-returns
+unfolding given
+returns c =
+    written-as (ap (λ (p : Provenance). ended (given none (provenanceOf p) (c .before .before .before .before .before .before .before .before .args .loaded .now))) (sym (c .before .before .before .before .enum-told .given .1)))
+    (c .before .before .put-words .ensures)
+
+same-length-2 : tie.Need-same-length-2
+same-length-2 c = search needs
+
+returns-2 : tie.Need-returns-2
+unfolding given
+returns-2 c =
+    written-as (ap (λ (p : Provenance). ended (given none (provenanceOf p) (c .before .before .before .before .before .before .before .before .before .args .loaded .now))) (sym (c .before .before .before .before .before .pointer .given .1)))
+    (c .before .before .put-provenance .ensures)
+
+pub put-pointer-spec : {M : Type 1} → statement M
+put-pointer-spec =
+    tie.close
+    (tie.spec
+    enum-told
+    put-words-requires
+    enum-known-pointer
+    cast-put-provenance
+    cast-put-provenance-2
+    put-provenance-requires
+    same-length
+    returns
+    same-length-2
+    returns-2)

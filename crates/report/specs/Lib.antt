@@ -1,0 +1,4 @@
+-- What the contracts of the output speak of.
+pub mod Written
+pub mod Answer
+pub mod Memory

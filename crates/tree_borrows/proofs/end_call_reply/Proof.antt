@@ -1,0 +1,35 @@
+-- The answer of `frame`, as numbers.
+use borrow.Author.Needs.{needs}
+use Rattle.tree_borrows.proofs.end_call_reply.Statement.{statement}
+use Rattle.tree_borrows.proofs.end_call_reply.Tie as tie
+
+end-call-list-requires : tie.Need-end-call-list-requires
+end-call-list-requires c κs = search needs
+
+reply-of-requires : tie.Need-reply-of-requires
+reply-of-requires c κs = search needs
+
+same-length : tie.Need-same-length
+same-length c = search needs
+
+same-length-2 : tie.Need-same-length-2
+same-length-2 c = search needs
+
+same-length-3 : tie.Need-same-length-3
+same-length-3 c = search needs
+
+returns : tie.Need-returns
+returns c =
+    let at = c .before .before .before .before .before .before .before in
+    (at .end-call-list .result, (c .reply-of .ensures, at .end-call-list .ensures))
+
+pub end-call-reply-spec : {M : Type 1} → statement M
+end-call-reply-spec =
+    tie.close
+    (tie.spec
+    end-call-list-requires
+    reply-of-requires
+    same-length
+    same-length-2
+    same-length-3
+    returns)

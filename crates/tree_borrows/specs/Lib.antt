@@ -1,0 +1,2 @@
+-- What crosses the C interface.
+pub mod Numbers

@@ -1,0 +1,157 @@
+// The library for C and Rust: its entries under names that a linker finds, with pointers and answers as numbers (specs/Numbers.antt).
+// Each promises what the entry that it calls promises, and none has a `requires`. A slice crosses as its address and its length.
+use crate::numbers::Place;
+use crate::numbers::Reply;
+use crate::numbers::RetagMade;
+use crate::numbers::RetagReply;
+use crate::numbers::reply_of;
+use crate::numbers::retag_made;
+use crate::numbers::thin_pointer;
+use entries::Entry;
+use entries::load;
+use entries::put_if;
+use frame::end_call_list;
+use retag::RetagSettings;
+use retag::retag_list;
+ghost use mathlib.Core.Path.{_≡_};
+ghost use mathlib.Core.List.{List};
+ghost use lib.ListN.{length, set};
+ghost use Rattle.entries.specs.List.{firstOf};
+ghost use Rattle.tables.specs.Held.{buffers};
+ghost use Rattle.frame.specs.EndCall.{EndedLent};
+ghost use Rattle.retag.specs.Entry as retag;
+ghost use Rattle.tree_borrows.specs.Numbers.{pointerOf, Replied, RetagReplied};
+
+pub mod numbers;
+pub mod requests;
+
+// ---- kinds 4 and 6. Each has two functions, as in `retag` and `frame`: a lent slice of structs is for one that does nothing else.
+// All of a retag but the store into the frame's list, whatever stands there.
+fn retag_reply(
+    len: usize,
+    count: usize,
+    allocs: &mut [u64],
+    parents: &mut [u16],
+    protectors: &mut [u8],
+    words: &[u32],
+    codes: &mut [u8],
+    layout: &[u32],
+    p: Place,
+    settings: RetagSettings,
+) -> RetagMade
+    ensures { λ r. ⌜ ((places : List Entry) → length places ≡ len
+        → RetagReplied (r .answer) (λ a. retag.Entered settings (pointerOf p) (now (layout .entry))
+        (retag.lent places count (buffers (now (allocs .entry)) (now (parents .entry)) (now (protectors .entry)) (now (words .entry)) (now (codes .entry))))
+        a (set places (r .at) (r .entry))
+        (buffers (now (allocs .exit)) (now (parents .exit)) (now (protectors .exit)) (now (words .entry)) (now (codes .exit))))) ⌝ }
+{
+    let pointer = thin_pointer(p);
+    let outcome = retag_list(
+        len,
+        count,
+        allocs,
+        parents,
+        protectors,
+        words,
+        codes,
+        layout,
+        pointer,
+        settings,
+    );
+    retag_made(outcome)
+}
+
+#[no_mangle]
+pub extern "C" fn tree_borrows_retag(
+    entries: &mut [Entry],
+    count: usize,
+    allocs: &mut [u64],
+    parents: &mut [u16],
+    protectors: &mut [u8],
+    words: &[u32],
+    codes: &mut [u8],
+    layout: &[u32],
+    p: Place,
+    settings: RetagSettings,
+) -> RetagReply
+    ensures { λ r. ⌜ RetagReplied r (λ a. retag.Entered settings (pointerOf p) (now (layout .entry))
+        (retag.lent (now (entries .entry)) count (buffers (now (allocs .entry)) (now (parents .entry)) (now (protectors .entry)) (now (words .entry)) (now (codes .entry))))
+        a (now (entries .exit))
+        (buffers (now (allocs .exit)) (now (parents .exit)) (now (protectors .exit)) (now (words .entry)) (now (codes .exit)))) ⌝ }
+{
+    let len = entries.len();
+    let made = retag_reply(
+        len,
+        count,
+        allocs,
+        parents,
+        protectors,
+        words,
+        codes,
+        layout,
+        p,
+        settings,
+    );
+    put_if(entries, made.at, made.entry);
+    made.answer
+}
+
+// The entries are the first `count` of a list of `len` places, of which the first 64 are given.
+fn end_call_reply(
+    len: usize,
+    list: [Entry; 64],
+    count: usize,
+    allocs: &[u64],
+    parents: &[u16],
+    protectors: &mut [u8],
+    words: &[u32],
+    codes: &mut [u8],
+    area: &mut [u8],
+) -> Reply
+    ensures { λ r. ⌜ Replied r (λ a. EndedLent len count (firstOf count list)
+        (buffers (now (allocs .entry)) (now (parents .entry)) (now (protectors .entry)) (now (words .entry)) (now (codes .entry))) (now (area .entry))
+        a (buffers (now (allocs .entry)) (now (parents .entry)) (now (protectors .exit)) (now (words .entry)) (now (codes .exit))) (now (area .exit))) ⌝ }
+{
+    let answer = end_call_list(
+        len,
+        list,
+        count,
+        allocs,
+        parents,
+        protectors,
+        words,
+        codes,
+        area,
+    );
+    reply_of(answer)
+}
+
+#[no_mangle]
+pub extern "C" fn tree_borrows_end_call(
+    entries: &[Entry],
+    count: usize,
+    allocs: &[u64],
+    parents: &[u16],
+    protectors: &mut [u8],
+    words: &[u32],
+    codes: &mut [u8],
+    area: &mut [u8],
+) -> Reply
+    ensures { λ r. ⌜ Replied r (λ a. EndedLent (length (now (entries .entry))) count (firstOf count (now (entries .entry)))
+        (buffers (now (allocs .entry)) (now (parents .entry)) (now (protectors .entry)) (now (words .entry)) (now (codes .entry))) (now (area .entry))
+        a (buffers (now (allocs .entry)) (now (parents .entry)) (now (protectors .exit)) (now (words .entry)) (now (codes .exit))) (now (area .exit))) ⌝ }
+{
+    let len = entries.len();
+    let list = load(entries);
+    end_call_reply(
+        len,
+        list,
+        count,
+        allocs,
+        parents,
+        protectors,
+        words,
+        codes,
+        area,
+    )
+}

@@ -1,0 +1,142 @@
+// Pointers and answers as numbers.
+use answer::Answer;
+use entries::Entry;
+use pointer::Provenance;
+use pointer::ThinPointer;
+use retag::RetagOutcome;
+ghost use Prim.Native.Nat.{ℕ};
+ghost use mathlib.Core.Path.{_≡_};
+ghost use mathlib.Core.List.{List};
+ghost use Rattle.answer.specs.Answer.{answerOf};
+ghost use Rattle.pointer.specs.Pointer.{thinPointerOf};
+ghost use Rattle.tree_borrows.specs.Numbers.{pointerOf, pointerReply, replyOf, loadedWords, madeOf};
+
+// A pointer. Allocation and node are read only where it has provenance.
+#[repr(C)]
+pub struct Place {
+    pub address: u64,
+    pub provenance: bool,
+    pub allocation: u32,
+    pub node: u32,
+}
+
+// An answer.
+#[repr(C)]
+pub struct Reply {
+    // document 01's number, 0 for an accepted request
+    pub refusal: u8,
+    // what the next two are: 0 nothing, 1 a pointer's allocation and node, 2 the start and length of the loaded words in the lent data,
+    // 3 the allocation that 25 names
+    pub gives: u8,
+    pub first: u64,
+    pub second: u64,
+}
+
+// A retag's answer, and how many entries the frame then has.
+#[repr(C)]
+pub struct RetagReply {
+    pub reply: Reply,
+    pub count: usize,
+}
+
+// With the entry that is put into the frame's list. For none the place is behind the list.
+pub struct RetagMade {
+    pub answer: RetagReply,
+    pub at: usize,
+    pub entry: Entry,
+}
+
+pub fn thin_pointer(p: Place) -> ThinPointer
+    ensures { λ r. ⌜ thinPointerOf r ≡ pointerOf p ⌝ }
+{
+    let addr = p.address;
+    if p.provenance {
+        let provenance = Provenance::Of {
+            allocation: p.allocation,
+            node: p.node,
+        };
+        return ThinPointer { addr, provenance };
+    }
+    let provenance = Provenance::None;
+    ThinPointer { addr, provenance }
+}
+
+fn pointer_reply(p: Provenance) -> Reply
+    ensures { λ r. ⌜ r ≡ pointerReply p ⌝ }
+{
+    match p {
+        Provenance::None => Reply {
+            refusal: 0,
+            gives: 0,
+            first: 0,
+            second: 0,
+        },
+        Provenance::Of { allocation, node } => Reply {
+            refusal: 0,
+            gives: 1,
+            first: allocation as u64,
+            second: node as u64,
+        },
+    }
+}
+
+pub fn reply_of(answer: Answer) -> Reply
+    ensures { λ r. ⌜ r ≡ replyOf answer ⌝ }
+{
+    match answer {
+        Answer::Refused(n) => Reply {
+            refusal: n,
+            gives: 0,
+            first: 0,
+            second: 0,
+        },
+        Answer::Leak(allocation) => Reply {
+            refusal: 25,
+            gives: 3,
+            first: allocation as u64,
+            second: 0,
+        },
+        Answer::Accepted => Reply {
+            refusal: 0,
+            gives: 0,
+            first: 0,
+            second: 0,
+        },
+        Answer::Pointer(p) => pointer_reply(p),
+        Answer::Words { start, len } => Reply {
+            refusal: 0,
+            gives: 2,
+            first: start as u64,
+            second: len as u64,
+        },
+    }
+}
+
+// An answer that hands out the words which a reply names.
+pub fn loaded(reply: Reply) -> Answer
+    ensures { λ r. ⌜ ((words : List ℕ) → answerOf r words .words ≡ loadedWords reply words) ⌝ }
+{
+    if reply.gives == 2 {
+        return Answer::Words {
+            start: reply.first as usize,
+            len: reply.second as usize,
+        };
+    }
+    Answer::Accepted
+}
+
+pub fn retag_made(outcome: RetagOutcome) -> RetagMade
+    ensures { λ r. ⌜ r ≡ madeOf outcome ⌝ }
+{
+    let answer = outcome.answer;
+    let count = answer.count;
+    let answer = answer.answer;
+    let reply = reply_of(answer);
+    let answer = RetagReply { reply, count };
+    let entry = outcome.entry;
+    RetagMade {
+        answer,
+        at: outcome.at,
+        entry,
+    }
+}

@@ -1,0 +1,232 @@
+// Kinds 0 to 3 and 7 to 9, on five lent buffers.
+use crate::numbers::Place;
+use crate::numbers::Reply;
+use crate::numbers::loaded;
+use crate::numbers::reply_of;
+use crate::numbers::thin_pointer;
+ghost use mathlib.Core.Path.{_≡_};
+ghost use mathlib.Core.Bool.{false};
+ghost use lib.ListN.{length};
+ghost use Rattle.definition.specs.Memory as definition;
+ghost use Rattle.pointer.specs.Pointer.{back, ahead};
+ghost use Rattle.tables.specs.Decoding.{allocationKind};
+ghost use Rattle.tables.specs.Held.{buffers};
+ghost use Rattle.memory.specs.Access.{loadOf, storeOf};
+ghost use Rattle.library.specs.Fields.{badExponent, badAllocation, badStore};
+ghost use Rattle.library.specs.Entry.{Entered, LeakEntered};
+ghost use Rattle.tree_borrows.specs.Numbers.{pointerOf, loadedWords, copiedTo, Replied};
+
+// Kind 0.
+#[no_mangle]
+pub extern "C" fn tree_borrows_allocate(
+    allocs: &mut [u64],
+    parents: &[u16],
+    protectors: &[u8],
+    words: &[u32],
+    codes: &mut [u8],
+    kind: u64,
+    len: u64,
+    exponent: u64,
+    address: u64,
+) -> Reply
+    ensures { λ r. ⌜ Replied r (λ a. Entered (badAllocation kind exponent) (definition.allocate (allocationKind kind) len exponent address)
+        (buffers (now (allocs .entry)) (now (parents .entry)) (now (protectors .entry)) (now (words .entry)) (now (codes .entry)))
+        a
+        (buffers (now (allocs .exit)) (now (parents .entry)) (now (protectors .entry)) (now (words .entry)) (now (codes .exit)))) ⌝ }
+{
+    let answer = library::allocate::allocate(
+        allocs,
+        parents,
+        protectors,
+        words,
+        codes,
+        kind,
+        len,
+        exponent,
+        address,
+    );
+    reply_of(answer)
+}
+
+// Kind 1.
+#[no_mangle]
+pub extern "C" fn tree_borrows_deallocate(
+    allocs: &mut [u64],
+    parents: &[u16],
+    protectors: &[u8],
+    words: &[u32],
+    codes: &mut [u8],
+    p: Place,
+    kind: u64,
+    len: u64,
+    exponent: u64,
+) -> Reply
+    ensures { λ r. ⌜ Replied r (λ a. Entered (badAllocation kind exponent) (definition.deallocate (pointerOf p) (allocationKind kind) len exponent)
+        (buffers (now (allocs .entry)) (now (parents .entry)) (now (protectors .entry)) (now (words .entry)) (now (codes .entry)))
+        a
+        (buffers (now (allocs .exit)) (now (parents .entry)) (now (protectors .entry)) (now (words .entry)) (now (codes .exit)))) ⌝ }
+{
+    let pointer = thin_pointer(p);
+    let answer = library::deallocate::deallocate(
+        allocs,
+        parents,
+        protectors,
+        words,
+        codes,
+        pointer,
+        kind,
+        len,
+        exponent,
+    );
+    reply_of(answer)
+}
+
+// Kind 2: the reply names the loaded words, a part of the lent data.
+#[no_mangle]
+pub extern "C" fn tree_borrows_load(
+    allocs: &[u64],
+    parents: &[u16],
+    protectors: &[u8],
+    words: &[u32],
+    codes: &mut [u8],
+    p: Place,
+    len: u64,
+    exponent: u64,
+) -> Reply
+    ensures { λ r. ⌜ Replied r (λ a. Entered (badExponent exponent) (definition.performAccess (loadOf (pointerOf p) len exponent))
+        (buffers (now (allocs .entry)) (now (parents .entry)) (now (protectors .entry)) (now (words .entry)) (now (codes .entry)))
+        a
+        (buffers (now (allocs .entry)) (now (parents .entry)) (now (protectors .entry)) (now (words .entry)) (now (codes .exit)))) ⌝ }
+{
+    let pointer = thin_pointer(p);
+    let answer = library::load::load(
+        allocs,
+        parents,
+        protectors,
+        words,
+        codes,
+        pointer,
+        len,
+        exponent,
+    );
+    reply_of(answer)
+}
+
+// The loaded words, which C cannot be handed as a part of the lent data, go to the front of `out`; it stays as it is where it is too short.
+// The answer is how many there are.
+#[no_mangle]
+pub extern "C" fn tree_borrows_load_view(words: &[u32], reply: Reply, out: &mut [u32]) -> usize
+    ensures { λ r. ⌜ (r ≡ length (loadedWords reply (now (words .entry)))) × (now (out .exit) ≡ copiedTo (now (out .entry)) (loadedWords reply (now (words .entry)))) ⌝ }
+{
+    let answer = loaded(reply);
+    let view = library::load::load_view(words, answer);
+    if view.len() > out.len() {
+        return view.len();
+    }
+    memory::access::copy_words(out, view);
+    view.len()
+}
+
+// Kind 3.
+#[no_mangle]
+pub extern "C" fn tree_borrows_store(
+    allocs: &[u64],
+    parents: &[u16],
+    protectors: &[u8],
+    words: &mut [u32],
+    codes: &mut [u8],
+    p: Place,
+    bytes: &[u32],
+    exponent: u64,
+) -> Reply
+    ensures { λ r. ⌜ Replied r (λ a. Entered (badStore (now (bytes .entry)) exponent) (definition.performAccess (storeOf (pointerOf p) (now (bytes .entry)) exponent))
+        (buffers (now (allocs .entry)) (now (parents .entry)) (now (protectors .entry)) (now (words .entry)) (now (codes .entry)))
+        a
+        (buffers (now (allocs .entry)) (now (parents .entry)) (now (protectors .entry)) (now (words .exit)) (now (codes .exit)))) ⌝ }
+{
+    let pointer = thin_pointer(p);
+    let answer = library::store::store(
+        allocs,
+        parents,
+        protectors,
+        words,
+        codes,
+        pointer,
+        bytes,
+        exponent,
+    );
+    reply_of(answer)
+}
+
+// Kind 7.
+#[no_mangle]
+pub extern "C" fn tree_borrows_dereferenceable(
+    allocs: &[u64],
+    parents: &[u16],
+    protectors: &[u8],
+    words: &[u32],
+    codes: &[u8],
+    p: Place,
+    len: u64,
+) -> Reply
+    ensures { λ r. ⌜ Replied r (λ a. Entered false (definition.dereferenceable (pointerOf p) 0 len)
+        (buffers (now (allocs .entry)) (now (parents .entry)) (now (protectors .entry)) (now (words .entry)) (now (codes .entry)))
+        a
+        (buffers (now (allocs .entry)) (now (parents .entry)) (now (protectors .entry)) (now (words .entry)) (now (codes .entry)))) ⌝ }
+{
+    let pointer = thin_pointer(p);
+    let answer = library::dereferenceable::dereferenceable(
+        allocs,
+        parents,
+        protectors,
+        words,
+        codes,
+        pointer,
+        len,
+    );
+    reply_of(answer)
+}
+
+// Kind 8.
+#[no_mangle]
+pub extern "C" fn tree_borrows_signed_dereferenceable(
+    allocs: &[u64],
+    parents: &[u16],
+    protectors: &[u8],
+    words: &[u32],
+    codes: &[u8],
+    p: Place,
+    len: i64,
+) -> Reply
+    ensures { λ r. ⌜ Replied r (λ a. Entered false (definition.dereferenceable (pointerOf p) (back len) (ahead len))
+        (buffers (now (allocs .entry)) (now (parents .entry)) (now (protectors .entry)) (now (words .entry)) (now (codes .entry)))
+        a
+        (buffers (now (allocs .entry)) (now (parents .entry)) (now (protectors .entry)) (now (words .entry)) (now (codes .entry)))) ⌝ }
+{
+    let pointer = thin_pointer(p);
+    let answer = library::dereferenceable::signed_dereferenceable(
+        allocs,
+        parents,
+        protectors,
+        words,
+        codes,
+        pointer,
+        len,
+    );
+    reply_of(answer)
+}
+
+// Kind 9: 25 names the lowest leak.
+#[no_mangle]
+pub extern "C" fn tree_borrows_leak_check(
+    allocs: &[u64],
+    parents: &[u16],
+    protectors: &[u8],
+    words: &[u32],
+    codes: &[u8],
+) -> Reply
+    ensures { λ r. ⌜ Replied r (LeakEntered (buffers (now (allocs .entry)) (now (parents .entry)) (now (protectors .entry)) (now (words .entry)) (now (codes .entry)))) ⌝ }
+{
+    let answer = library::leak_check::leak_check(allocs, parents, protectors, words, codes);
+    reply_of(answer)
+}
