@@ -6,7 +6,7 @@ use mathlib.Core.List.{List, [], _∷_, _++_}
 use native.Mathlib.Omega.{arith}
 use borrow.Author.Tests.{ne-eqb}
 use lib.Dec.{eqb}
-use lib.ListN.{length, getD, take, drop, replicate, length-map, take-append-drop}
+use lib.ListN.{length, getD, take, drop, replicate, length-map, length-take, take-append-drop}
 use lib.Seq.{length-take-le, take-at, drop-at, drop-cons}
 use Rattle.definition.specs.Notation.{if_then_else_, _or_, mutateAt}
 use Rattle.definition.specs.Tree.{Node, parents}
@@ -238,3 +238,20 @@ module _ {m : Memory} {A P R C : List ℕ} (h : HoldsTrees m A P R C) {w n c : �
           refusal = k .refusal;
           nodes = subst (λ (b : Bool). HoldsNodes (if b then afterReleaseAll m es else m) R″ C″) (sym some) stays;
         }
+
+-- ---- one entry at most: the first refusal is met in the memory as it was
+or-none : (r : ℕ) → (r or 0) ≡ r
+or-none zero = refl
+or-none (suc r) = refl
+
+one-at-most : (m : Memory) (es : List Provenance) → length es ≤ 1 → untilRefused m es ≡ unlessRefused (releaseAllRefusal m es) m (afterReleaseAll m es)
+unfolding untilRefused releaseAllRefusal afterReleaseAll
+one-at-most m [] l = refl
+one-at-most m (e ∷ []) l = ap (λ (r : ℕ). unlessRefused r m (afterRelease m e)) (sym (or-none (releaseRefusal m e)))
+one-at-most m (e ∷ x ∷ es) l = absurd (omega arith)
+
+few : (list : Entries) → list .count ≤ 1 → length (entriesOf list) ≤ 1
+few list l = omega (arith, length-map (take (list .count) (list .list)) provenanceOf, length-take (list .count) (list .list))
+
+pub all-by-one : {m : Memory} (list : Entries) → list .count ≤ 1 → {answer : ℕ} {R C : List ℕ} → ReleasedUntil m (entriesOf list) answer R C → ReleasedAll m (entriesOf list) answer R C
+all-by-one {m} list l {answer} {R} {C} k = record { refusal = k .refusal; nodes = subst (λ (x : Memory). HoldsNodes x R C) (one-at-most m (entriesOf list) (few list l)) (k .nodes) }

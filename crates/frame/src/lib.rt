@@ -147,7 +147,64 @@ fn release_all(
     refused
 }
 
+// The same for one entry at most, whose release leaves all as it was where it is refused: nothing needs to be saved.
+fn release_one(
+    allocs: &[u64],
+    parents: &[u16],
+    protectors: &mut [u8],
+    codes: &mut [u8],
+    list: Entries,
+) -> u8
+    requires { ⌜ ((m : Memory) × (HoldsTrees m (now allocs) (now parents) (now protectors) (now codes) × AllMade m (entriesOf list))) ⌝ }
+    requires { ⌜ list .count ≤ 1 ⌝ }
+    ensures { λ r. ⌜ ((m : Memory) → HoldsTrees m (now (allocs .entry)) (now (parents .entry)) (now (protectors .entry)) (now (codes .entry)) → AllMade m (entriesOf list)
+        → ReleasedAll m (entriesOf list) r (now (protectors .exit)) (now (codes .exit))) ⌝ }
+{
+    let mut row = [0u8; 4096];
+    release_until(allocs, parents, protectors, codes, &mut row, list)
+}
+
+// With a working area of its own, where one is needed.
+fn release_list(
+    allocs: &[u64],
+    parents: &[u16],
+    protectors: &mut [u8],
+    codes: &mut [u8],
+    list: Entries,
+) -> u8
+    requires { ⌜ ((m : Memory) × (HoldsTrees m (now allocs) (now parents) (now protectors) (now codes) × AllMade m (entriesOf list))) ⌝ }
+    requires { ⌜ list .count ≤ 64 ⌝ }
+    ensures { λ r. ⌜ ((m : Memory) → HoldsTrees m (now (allocs .entry)) (now (parents .entry)) (now (protectors .entry)) (now (codes .entry)) → AllMade m (entriesOf list)
+        → ReleasedAll m (entriesOf list) r (now (protectors .exit)) (now (codes .exit))) ⌝ }
+{
+    if list.count < 2 {
+        return release_one(allocs, parents, protectors, codes, list);
+    }
+    let mut area = [0u8; 32768];
+    release_all(allocs, parents, protectors, codes, &mut area, list)
+}
+
 // ---- an end call
+// In a run, where nobody lends a working area.
+pub fn end_call_in_run(
+    allocs: &[u64],
+    parents: &[u16],
+    protectors: &mut [u8],
+    codes: &mut [u8],
+    list: Entries,
+) -> Answer
+    requires { ⌜ ((m : Memory) × HoldsTrees m (now allocs) (now parents) (now protectors) (now codes)) ⌝ }
+    requires { ⌜ list .count ≤ 64 ⌝ }
+    ensures { λ r. ⌜ ((m : Memory) → HoldsTrees m (now (allocs .entry)) (now (parents .entry)) (now (protectors .entry)) (now (codes .entry))
+        → Ended m (entriesOf list) r (now (protectors .exit)) (now (codes .exit))) ⌝ }
+{
+    if any_never_made(allocs, list) {
+        return Answer::Refused(4);
+    }
+    let refused = release_list(allocs, parents, protectors, codes, list);
+    bounds::refused_with(refused)
+}
+
 // "An end call checks 4 for all entries, then 16 to 23 entry by entry."
 fn end_call_refusal(
     allocs: &[u64],

@@ -31,8 +31,7 @@ pub fn end_call(
         → LeftTrees (endCall f s) r (now (allocs .entry)) (now (parents .entry)) (now (protectors .exit)) (now (codes .exit)) (now (frames .exit))) ⌝ }
 {
     let list = entries::frame_list(frames, f);
-    let mut area = [0u8; 32768];
-    let answer = frame::end_call_held(allocs, parents, protectors, codes, &mut area, list);
+    let answer = frame::end_call_in_run(allocs, parents, protectors, codes, list);
     if answer.refusal() == 0 {
         entries::close_frame(frames, f);
     }

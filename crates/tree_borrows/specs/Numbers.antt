@@ -15,6 +15,9 @@ use Rattle.answer.specs.declared.Answer.{Answer}
 use Rattle.answer.specs.declared.Answer.the-variants.{Refused, Leak, Accepted, Pointer, Words}
 use Rattle.retag.specs.declared.RetagAnswer.{RetagAnswer}
 use Rattle.retag.specs.declared.RetagOutcome.{RetagOutcome}
+use Rattle.run.specs.declared.ListRun.{ListRun}
+use Rattle.run.specs.declared.ListRun.the-variants as ran
+use Rattle.tree_borrows.specs.declared.numbers.ListReply.{ListReply}
 use Rattle.tree_borrows.specs.declared.numbers.Place.{Place}
 use Rattle.tree_borrows.specs.declared.numbers.Reply.{Reply}
 use Rattle.tree_borrows.specs.declared.numbers.RetagReply.{RetagReply}
@@ -65,3 +68,11 @@ madeOf o = record { answer = retagReplyOf (o .answer); at = o .at; entry = o .en
 
 abbrev pub RetagReplied : RetagReply → (RetagAnswer → Type 0) → Type 0
 RetagReplied r Promise = (a : RetagAnswer) × ((r ≡ retagReplyOf a) × Promise a)
+
+-- ---- a list's
+abbrev pub listReplyOf : ListRun → ListReply
+listReplyOf (ran.Refused n) = record { refusal = n; whole = false; at = 0 }
+listReplyOf (ran.Answered at whole) = record { refusal = 0; whole = whole; at = at }
+
+abbrev pub ListReplied : ListReply → (ListRun → Type 0) → Type 0
+ListReplied r Promise = (a : ListRun) × ((r ≡ listReplyOf a) × Promise a)

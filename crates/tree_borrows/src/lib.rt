@@ -22,6 +22,7 @@ ghost use Rattle.frame.specs.EndCall.{EndedLent};
 ghost use Rattle.retag.specs.Entry as retag;
 ghost use Rattle.tree_borrows.specs.Numbers.{pointerOf, Replied, RetagReplied};
 
+pub mod lists;
 pub mod numbers;
 pub mod requests;
 

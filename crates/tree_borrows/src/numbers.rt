@@ -4,12 +4,13 @@ use entries::Entry;
 use pointer::Provenance;
 use pointer::ThinPointer;
 use retag::RetagOutcome;
+use run::ListRun;
 ghost use Prim.Native.Nat.{ℕ};
 ghost use mathlib.Core.Path.{_≡_};
 ghost use mathlib.Core.List.{List};
 ghost use Rattle.answer.specs.Answer.{answerOf};
 ghost use Rattle.pointer.specs.Pointer.{thinPointerOf};
-ghost use Rattle.tree_borrows.specs.Numbers.{pointerOf, pointerReply, replyOf, loadedWords, madeOf};
+ghost use Rattle.tree_borrows.specs.Numbers.{pointerOf, pointerReply, replyOf, loadedWords, madeOf, listReplyOf};
 
 // A pointer. Allocation and node are read only where it has provenance.
 #[repr(C)]
@@ -37,6 +38,14 @@ pub struct Reply {
 pub struct RetagReply {
     pub reply: Reply,
     pub count: usize,
+}
+
+// What a list of requests comes to: a refusal of the whole (1), or how far its answers reach in the lent buffer, and whether all of them are there.
+#[repr(C)]
+pub struct ListReply {
+    pub refusal: u8,
+    pub whole: bool,
+    pub at: usize,
 }
 
 // With the entry that is put into the frame's list. For none the place is behind the list.
@@ -138,5 +147,22 @@ pub fn retag_made(outcome: RetagOutcome) -> RetagMade
         answer,
         at: outcome.at,
         entry,
+    }
+}
+
+pub fn list_reply(answer: ListRun) -> ListReply
+    ensures { λ r. ⌜ r ≡ listReplyOf answer ⌝ }
+{
+    match answer {
+        ListRun::Refused(n) => ListReply {
+            refusal: n,
+            whole: false,
+            at: 0,
+        },
+        ListRun::Answered { at, whole } => ListReply {
+            refusal: 0,
+            whole,
+            at,
+        },
     }
 }
