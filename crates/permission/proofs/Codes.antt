@@ -1,17 +1,16 @@
--- The functions of a code: at a permission's code they are the definition's; from 15 on nothing changes. And what an outcome says of the refusal and of the next code.
+-- The functions of a code: at a permission's code they are the definition's; from 15 on nothing changes. And what an outcome says of the next code.
 use Prim.Native.Nat.{ℕ, _≤_, _<_}
-use mathlib.Core.Path.{_≡_, refl, ap, subst, _∙_}
+use mathlib.Core.Path.{_≡_, refl, ap, _∙_}
 use mathlib.Core.Bool.{Bool, true, false}
 use mathlib.Core.Option.{Option, none, some}
 use native.Mathlib.Decide.{decLt}
 use native.Mathlib.Omega.{arith}
 use borrow.Author.Tests.{lt-ltb, le-ltb}
-use lib.Dec.{T, eqb, eqb→eq, ltb, ltb→lt}
-use Rattle.definition.specs.Permission.{Permission, transition, refusalOf, permissionAfter, refusal, next, refusalBy, nextBy, isProtected, unprotected, endAccess, preventsDeallocation, initAccess, code, permission}
+use lib.Dec.{T, eqb, eqb→eq, ltb}
+use Rattle.definition.specs.Permission.{Permission, transition, permissionAfter, next, refusalBy, nextBy, isProtected, unprotected, endAccess, preventsDeallocation, initAccess, code, permission}
 use Rattle.definition.specs.Permission.AccessKind.{Read, Write}
 use Rattle.definition.specs.Permission.NodeRelation.{Local, Foreign}
 use Rattle.definition.specs.Permission.Outcome.{becomes, refused}
-use Rattle.definition.proofs.Booleans.{every, in-range}
 use Rattle.definition.proofs.Permissions.{permission-code, code-permission, code-small}
 use Rattle.definition.specs.Permission as definition
 use Rattle.permission.specs.declared.Outcome.{Outcome}
@@ -101,31 +100,16 @@ pub transition-past : (a : definition.AccessKind) (r : definition.NodeRelation) 
 unfolding transitionCode
 transition-past a r c h = at-past (λ p. outcomeCode (transition a r p)) (Becomes c) c h
 
--- ---- what an outcome says of the refusal and of the next code
-abbrev refusalIn : Outcome → ℕ
-refusalIn (Becomes c) = 0
-refusalIn (Refused n) = n
-
+-- ---- what an outcome says of the next code
 abbrev nextIn : ℕ → Outcome → ℕ
 nextIn c (Becomes d) = d
 nextIn c (Refused n) = c
-
-refusal-in : (o : definition.Outcome Permission) → refusalOf o ≡ refusalIn (outcomeCode o)
-refusal-in (becomes p) = refl
-refusal-in (refused n) = refl
 
 next-in : (p : Permission) (o : definition.Outcome Permission) → code (permissionAfter p o) ≡ nextIn (code p) (outcomeCode o)
 next-in p (becomes q) = refl
 next-in p (refused n) = refl
 
 module _ (a : definition.AccessKind) (r : definition.NodeRelation) (c : ℕ) where
-  refusal-is : refusalCode (some a) r c ≡ refusalIn (transitionCode a r c)
-  unfolding refusalCode transitionCode refusal
-  refusal-is = elim (decLt c 15) [
-    | yes lt ↦ rw (lt-ltb c 15 lt) (refusal-in (transition a r (permission c)))
-    | no ge ↦ rw (le-ltb c 15 (omega arith))
-  ]
-
   next-is : nextCode (some a) r c ≡ nextIn c (transitionCode a r c)
   unfolding nextCode transitionCode next
   next-is = elim (decLt c 15) [
@@ -134,35 +118,8 @@ module _ (a : definition.AccessKind) (r : definition.NodeRelation) (c : ℕ) whe
   ]
 
   module _ (d : ℕ) where
-    pub becomes-refusal : transitionCode a r c ≡ Becomes d → refusalCode (some a) r c ≡ 0
-    becomes-refusal e = refusal-is ∙ ap refusalIn e
-
-    pub refused-refusal : transitionCode a r c ≡ Refused d → refusalCode (some a) r c ≡ d
-    refused-refusal e = refusal-is ∙ ap refusalIn e
-
     pub becomes-next : transitionCode a r c ≡ Becomes d → nextCode (some a) r c ≡ d
     becomes-next e = next-is ∙ ap (nextIn c) e
 
     pub refused-next : transitionCode a r c ≡ Refused d → nextCode (some a) r c ≡ c
     refused-next e = next-is ∙ ap (nextIn c) e
-
--- ---- no refusal has the number 0
-abbrev numbered : Outcome → Bool
-numbered (Becomes c) = true
-numbered (Refused n) = ltb 0 n
-
-numbered-by : (a : definition.AccessKind) (r : definition.NodeRelation) → T (every (λ c. numbered (transitionCode a r c)) 0 15) → (c : ℕ) → T (numbered (transitionCode a r c))
-numbered-by a r t c = elim (decLt c 15) [
-  | yes lt ↦ in-range (λ k. numbered (transitionCode a r k)) 0 15 t c (omega arith) (omega arith)
-  | no ge ↦ subst (λ (o : Outcome). T (numbered o)) (transition-past a r c (omega arith)) tt
-]
-
-all-numbered : (a : definition.AccessKind) (r : definition.NodeRelation) (c : ℕ) → T (numbered (transitionCode a r c))
-unfolding transitionCode
-all-numbered Read Local c = numbered-by Read Local tt c
-all-numbered Read Foreign c = numbered-by Read Foreign tt c
-all-numbered Write Local c = numbered-by Write Local tt c
-all-numbered Write Foreign c = numbered-by Write Foreign tt c
-
-pub refused-positive : (a : definition.AccessKind) (r : definition.NodeRelation) (c n : ℕ) → transitionCode a r c ≡ Refused n → 0 < n
-refused-positive a r c n e = ltb→lt 0 n (subst (λ (o : Outcome). T (numbered o)) e (all-numbered a r c))

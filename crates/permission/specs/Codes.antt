@@ -1,9 +1,10 @@
 -- The code's enums as the definition's data, and the definition's functions of a permission as functions of a code.
-use Prim.Native.Nat.{ℕ}
+use Prim.Native.Nat.{ℕ, _+_}
 use mathlib.Core.Bool.{Bool, true, false}
 use mathlib.Core.Option.{Option, none, some}
+use mathlib.Core.List.{List, [], _∷_, _++_}
 use lib.Dec.{ltb}
-use Rattle.definition.specs.Notation.{if_then_else_}
+use Rattle.definition.specs.Notation.{if_then_else_, _or_, table}
 use Rattle.definition.specs.Permission as definition
 use Rattle.definition.specs.Permission.{Permission, transition, refusal, next, refusalBy, nextBy, isProtected, unprotected, endAccess, preventsDeallocation, initAccess, code, permission}
 use Rattle.definition.specs.Permission.Outcome.{becomes, refused}
@@ -76,3 +77,24 @@ preventsCode c = byCode preventsDeallocation false c
 
 unfoldable pub initAccessCode : ℕ → Option definition.AccessKind
 initAccessCode c = byCode initAccess none c
+
+-- ---- the outcomes as a table
+-- the number of the refusal, or the next code
+abbrev pub outcome : Option definition.AccessKind → definition.NodeRelation → ℕ → ℕ
+outcome a r c = refusalCode a r c or nextCode a r c
+
+-- sixteen of them for each access, the lines of a foreign node first
+abbrev pub lines : definition.NodeRelation → List ℕ
+lines r = table 16 (outcome none r) ++ (table 16 (outcome (some definition.AccessKind.Read) r) ++ table 16 (outcome (some definition.AccessKind.Write) r))
+
+unfoldable pub outcomeTable : List ℕ
+outcomeTable = lines definition.NodeRelation.Foreign ++ lines definition.NodeRelation.Local
+
+abbrev pub lineIn : Option definition.AccessKind → ℕ
+lineIn none = 0
+lineIn (some definition.AccessKind.Read) = 16
+lineIn (some definition.AccessKind.Write) = 32
+
+abbrev pub lineOf : Option definition.AccessKind → definition.NodeRelation → ℕ
+lineOf a definition.NodeRelation.Foreign = lineIn a
+lineOf a definition.NodeRelation.Local = lineIn a + 48

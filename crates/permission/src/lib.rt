@@ -1,13 +1,12 @@
 // One permission, held as its code, and one access. A number from 15 on holds no permission: nothing changes it, and it allows everything.
 ghost use mathlib.Core.Path.{_≡_};
-ghost use mathlib.Core.Option.{some};
-ghost use Rattle.definition.specs.Notation.{table};
+ghost use Prim.Native.Nat.{_≤_};
 ghost use Rattle.definition.specs.Permission.{code};
 ghost use Rattle.definition.specs.Permission.AccessKind.{Read, Write};
 ghost use Rattle.definition.specs.Permission.NodeRelation.{Local, Foreign};
 ghost use Rattle.definition.specs.Permission.Protected.{No, Weak, Strong};
 ghost use Rattle.definition.specs.Retag.{startPerm};
-ghost use Rattle.permission.specs.Codes.{accessKind, nodeRelation, maybeAccess, protector, safePointer, transitionCode, refusalCode, isProtectedCode, unprotectedCode, endAccessCode, preventsCode, initAccessCode};
+ghost use Rattle.permission.specs.Codes.{accessKind, nodeRelation, maybeAccess, protector, safePointer, transitionCode, outcomeTable, lineIn, lineOf, isProtectedCode, unprotectedCode, endAccessCode, preventsCode, initAccessCode};
 
 pub enum AccessKind {
     Read,
@@ -107,27 +106,133 @@ pub fn transition(code: u8, access: AccessKind, relation: NodeRelation) -> Outco
     }
 }
 
-// The refusals of each code, 0 for none: `transition`'s, as tables for a check of many codes.
-const LOCAL_READ: [u8; 16] = [0, 0, 0, 0, 0, 17, 0, 0, 0, 0, 0, 0, 0, 0, 17, 0];
+// What `transition` makes of each code, as a table for visits of many codes: the next code, or a refusal, whose number exceeds every code. Sixteen
+// codes for no access, for a read and for a write, of a foreign node, and then as many of a local one.
+const OUTCOMES: [u8; 96] = [
+    0,
+    1,
+    2,
+    3,
+    4,
+    5,
+    6,
+    7,
+    8,
+    9,
+    10,
+    11,
+    12,
+    13,
+    14,
+    15,
+    0,
+    1,
+    2,
+    4,
+    4,
+    5,
+    6,
+    9,
+    10,
+    9,
+    10,
+    21,
+    12,
+    13,
+    14,
+    15,
+    0,
+    5,
+    2,
+    5,
+    5,
+    5,
+    6,
+    14,
+    22,
+    14,
+    22,
+    23,
+    14,
+    22,
+    14,
+    15,
+    0,
+    1,
+    2,
+    3,
+    4,
+    5,
+    6,
+    7,
+    8,
+    9,
+    10,
+    11,
+    12,
+    13,
+    14,
+    15,
+    0,
+    1,
+    2,
+    3,
+    4,
+    17,
+    6,
+    8,
+    8,
+    10,
+    10,
+    11,
+    13,
+    13,
+    17,
+    15,
+    0,
+    3,
+    3,
+    3,
+    18,
+    19,
+    6,
+    11,
+    11,
+    20,
+    20,
+    11,
+    18,
+    18,
+    19,
+    15,
+];
 
-const LOCAL_WRITE: [u8; 16] = [0, 0, 0, 0, 18, 19, 0, 0, 0, 20, 20, 0, 18, 18, 19, 0];
+pub fn outcomes() -> [u8; 96]
+    ensures { λ r. ⌜ r ≡ outcomeTable ⌝ }
+{
+    OUTCOMES
+}
 
-const FOREIGN_READ: [u8; 16] = [0, 0, 0, 0, 0, 0, 0, 0, 0, 0, 0, 21, 0, 0, 0, 0];
-
-const FOREIGN_WRITE: [u8; 16] = [0, 0, 0, 0, 0, 0, 0, 0, 22, 0, 22, 23, 0, 22, 0, 0];
-
-pub fn refusals(access: AccessKind, relation: NodeRelation) -> [u8; 16]
-    ensures { λ r. ⌜ r ≡ table 16 (refusalCode (some (accessKind access)) (nodeRelation relation)) ⌝ }
+fn line_in(access: MaybeAccess) -> usize
+    ensures { λ r. ⌜ (r ≡ lineIn (maybeAccess access)) × (r ≤ 32) ⌝ }
 {
     match access {
-        AccessKind::Read => match relation {
-            NodeRelation::Local => LOCAL_READ,
-            NodeRelation::Foreign => FOREIGN_READ,
+        MaybeAccess::Nothing => 0,
+        MaybeAccess::Access(a) => match a {
+            AccessKind::Read => 16,
+            AccessKind::Write => 32,
         },
-        AccessKind::Write => match relation {
-            NodeRelation::Local => LOCAL_WRITE,
-            NodeRelation::Foreign => FOREIGN_WRITE,
-        },
+    }
+}
+
+// Where the sixteen of an access start.
+pub fn line_of(access: MaybeAccess, relation: NodeRelation) -> usize
+    ensures { λ r. ⌜ r ≡ lineOf (maybeAccess access) (nodeRelation relation) ⌝ }
+{
+    let line = line_in(access);
+    match relation {
+        NodeRelation::Foreign => line,
+        NodeRelation::Local => line + 48,
     }
 }
 

@@ -1,20 +1,22 @@
--- A retag's reads byte by byte: what is left of them from the k-th byte on.
-use Prim.Native.Nat.{ℕ, _+_, _≤_, _<_}
-use mathlib.Core.Path.{_≡_, sym, ap, ap₂, _∙_}
+-- A retag's reads byte by byte: what is left of them from the k-th byte on. None is refused if the visit that makes them all at once is not.
+use Prim.Native.Nat.{ℕ, zero, suc, _+_, _-_, _≤_, _<_}
+use mathlib.Core.Path.{_≡_, refl, sym, ap, ap₂, _∙_}
+use mathlib.Core.Logic.{_⊎_, inl, inr, ⊎-elim}
 use mathlib.Core.Option.{Option, none, some}
-use mathlib.Core.List.{List, map}
+use mathlib.Core.List.{List, [], _∷_, map}
 use native.Mathlib.Nat.{add-zero}
 use native.Mathlib.Numerals.{add-one}
-use native.Mathlib.Decide.{decLt}
+use native.Mathlib.Decide.{ℕ-discrete, decLt}
 use native.Mathlib.Omega.{arith}
 use borrow.Author.Tests.{lt-ltb, le-ltb}
 use lib.ListN.{length, getD, drop, length-map, drop-of-length-le, List·getD-map, List·getD-eq-default}
-use Rattle.definition.specs.Notation.{_or_}
-use Rattle.definition.specs.Permission.{AccessKind, permissions, permission, initAccess}
+use Rattle.definition.specs.Notation.{_or_, firstRefusal}
+use Rattle.definition.specs.Permission.{AccessKind, NodeRelation, Permission, permissions, permission, initAccess, refusalBy}
 use Rattle.definition.specs.Permission.Permission.{Unprot}
 use Rattle.definition.specs.Permission.PermissionUnprot.{Cell}
-use Rattle.definition.specs.Tree.{Node, visitRefusal, accessVisit}
-use Rattle.definition.proofs.Retags.{byteRefusal, readsRefusal, reads-step}
+use Rattle.definition.specs.Tree.{Node, rowRefusal, nodeRefusal, visitRefusal, accessVisit}
+use Rattle.definition.proofs.Ranges.{range-places, list-places}
+use Rattle.definition.proofs.Retags.{byteRefusal, readsRefusal, readsVisit, reads-step}
 use Rattle.permission.specs.Codes.{initAccessCode}
 use Rattle.tree.proofs.Rows.{or-positive}
 
@@ -53,3 +55,76 @@ module _ (node from : ℕ) (inside : List ℕ) (nodes : List Node) where
   unfolding readsRefusal
   reads-end k l =
       ap (λ ps. readsRefusal node (from + k) ps nodes) (drop-of-length-le (map permission inside) {i = k} (omega (arith, length-map inside permission)))
+
+-- ---- all the reads at once
+or-first : (a b : ℕ) → (a or b) ≡ 0 → a ≡ 0
+or-first zero b e = refl
+or-first (suc a) b e = absurd (omega arith)
+
+or-second : (a b : ℕ) → (a or b) ≡ 0 → b ≡ 0
+or-second zero b e = e
+or-second (suc a) b e = absurd (omega arith)
+
+first-fewer : (f g : ℕ → ℕ) → ((n : ℕ) → f n ≡ 0 → g n ≡ 0) → (ns : List ℕ) → firstRefusal f ns ≡ 0 → firstRefusal g ns ≡ 0
+unfolding firstRefusal
+first-fewer f g h [] e = refl
+first-fewer f g h (n ∷ ns) e = ap₂ _or_ (h n (or-first (f n) _ e)) (first-fewer f g h ns (or-second (f n) _ e))
+
+-- of a row that accesses are not refused in, fewer of them are not refused either
+row-fewer : (f g : ℕ → Option AccessKind) → ((b : ℕ) → (g b ≡ none) ⊎ (g b ≡ f b)) → (r : NodeRelation) (b : ℕ) (row : List Permission) → rowRefusal f r b row ≡ 0 → rowRefusal g r b row ≡ 0
+unfolding rowRefusal
+row-fewer f g h r b [] e = refl
+row-fewer f g h r b (p ∷ row) e =
+    ap₂ _or_
+    (⊎-elim (λ z. ap (λ (x : Option AccessKind). refusalBy x r p) z) (λ z. ap (λ (x : Option AccessKind). refusalBy x r p) z ∙ or-first (refusalBy (f b) r p) _ e) (h b))
+    (row-fewer f g h r (suc b) row (or-second (refusalBy (f b) r p) _ e))
+
+module _ (node from : ℕ) (inside : List ℕ) (nodes : List Node) (none-refused : visitRefusal (readsVisit node from (map permission inside)) nodes ≡ 0) where
+  -- the k-th byte's read is one of them
+  module _ (k : ℕ) (a : AccessKind) (e : initAccessCode (getD inside k 0) ≡ some a) (l : k < length inside) where
+    elsewhere : (b : ℕ) → (b ≡ from + k → ⊥) → accessVisit a node (from + k) 1 .accessAt b ≡ none
+    elsewhere b q =
+        elim (decLt b (from + k)) [
+          | yes h ↦ range-places a (from + k) 1 .before b h
+          | no h ↦
+              let later : b ≡ from + k + suc (b - suc (from + k)) = omega arith in
+              ap (accessVisit a node (from + k) 1 .accessAt) later ∙ range-places a (from + k) 1 .at (suc (b - suc (from + k)))
+        ]
+
+    here : accessVisit a node (from + k) 1 .accessAt (from + k) ≡ readsVisit node from (map permission inside) .accessAt (from + k)
+    here =
+        ap (accessVisit a node (from + k) 1 .accessAt) (sym (add-zero (from + k)))
+        ∙ range-places a (from + k) 1 .at 0
+        ∙ sym
+        (list-places from (map initAccess (map permission inside)) .at k
+        ∙ init-at inside k l
+        ∙ e)
+      where
+        init-at : (cs : List ℕ) (k : ℕ) → k < length cs → getD (map initAccess (map permission cs)) k none ≡ initAccessCode (getD cs k 0)
+        init-at [] k l = absurd (omega arith)
+        init-at (c ∷ cs) zero l = sym (init-access-permission c)
+        init-at (c ∷ cs) (suc k) l = init-at cs k (omega arith)
+
+    byte-passes : visitRefusal (accessVisit a node (from + k) 1) nodes ≡ 0
+    unfolding visitRefusal nodeRefusal
+    byte-passes =
+        first-fewer _ _
+        (λ n z.
+        row-fewer (readsVisit node from (map permission inside) .accessAt) (accessVisit a node (from + k) 1 .accessAt)
+        (λ b. elim (ℕ-discrete b (from + k)) [
+          | yes q ↦ inr (ap (accessVisit a node (from + k) 1 .accessAt) q ∙ here ∙ ap (readsVisit node from (map permission inside) .accessAt) (sym q))
+          | no q ↦ inl (elsewhere b q)
+        ]) _ 0 _ z) _ none-refused
+
+  byte-none : (k : ℕ) → k < length inside → (x : Option AccessKind) → initAccessCode (getD inside k 0) ≡ x → byteRefusal x node (from + k) nodes ≡ 0
+  byte-none k l none e = refl
+  byte-none k l (some a) e = byte-passes k a e l
+
+  left-none : (steps k : ℕ) → k + steps ≡ length inside → readsLeft node from inside nodes k ≡ 0
+  left-none zero k e = reads-end node from inside nodes k (omega arith)
+  left-none (suc steps) k e =
+      step node from inside nodes k (omega arith) (initAccessCode (getD inside k 0)) refl
+      ∙ ap₂ _or_ (byte-none k (omega arith) (initAccessCode (getD inside k 0)) refl) (left-none steps (k + 1) (omega arith))
+
+  pub reads-none : readsRefusal node from (map permission inside) nodes ≡ 0
+  reads-none = sym (reads-all node from inside nodes) ∙ left-none (length inside) 0 (omega arith)

@@ -3,6 +3,8 @@ pub mod Steps
 pub mod Rows
 pub mod Places
 pub mod Walks
+pub mod Children
+pub mod Plans
 pub mod Held
 pub mod Meaning
 pub mod Inits

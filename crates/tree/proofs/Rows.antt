@@ -8,16 +8,15 @@ use native.Mathlib.Nat.{add-zero, zero-add, min-le-left}
 use native.Mathlib.Omega.{arith}
 use lib.ListN.{length, getD, take, drop, set, getD-replicate, length-replicate, length-map, length-take, length-append, length-drop, take-append-drop, List·getD-map, drop-of-length-le}
 use lib.Seq.{getD-take, getD-drop, drop-drop, length-take-le, getD-append-add, take-at, drop-at, set-getD}
-use Rattle.definition.specs.Notation.{_or_, tableFrom, table}
-use Rattle.definition.specs.Permission.{AccessKind, NodeRelation, refusalBy}
+use Rattle.definition.specs.Notation.{_or_}
+use Rattle.definition.specs.Permission.{AccessKind, NodeRelation}
 use Rattle.definition.proofs.Lists.{loop-get, loop-set}
-use Rattle.permission.proofs.Codes.{at-past}
-use Rattle.permission.specs.declared.Outcome.the-variants.{Becomes, Refused}
-use Rattle.permission.specs.Codes.{accessKind, refusalCode, nextCode, endAccessCode, initAccessCode}
+use Rattle.permission.proofs.Lines.{outcome-at, refused-at, passes-at, next-at, stays-at}
+use Rattle.permission.specs.Codes.{accessKind, refusalCode, nextCode, endAccessCode, initAccessCode, outcome, outcomeTable, lineOf}
 use Rattle.tree.specs.declared.Accesses.{Accesses}
 use Rattle.tree.specs.declared.Accesses.the-variants.{Each, AtEnd, AtInit}
-use Rattle.tree.specs.Walk.{accessAt, accessesAt, stepped, codesRefusal, codesAfter}
-use Rattle.tree.proofs.Steps.{no-refusal, no-change, step-passes, step-refused, step-next, step-stays, step-positive}
+use Rattle.tree.specs.Walk.{accessAt, accessesAt, codesRefusal, codesAfter}
+use Rattle.tree.proofs.Steps.{no-refusal, no-change}
 
 pub or-positive : (n y : ℕ) → 0 < n → (n or y) ≡ n
 or-positive zero y h = absurd (omega arith)
@@ -97,14 +96,6 @@ module _ (what : Accesses) (n from : ℕ) (starts : List ℕ) (r : NodeRelation)
       pub check-here : 0 < d → d ≡ refusalLeft k row
       check-here p = sym (check-step k l ∙ rw (sym e) (or-positive d (refusalLeft (suc k) row) p))
 
-    module _ (k d : ℕ) (l : k < n) where
-      pub check-passes : stepped (accessAt what starts k) r (getD row (from + k) 0) ≡ Becomes d → refusalLeft (k + 1) row ≡ refusalLeft k row
-      check-passes e = check-next k 0 l (sym (step-passes r (getD row (from + k) 0) d (accessAt what starts k) e)) refl
-
-      pub check-refused : stepped (accessAt what starts k) r (getD row (from + k) 0) ≡ Refused d → d ≡ refusalLeft k row
-      check-refused e =
-          check-here k d l (sym (step-refused r (getD row (from + k) 0) d (accessAt what starts k) e)) (step-positive r (getD row (from + k) 0) d (accessAt what starts k) e)
-
   pub check-done : (row : List ℕ) → refusalLeft n row ≡ 0
   check-done row = rw (drop-of-length-le plan {i = n} (planned-length what n starts)) (nothing-refused r (drop n (drop from row)))
 
@@ -162,24 +153,25 @@ module _ (what : Accesses) (n from : ℕ) (starts : List ℕ) (r : NodeRelation)
           ∙ loop-set (changed row) row 0 (from + k) changed-length (omega arith)
           ∙ ap (λ (i : ℕ). take i (changed row) ++ drop i row) next
 
-      pub turn-becomes : (d : ℕ) → stepped (accessAt what starts k) r (getD now (from + k) 0) ≡ Becomes d → after ≡ set now (from + k) d → after ≡ changedTo (k + 1) row
-      turn-becomes d t s = turn (s ∙ ap (set now (from + k)) (sym (step-next r (getD now (from + k) 0) d (accessAt what starts k) t)))
+      pub turn-next : (d : ℕ) → d ≡ nextCode (accessAt what starts k) r (getD now (from + k) 0) → after ≡ set now (from + k) d → after ≡ changedTo (k + 1) row
+      turn-next d t s = turn (s ∙ ap (set now (from + k)) t)
 
-      pub turn-refused : (d : ℕ) → stepped (accessAt what starts k) r (getD now (from + k) 0) ≡ Refused d → after ≡ now → after ≡ changedTo (k + 1) row
-      turn-refused d t s =
-          turn (s ∙ sym (ap (set now (from + k)) (step-stays r (getD now (from + k) 0) d (accessAt what starts k) t) ∙ set-getD now (from + k) 0))
+      pub turn-stays : getD now (from + k) 0 ≡ nextCode (accessAt what starts k) r (getD now (from + k) 0) → after ≡ now → after ≡ changedTo (k + 1) row
+      turn-stays t s = turn (s ∙ sym (ap (set now (from + k)) (sym t) ∙ set-getD now (from + k) 0))
 
--- ---- a look-up of a code's refusal
-table-from-at : {A : Type 0} (f : ℕ → A) (d : A) (n b i : ℕ) → i < n → getD (tableFrom b n f) i d ≡ f (b + i)
-unfolding tableFrom
-table-from-at f d zero b i l = absurd (omega arith)
-table-from-at f d (suc n) b zero l = ap f (sym (add-zero b))
-table-from-at f d (suc n) b (suc i) l = let next : suc b + i ≡ b + suc i = omega arith in table-from-at f d n (suc b) i (omega arith) ∙ ap f next
+-- ---- a look-up of a code's outcome
+module _ (x : Option AccessKind) (r : NodeRelation) (table : List ℕ) (t : table ≡ outcomeTable) (c line i d : ℕ) (e : line ≡ lineOf x r) (small : c < 16) (at : i ≡ c) (u : d ≡ getD table (line + i) 0) where
+  looked-up : d ≡ outcome x r c
+  looked-up = u ∙ ap₂ (λ (l : List ℕ) (k : ℕ). getD l k 0) t (ap₂ _+_ e at) ∙ outcome-at x r c small
 
-pub looked-up : (x : Option AccessKind) (r : NodeRelation) (refusals : List ℕ) (c : ℕ) → refusals ≡ table 16 (refusalCode x r) → c < 16 → getD refusals c 0 ≡ refusalCode x r c
-looked-up x r refusals c e l = ap (λ (t : List ℕ). getD t c 0) e ∙ table-from-at (refusalCode x r) 0 16 0 c l ∙ ap (refusalCode x r) (zero-add c)
+  pub look-refused : 15 < d → d ≡ refusalCode x r c
+  look-refused h = looked-up ∙ refused-at x r c small (omega (arith, looked-up))
 
--- a number that is no code is not refused
-pub past-refusal : (x : Option AccessKind) (r : NodeRelation) (c : ℕ) → 15 ≤ c → 0 ≡ refusalCode x r c
-unfolding refusalCode
-past-refusal x r c h = at-past (refusalBy x r) 0 c h
+  pub look-passes : d ≤ 15 → 0 ≡ refusalCode x r c
+  look-passes h = sym (passes-at x r c small (omega (arith, looked-up)))
+
+  pub look-next : d ≤ 15 → d ≡ nextCode x r c
+  look-next h = looked-up ∙ sym (next-at x r c small (omega (arith, looked-up)))
+
+  pub look-stays : 15 < d → c ≡ nextCode x r c
+  look-stays h = sym (stays-at x r c small (omega (arith, looked-up)))

@@ -1,5 +1,5 @@
 -- A visit of the descendants of n among the nodes from m on, at node m: what is left of it from m on is m with its own descendants, if it is a child
--- of n and not spared, and what is left from m + 1 on.
+-- of n and not spared, and what is left from m + 1 on. And a visit of a node and its descendants: first the node.
 use Prim.Native.Nat.{ℕ, suc, _+_, _≤_, _<_}
 use mathlib.Core.Path.{_≡_, refl, sym, ap, _∙_}
 use mathlib.Core.List.{List, [], _∷_, _++_}
@@ -8,7 +8,6 @@ use native.Mathlib.Omega.{arith}
 use lib.ListN.{length, getD, drop, drop-of-length-le}
 use lib.Seq.{drop-cons}
 use Rattle.definition.specs.Notation.{_or_, firstRefusal}
-use Rattle.definition.proofs.Lists.{first-append}
 use Rattle.definition.proofs.Order.{walk, walk-child, walk-spared, walk-other}
 use Rattle.tree.specs.declared.Reach.{Reach}
 use Rattle.tree.specs.Walk.{subtree, nodeRefusal, nodeAfter, walkRefusal, walkAfter}
@@ -42,29 +41,9 @@ module _ (v : Reach) (ps starts codes : List ℕ) where
   unfolding firstRefusal
   first-subtree n = refl
 
-  module _ (n m : ℕ) where
-    pub first-child : m < length ps → getD ps m 0 ≡ n → (m ≡ v .spared → ⊥)
-        → walkRefusal v ps starts codes (walk (v .spared) n m (drop m ps))
-        ≡ (walkRefusal v ps starts codes (subtree (v .spared) m ps) or walkRefusal v ps starts codes (walk (v .spared) n (m + 1) (drop (m + 1) ps)))
-    first-child l e f =
-        ap (walkRefusal v ps starts codes) (at-child (v .spared) ps n m l e f)
-        ∙ first-append (nodeRefusal v ps starts codes) (subtree (v .spared) m ps) (walk (v .spared) n (m + 1) (drop (m + 1) ps))
-
-    pub first-spared : m < length ps → getD ps m 0 ≡ n → m ≡ v .spared
-        → walkRefusal v ps starts codes (walk (v .spared) n m (drop m ps)) ≡ walkRefusal v ps starts codes (walk (v .spared) n (m + 1) (drop (m + 1) ps))
-    first-spared l e f = ap (walkRefusal v ps starts codes) (at-spared (v .spared) ps n m l e f)
-
-    pub first-other : m < length ps → (getD ps m 0 ≡ n → ⊥)
-        → walkRefusal v ps starts codes (walk (v .spared) n m (drop m ps)) ≡ walkRefusal v ps starts codes (walk (v .spared) n (m + 1) (drop (m + 1) ps))
-    first-other l e = ap (walkRefusal v ps starts codes) (at-other (v .spared) ps n m l e)
-
-    pub first-end : length ps ≤ m → walkRefusal v ps starts codes (walk (v .spared) n m (drop m ps)) ≡ 0
-    unfolding firstRefusal
-    first-end l = ap (walkRefusal v ps starts codes) (at-end (v .spared) ps n m l)
-
 -- ---- the table
 module _ (v : Reach) (ps starts : List ℕ) where
-  after-append : (xs ys codes : List ℕ) → walkAfter v ps starts (xs ++ ys) codes ≡ walkAfter v ps starts ys (walkAfter v ps starts xs codes)
+  pub after-append : (xs ys codes : List ℕ) → walkAfter v ps starts (xs ++ ys) codes ≡ walkAfter v ps starts ys (walkAfter v ps starts xs codes)
   unfolding walkAfter
   after-append [] ys codes = refl
   after-append (x ∷ xs) ys codes = after-append xs ys (nodeAfter v ps starts x codes)
@@ -72,22 +51,3 @@ module _ (v : Reach) (ps starts : List ℕ) where
   pub after-subtree : (n : ℕ) (codes : List ℕ) → walkAfter v ps starts (subtree (v .spared) n ps) codes ≡ walkAfter v ps starts (walk (v .spared) n (n + 1) (drop (n + 1) ps)) (nodeAfter v ps starts n codes)
   unfolding walkAfter
   after-subtree n codes = refl
-
-  module _ (n m : ℕ) (codes : List ℕ) where
-    pub after-child : m < length ps → getD ps m 0 ≡ n → (m ≡ v .spared → ⊥)
-        → walkAfter v ps starts (walk (v .spared) n m (drop m ps)) codes ≡ walkAfter v ps starts (walk (v .spared) n (m + 1) (drop (m + 1) ps)) (walkAfter v ps starts (subtree (v .spared) m ps) codes)
-    after-child l e f =
-        ap (λ (ns : List ℕ). walkAfter v ps starts ns codes) (at-child (v .spared) ps n m l e f)
-        ∙ after-append (subtree (v .spared) m ps) (walk (v .spared) n (m + 1) (drop (m + 1) ps)) codes
-
-    pub after-spared : m < length ps → getD ps m 0 ≡ n → m ≡ v .spared
-        → walkAfter v ps starts (walk (v .spared) n m (drop m ps)) codes ≡ walkAfter v ps starts (walk (v .spared) n (m + 1) (drop (m + 1) ps)) codes
-    after-spared l e f = ap (λ (ns : List ℕ). walkAfter v ps starts ns codes) (at-spared (v .spared) ps n m l e f)
-
-    pub after-other : m < length ps → (getD ps m 0 ≡ n → ⊥)
-        → walkAfter v ps starts (walk (v .spared) n m (drop m ps)) codes ≡ walkAfter v ps starts (walk (v .spared) n (m + 1) (drop (m + 1) ps)) codes
-    after-other l e = ap (λ (ns : List ℕ). walkAfter v ps starts ns codes) (at-other (v .spared) ps n m l e)
-
-    pub after-end : length ps ≤ m → walkAfter v ps starts (walk (v .spared) n m (drop m ps)) codes ≡ codes
-    unfolding walkAfter
-    after-end l = ap (λ (ns : List ℕ). walkAfter v ps starts ns codes) (at-end (v .spared) ps n m l)

@@ -1,3 +1,4 @@
 pub mod Table
 pub mod Walk
+pub mod Plan
 pub mod Requests

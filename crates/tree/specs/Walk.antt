@@ -80,9 +80,12 @@ nodeAfter v ps starts n codes =
     withRowAt (v .width) n (rowAfter v starts (relation ps n (v .node)) (rowAt (v .width) n codes)) codes
 
 -- ---- the tree
--- a node and its descendants, without s and its own
+-- the descendants of a node, without s and its own; and the node with them
+abbrev pub below : ℕ → ℕ → List ℕ → List ℕ
+below s n ps = walk s n (n + 1) (drop (n + 1) ps)
+
 abbrev pub subtree : ℕ → ℕ → List ℕ → List ℕ
-subtree s n ps = n ∷ walk s n (n + 1) (drop (n + 1) ps)
+subtree s n ps = n ∷ below s n ps
 
 -- the first refusal at the nodes of a list, and the table after they were visited in turn
 abbrev pub walkRefusal : Reach → List ℕ → List ℕ → List ℕ → List ℕ → ℕ
@@ -91,3 +94,9 @@ walkRefusal v ps starts codes ns = firstRefusal (nodeRefusal v ps starts codes) 
 unfoldable pub walkAfter : Reach → List ℕ → List ℕ → List ℕ → List ℕ → List ℕ
 walkAfter v ps starts [] codes = codes
 walkAfter v ps starts (n ∷ ns) codes = walkAfter v ps starts ns (nodeAfter v ps starts n codes)
+
+-- a visit is made: refused, it leaves the table as it was
+pub record Made (v : Reach) (ps starts codes : List ℕ) (answer : ℕ) (after : List ℕ) : Type 0 where
+  pub refusal : answer ≡ walkRefusal v ps starts codes (subtree (v .spared) 0 ps)
+  pub accepted : answer ≡ 0 → after ≡ walkAfter v ps starts (subtree (v .spared) 0 ps) codes
+  pub refused : (answer ≡ 0 → ⊥) → after ≡ codes

@@ -7,10 +7,11 @@ use permission::NodeRelation;
 use permission::Outcome;
 ghost use mathlib.Core.Path.{_≡_};
 ghost use mathlib.Core.Bool.{not};
+ghost use mathlib.Core.Logic.{_⊎_};
 ghost use mathlib.Core.Option.{some};
 ghost use mathlib.Core.List.{_++_, map};
 ghost use Prim.Native.Nat.{_+_, _*_, _≤_, _<_};
-ghost use lib.ListN.{length, take, drop, replicate};
+ghost use lib.ListN.{length, getD, take, drop, replicate};
 ghost use Rattle.definition.specs.Notation.{any};
 ghost use Rattle.definition.specs.Permission.{permission};
 ghost use Rattle.definition.specs.Permission.AccessKind.{Write};
@@ -21,9 +22,10 @@ ghost use Rattle.definition.specs.Memory.Liveness.{Live, Dead};
 ghost use Rattle.definition.specs.Frame.{lacksProtector, releasedNodes};
 ghost use Rattle.definition.proofs.Trees.{Parents};
 ghost use Rattle.definition.proofs.Retags.{readsRefusal, readsVisit};
-ghost use Rattle.permission.specs.Codes.{accessKind, nodeRelation, maybeAccess, nextCode, preventsCode, isProtectedCode, unprotectedCode};
+ghost use Rattle.permission.specs.Codes.{outcomeTable, accessKind, nodeRelation, maybeAccess, nextCode, preventsCode, isProtectedCode, unprotectedCode};
 ghost use Rattle.tree.specs.Table.{rowsOf, Holds, HoldsMarks, HoldsAll, Some, Each};
-ghost use Rattle.tree.specs.Walk.{Ready, accessAt, stepped, codesRefusal, rowRefusal, rowAfter, rowAt, nodeRefusal, nodeAfter, subtree, walkRefusal, walkAfter};
+ghost use Rattle.tree.specs.Walk.{Ready, accessAt, stepped, codesRefusal, codesAfter, rowRefusal, rowAfter, rowAt, nodeRefusal, nodeAfter, below, subtree, walkRefusal, walkAfter, Made};
+ghost use Rattle.tree.specs.Plan.{childFrom, Linked, Marked, Planned, Zeros, Roomy, Unmarked, SameLinks};
 ghost use Rattle.tree.specs.Requests.{Visited, Deallocated, releaseRefusal, Released};
 
 // The accesses of a visit: the same at each byte; or, by a lent row of codes, the one that the end of the byte's protector makes, or the
@@ -106,19 +108,121 @@ fn relation(parents: &[u16], node: usize, accessed: usize) -> NodeRelation
     }
 }
 
-// The first refusal in a row, of the same access to `len` bytes from `from` on, or 0: looked up in the access's table.
-fn check_each(row: &[u8], from: usize, len: usize, kind: AccessKind, relation: NodeRelation) -> u8
+// ---- the plan of a visit
+// Three numbers for each node: its first child, its next sibling, both without the spared node (0 for none: the root is nobody's child), and whether
+// it is on the path to the accessed node. It is made once for a visit. A node that the plan has no numbers for is searched for in the parents.
+
+// The first child of node n from a node on, but for the spared one, or 0.
+fn search_child(parents: &[u16], spared: usize, n: usize, from: usize) -> usize
+    requires { ⌜ 0 < from ⌝ }
+    ensures { λ r. ⌜ r ≡ childFrom spared n from (drop from (now (parents .entry))) ⌝ }
+{
+    let mut m = from;
+    while m < parents.len() {
+        if wide(parents[m]) == n {
+            if m != spared {
+                return m;
+            }
+        }
+        m += 1;
+    }
+    0
+}
+
+fn first_child(plan: &[u16], parents: &[u16], spared: usize, n: usize) -> usize
+    requires { ⌜ Linked spared (now parents) (now plan) ⌝ }
+    requires { ⌜ n < length (now parents) ⌝ }
+    ensures { λ r. ⌜ r ≡ childFrom spared n (n + 1) (drop (n + 1) (now (parents .entry))) ⌝ }
+{
+    let at = 3 * n;
+    if at + 2 < plan.len() {
+        return wide(plan[at]);
+    }
+    search_child(parents, spared, n, n + 1)
+}
+
+fn next_sibling(plan: &[u16], parents: &[u16], spared: usize, n: usize) -> usize
+    requires { ⌜ Linked spared (now parents) (now plan) ⌝ }
+    requires { ⌜ (0 < n) × (n < length (now parents)) ⌝ }
+    ensures { λ r. ⌜ r ≡ childFrom spared (getD (now (parents .entry)) n 0) (n + 1) (drop (n + 1) (now (parents .entry))) ⌝ }
+{
+    let at = 3 * n;
+    if at + 2 < plan.len() {
+        return wide(plan[at + 1]);
+    }
+    search_child(parents, spared, wide(parents[n]), n + 1)
+}
+
+fn planned_relation(plan: &[u16], parents: &[u16], n: usize, accessed: usize) -> NodeRelation
+    requires { ⌜ Marked accessed (now parents) (now plan) ⌝ }
+    requires { ⌜ Parents (now parents) ⌝ }
+    requires { ⌜ (n < length (now parents)) × (accessed < length (now parents)) ⌝ }
+    ensures { λ r. ⌜ nodeRelation r ≡ definition.relation (now (parents .entry)) n accessed ⌝ }
+{
+    let at = 3 * n;
+    if at + 2 < plan.len() {
+        if plan[at + 2] == 0 {
+            return NodeRelation::Foreign;
+        }
+        return NodeRelation::Local;
+    }
+    relation(parents, n, accessed)
+}
+
+// Each node linked as the first child of its parent, in front of the one made after it.
+fn link_children(parents: &[u16], plan: &mut [u16], spared: usize)
+    requires { ⌜ Parents (now parents) ⌝ }
+    requires { ⌜ Roomy (now parents) (now plan) × Zeros (now plan) ⌝ }
+    ensures { λ _. ⌜ Linked spared (now (parents .entry)) (now (plan .exit)) × Unmarked (now (plan .exit)) ⌝ }
+{
+    let mut m = parents.len();
+    while 1 < m {
+        m -= 1;
+        let parent = wide(parents[m]);
+        plan[3 * m + 1] = plan[3 * parent];
+        if m != spared {
+            plan[3 * parent] = m as u16;
+        }
+    }
+}
+
+// The path from the accessed node to the root marked.
+fn mark_path(parents: &[u16], plan: &mut [u16], accessed: usize)
+    requires { ⌜ Parents (now parents) ⌝ }
+    requires { ⌜ (accessed < length (now parents)) × Roomy (now parents) (now plan) × Unmarked (now plan) ⌝ }
+    ensures { λ _. ⌜ Marked accessed (now (parents .entry)) (now (plan .exit)) × SameLinks (now (plan .entry)) (now (plan .exit)) ⌝ }
+{
+    let mut n = accessed;
+    while 0 < n {
+        plan[3 * n + 2] = 1;
+        n = wide(parents[n]);
+    }
+    plan[2] = 1;
+}
+
+// ---- rows
+
+// The first refusal in a row, of the same access to `len` bytes from `from` on, or 0.
+fn check_each(
+    row: &[u8],
+    table: &[u8; 96],
+    from: usize,
+    len: usize,
+    kind: AccessKind,
+    relation: NodeRelation,
+) -> u8
+    requires { ⌜ now table ≡ outcomeTable ⌝ }
     requires { ⌜ from + len ≤ length (now row) ⌝ }
     ensures { λ r. ⌜ r ≡ codesRefusal (nodeRelation relation) (replicate len (some (accessKind kind))) (drop from (now (row .entry))) ⌝ }
 {
-    let refusals = permission::refusals(kind, relation);
+    let line = permission::line_of(MaybeAccess::Access(kind), relation);
     let mut k = 0;
     while k < len {
         let code = row[from + k];
         if code < 16 {
-            let refused = refusals[index(code)];
-            if refused != 0 {
-                return refused;
+            let outcome = table[line + index(code)];
+            if 15 < outcome {
+                return outcome;
             }
         }
         k += 1;
@@ -127,7 +231,8 @@ fn check_each(row: &[u8], from: usize, len: usize, kind: AccessKind, relation: N
 }
 
 // The same where each byte may have another access.
-fn check_bytes(row: &[u8], starts: &[u8], v: Reach, relation: NodeRelation) -> u8
+fn check_bytes(row: &[u8], starts: &[u8], table: &[u8; 96], v: Reach, relation: NodeRelation) -> u8
+    requires { ⌜ now table ≡ outcomeTable ⌝ }
     requires { ⌜ v .from + v .len ≤ length (now row) ⌝ }
     ensures { λ r. ⌜ r ≡ rowRefusal v (now (starts .entry)) (nodeRelation relation) (now (row .entry)) ⌝ }
 {
@@ -136,10 +241,12 @@ fn check_bytes(row: &[u8], starts: &[u8], v: Reach, relation: NodeRelation) -> u
     let len = v.len;
     let mut k = 0;
     while k < len {
-        match step(row[from + k], access_at(what, starts, k), relation) {
-            Outcome::Becomes(_) => {}
-            Outcome::Refused(n) => {
-                return n;
+        let code = row[from + k];
+        if code < 16 {
+            let line = permission::line_of(access_at(what, starts, k), relation);
+            let outcome = table[line + index(code)];
+            if 15 < outcome {
+                return outcome;
             }
         }
         k += 1;
@@ -148,20 +255,49 @@ fn check_bytes(row: &[u8], starts: &[u8], v: Reach, relation: NodeRelation) -> u
 }
 
 // The first refusal among the visited bytes of a row, or 0.
-fn check_row(row: &[u8], starts: &[u8], v: Reach, relation: NodeRelation) -> u8
+fn check_row(row: &[u8], starts: &[u8], table: &[u8; 96], v: Reach, relation: NodeRelation) -> u8
+    requires { ⌜ now table ≡ outcomeTable ⌝ }
     requires { ⌜ v .from + v .len ≤ length (now row) ⌝ }
     ensures { λ r. ⌜ r ≡ rowRefusal v (now (starts .entry)) (nodeRelation relation) (now (row .entry)) ⌝ }
 {
     let what = v.what;
     match what {
-        Accesses::Each(kind) => check_each(row, v.from, v.len, kind, relation),
-        Accesses::AtEnd => check_bytes(row, starts, v, relation),
-        Accesses::AtInit => check_bytes(row, starts, v, relation),
+        Accesses::Each(kind) => check_each(row, table, v.from, v.len, kind, relation),
+        Accesses::AtEnd => check_bytes(row, starts, table, v, relation),
+        Accesses::AtInit => check_bytes(row, starts, table, v, relation),
     }
 }
 
-// The visited bytes of a row, each as its access leaves it.
-fn apply_row(row: &mut [u8], starts: &[u8], v: Reach, relation: NodeRelation)
+// The bytes of a row, each as the same access leaves it.
+fn apply_each(
+    row: &mut [u8],
+    table: &[u8; 96],
+    from: usize,
+    len: usize,
+    kind: AccessKind,
+    relation: NodeRelation,
+)
+    requires { ⌜ now table ≡ outcomeTable ⌝ }
+    requires { ⌜ from + len ≤ length (now row) ⌝ }
+    ensures { λ _. ⌜ now (row .exit) ≡ take from (now (row .entry)) ++ codesAfter (nodeRelation relation) (replicate len (some (accessKind kind))) (drop from (now (row .entry))) ⌝ }
+{
+    let line = permission::line_of(MaybeAccess::Access(kind), relation);
+    let mut k = 0;
+    while k < len {
+        let code = row[from + k];
+        if code < 16 {
+            let outcome = table[line + index(code)];
+            if outcome < 16 {
+                row[from + k] = outcome;
+            }
+        }
+        k += 1;
+    }
+}
+
+// The same where each byte may have another access.
+fn apply_bytes(row: &mut [u8], starts: &[u8], table: &[u8; 96], v: Reach, relation: NodeRelation)
+    requires { ⌜ now table ≡ outcomeTable ⌝ }
     requires { ⌜ v .from + v .len ≤ length (now row) ⌝ }
     ensures { λ _. ⌜ now (row .exit) ≡ rowAfter v (now (starts .entry)) (nodeRelation relation) (now (row .entry)) ⌝ }
 {
@@ -170,18 +306,45 @@ fn apply_row(row: &mut [u8], starts: &[u8], v: Reach, relation: NodeRelation)
     let len = v.len;
     let mut k = 0;
     while k < len {
-        match step(row[from + k], access_at(what, starts, k), relation) {
-            Outcome::Becomes(c) => {
-                row[from + k] = c;
+        let code = row[from + k];
+        if code < 16 {
+            let line = permission::line_of(access_at(what, starts, k), relation);
+            let outcome = table[line + index(code)];
+            if outcome < 16 {
+                row[from + k] = outcome;
             }
-            Outcome::Refused(_) => {}
         }
         k += 1;
     }
 }
 
+// The visited bytes of a row, each as its access leaves it.
+fn apply_row(row: &mut [u8], starts: &[u8], table: &[u8; 96], v: Reach, relation: NodeRelation)
+    requires { ⌜ now table ≡ outcomeTable ⌝ }
+    requires { ⌜ v .from + v .len ≤ length (now row) ⌝ }
+    ensures { λ _. ⌜ now (row .exit) ≡ rowAfter v (now (starts .entry)) (nodeRelation relation) (now (row .entry)) ⌝ }
+{
+    let what = v.what;
+    match what {
+        Accesses::Each(kind) => apply_each(row, table, v.from, v.len, kind, relation),
+        Accesses::AtEnd => apply_bytes(row, starts, table, v, relation),
+        Accesses::AtInit => apply_bytes(row, starts, table, v, relation),
+    }
+}
+
+// ---- the visit
+
 // The first refusal at node n, or 0.
-fn check_node(parents: &[u16], codes: &[u8], starts: &[u8], v: Reach, n: usize) -> u8
+fn check_node(
+    plan: &[u16],
+    parents: &[u16],
+    codes: &[u8],
+    starts: &[u8],
+    table: &[u8; 96],
+    v: Reach,
+    n: usize,
+) -> u8
+    requires { ⌜ Planned v (now parents) (now plan) (now table) ⌝ }
     requires { ⌜ Ready v (now parents) (now codes) ⌝ }
     requires { ⌜ n < length (now parents) ⌝ }
     ensures { λ r. ⌜ r ≡ nodeRefusal v (now (parents .entry)) (now (starts .entry)) (now (codes .entry)) n ⌝ }
@@ -189,12 +352,21 @@ fn check_node(parents: &[u16], codes: &[u8], starts: &[u8], v: Reach, n: usize) 
     let width = v.width;
     let start = n * width;
     let end = start + width;
-    let relation = relation(parents, n, v.node);
-    check_row(&codes[start..end], starts, v, relation)
+    let relation = planned_relation(plan, parents, n, v.node);
+    check_row(&codes[start..end], starts, table, v, relation)
 }
 
 // The row of node n as the visit leaves it.
-fn apply_node(parents: &[u16], codes: &mut [u8], starts: &[u8], v: Reach, n: usize)
+fn apply_node(
+    plan: &[u16],
+    parents: &[u16],
+    codes: &mut [u8],
+    starts: &[u8],
+    table: &[u8; 96],
+    v: Reach,
+    n: usize,
+)
+    requires { ⌜ Planned v (now parents) (now plan) (now table) ⌝ }
     requires { ⌜ Ready v (now parents) (now codes) ⌝ }
     requires { ⌜ n < length (now parents) ⌝ }
     ensures { λ _. ⌜ now (codes .exit) ≡ nodeAfter v (now (parents .entry)) (now (starts .entry)) n (now (codes .entry)) ⌝ }
@@ -202,53 +374,239 @@ fn apply_node(parents: &[u16], codes: &mut [u8], starts: &[u8], v: Reach, n: usi
     let width = v.width;
     let start = n * width;
     let end = start + width;
-    let relation = relation(parents, n, v.node);
-    apply_row(&mut codes[start..end], starts, v, relation);
+    let relation = planned_relation(plan, parents, n, v.node);
+    apply_row(&mut codes[start..end], starts, table, v, relation);
 }
 
-// The first refusal at node n and its descendants, or 0.
-fn check_from(parents: &[u16], codes: &[u8], starts: &[u8], v: Reach, n: usize) -> u8
+// The first refusal at the descendants of node n, or 0.
+fn check_below(
+    plan: &[u16],
+    parents: &[u16],
+    codes: &[u8],
+    starts: &[u8],
+    table: &[u8; 96],
+    v: Reach,
+    n: usize,
+) -> u8
+    requires { ⌜ Planned v (now parents) (now plan) (now table) ⌝ }
     requires { ⌜ Ready v (now parents) (now codes) ⌝ }
     requires { ⌜ n < length (now parents) ⌝ }
-    ensures { λ r. ⌜ r ≡ walkRefusal v (now (parents .entry)) (now (starts .entry)) (now (codes .entry)) (subtree (v .spared) n (now (parents .entry))) ⌝ }
+    ensures { λ r. ⌜ r ≡ walkRefusal v (now (parents .entry)) (now (starts .entry)) (now (codes .entry)) (below (v .spared) n (now (parents .entry))) ⌝ }
 {
-    let here = check_node(parents, codes, starts, v, n);
+    let spared = v.spared;
+    let mut m = first_child(plan, parents, spared, n);
+    while m != 0 {
+        let here = check_node(plan, parents, codes, starts, table, v, m);
+        if here != 0 {
+            return here;
+        }
+        let child = first_child(plan, parents, spared, m);
+        let sibling = next_sibling(plan, parents, spared, m);
+        if sibling == 0 {
+            m = child; // of the last child, its own children are what is left
+        } else {
+            if child != 0 {
+                let refused = check_below(plan, parents, codes, starts, table, v, m);
+                if refused != 0 {
+                    return refused;
+                }
+            }
+            m = sibling;
+        }
+    }
+    0
+}
+
+// The descendants of node n, each row as the visit leaves it.
+fn apply_below(
+    plan: &[u16],
+    parents: &[u16],
+    codes: &mut [u8],
+    starts: &[u8],
+    table: &[u8; 96],
+    v: Reach,
+    n: usize,
+)
+    requires { ⌜ Planned v (now parents) (now plan) (now table) ⌝ }
+    requires { ⌜ Ready v (now parents) (now codes) ⌝ }
+    requires { ⌜ n < length (now parents) ⌝ }
+    ensures { λ _. ⌜ now (codes .exit) ≡ walkAfter v (now (parents .entry)) (now (starts .entry)) (below (v .spared) n (now (parents .entry))) (now (codes .entry)) ⌝ }
+{
+    let spared = v.spared;
+    let mut m = first_child(plan, parents, spared, n);
+    while m != 0 {
+        apply_node(plan, parents, codes, starts, table, v, m);
+        let child = first_child(plan, parents, spared, m);
+        let sibling = next_sibling(plan, parents, spared, m);
+        if sibling == 0 {
+            m = child;
+        } else {
+            if child != 0 {
+                apply_below(plan, parents, codes, starts, table, v, m);
+            }
+            m = sibling;
+        }
+    }
+}
+
+// The first refusal of a visit, or 0.
+fn check_from(
+    plan: &[u16],
+    parents: &[u16],
+    codes: &[u8],
+    starts: &[u8],
+    table: &[u8; 96],
+    v: Reach,
+) -> u8
+    requires { ⌜ Planned v (now parents) (now plan) (now table) ⌝ }
+    requires { ⌜ Ready v (now parents) (now codes) ⌝ }
+    ensures { λ r. ⌜ r ≡ walkRefusal v (now (parents .entry)) (now (starts .entry)) (now (codes .entry)) (subtree (v .spared) 0 (now (parents .entry))) ⌝ }
+{
+    let here = check_node(plan, parents, codes, starts, table, v, 0);
     if here != 0 {
         return here;
     }
-    let spared = v.spared;
-    let mut m = n + 1;
-    while m < parents.len() { // a child is later than its parent
-        if wide(parents[m]) == n {
-            if m != spared {
-                let below = check_from(parents, codes, starts, v, m);
-                if below != 0 {
-                    return below;
-                }
-            }
-        }
-        m += 1;
-    }
-    here
+    check_below(plan, parents, codes, starts, table, v, 0)
 }
 
-// Node n and its descendants, each row as the visit leaves it.
-fn apply_from(parents: &[u16], codes: &mut [u8], starts: &[u8], v: Reach, n: usize)
+// The rows as a visit leaves them.
+fn apply_from(
+    plan: &[u16],
+    parents: &[u16],
+    codes: &mut [u8],
+    starts: &[u8],
+    table: &[u8; 96],
+    v: Reach,
+)
+    requires { ⌜ Planned v (now parents) (now plan) (now table) ⌝ }
     requires { ⌜ Ready v (now parents) (now codes) ⌝ }
-    requires { ⌜ n < length (now parents) ⌝ }
-    ensures { λ _. ⌜ now (codes .exit) ≡ walkAfter v (now (parents .entry)) (now (starts .entry)) (subtree (v .spared) n (now (parents .entry))) (now (codes .entry)) ⌝ }
+    ensures { λ _. ⌜ now (codes .exit) ≡ walkAfter v (now (parents .entry)) (now (starts .entry)) (subtree (v .spared) 0 (now (parents .entry))) (now (codes .entry)) ⌝ }
 {
-    apply_node(parents, codes, starts, v, n);
-    let spared = v.spared;
-    let mut m = n + 1;
-    while m < parents.len() {
-        if wide(parents[m]) == n {
-            if m != spared {
-                apply_from(parents, codes, starts, v, m);
-            }
-        }
-        m += 1;
+    apply_node(plan, parents, codes, starts, table, v, 0);
+    apply_below(plan, parents, codes, starts, table, v, 0);
+}
+
+// Both: the first refusal with the rows as they were; or 0, with the rows as the visit leaves them.
+fn visit_from(
+    plan: &[u16],
+    parents: &[u16],
+    codes: &mut [u8],
+    starts: &[u8],
+    table: &[u8; 96],
+    v: Reach,
+) -> u8
+    requires { ⌜ Planned v (now parents) (now plan) (now table) ⌝ }
+    requires { ⌜ Ready v (now parents) (now codes) ⌝ }
+    ensures { λ r. ⌜ Made v (now (parents .entry)) (now (starts .entry)) (now (codes .entry)) r (now (codes .exit)) ⌝ }
+{
+    let refused = check_from(plan, parents, codes, starts, table, v);
+    if refused == 0 {
+        apply_from(plan, parents, codes, starts, table, v);
     }
+    refused
+}
+
+// ---- a visit with its plan: the scratch, all zeros, is for it
+
+// How many numbers the plan has: none where it would not fit, or for one node, where there is nothing to look up.
+fn plan_size(nodes: usize, room: usize) -> usize
+    ensures { λ r. ⌜ (r ≤ room) × ((r ≡ 0) ⊎ ((r ≡ 3 * nodes) × (nodes ≤ 1024))) ⌝ }
+{
+    if nodes < 2 {
+        return 0;
+    }
+    if 1024 < nodes {
+        return 0;
+    }
+    let size = 3 * nodes;
+    if room < size {
+        return 0;
+    }
+    size
+}
+
+fn make_plan(parents: &[u16], plan: &mut [u16], v: Reach)
+    requires { ⌜ Parents (now parents) × (v .node < length (now parents)) ⌝ }
+    requires { ⌜ ((length (now plan) ≡ 0) ⊎ Roomy (now parents) (now plan)) × Zeros (now plan) ⌝ }
+    ensures { λ _. ⌜ Linked (v .spared) (now (parents .entry)) (now (plan .exit)) × Marked (v .node) (now (parents .entry)) (now (plan .exit)) ⌝ }
+{
+    if plan.len() != 0 {
+        link_children(parents, plan, v.spared);
+        mark_path(parents, plan, v.node);
+    }
+}
+
+fn check_with(scratch: &mut [u16], parents: &[u16], codes: &[u8], starts: &[u8], v: Reach) -> u8
+    requires { ⌜ Zeros (now scratch) ⌝ }
+    requires { ⌜ Ready v (now parents) (now codes) ⌝ }
+    ensures { λ r. ⌜ r ≡ walkRefusal v (now (parents .entry)) (now (starts .entry)) (now (codes .entry)) (subtree (v .spared) 0 (now (parents .entry))) ⌝ }
+{
+    let table = permission::outcomes();
+    let size = plan_size(parents.len(), scratch.len());
+    make_plan(parents, &mut scratch[..size], v);
+    check_from(&scratch[..size], parents, codes, starts, &table, v)
+}
+
+fn apply_with(scratch: &mut [u16], parents: &[u16], codes: &mut [u8], starts: &[u8], v: Reach)
+    requires { ⌜ Zeros (now scratch) ⌝ }
+    requires { ⌜ Ready v (now parents) (now codes) ⌝ }
+    ensures { λ _. ⌜ now (codes .exit) ≡ walkAfter v (now (parents .entry)) (now (starts .entry)) (subtree (v .spared) 0 (now (parents .entry))) (now (codes .entry)) ⌝ }
+{
+    let table = permission::outcomes();
+    let size = plan_size(parents.len(), scratch.len());
+    make_plan(parents, &mut scratch[..size], v);
+    apply_from(&scratch[..size], parents, codes, starts, &table, v);
+}
+
+fn visit_with(scratch: &mut [u16], parents: &[u16], codes: &mut [u8], starts: &[u8], v: Reach) -> u8
+    requires { ⌜ Zeros (now scratch) ⌝ }
+    requires { ⌜ Ready v (now parents) (now codes) ⌝ }
+    ensures { λ r. ⌜ Made v (now (parents .entry)) (now (starts .entry)) (now (codes .entry)) r (now (codes .exit)) ⌝ }
+{
+    let table = permission::outcomes();
+    let size = plan_size(parents.len(), scratch.len());
+    make_plan(parents, &mut scratch[..size], v);
+    visit_from(&scratch[..size], parents, codes, starts, &table, v)
+}
+
+// The check of a visit: the first refusal, or 0. A small tree has a small plan.
+fn check(parents: &[u16], codes: &[u8], starts: &[u8], v: Reach) -> u8
+    requires { ⌜ Ready v (now parents) (now codes) ⌝ }
+    ensures { λ r. ⌜ r ≡ walkRefusal v (now (parents .entry)) (now (starts .entry)) (now (codes .entry)) (subtree (v .spared) 0 (now (parents .entry))) ⌝ }
+{
+    if parents.len() <= 16 {
+        let mut scratch = [0u16; 48];
+        return check_with(&mut scratch, parents, codes, starts, v);
+    }
+    let mut scratch = [0u16; 3072];
+    check_with(&mut scratch, parents, codes, starts, v)
+}
+
+// The change of a visit.
+fn apply(parents: &[u16], codes: &mut [u8], starts: &[u8], v: Reach)
+    requires { ⌜ Ready v (now parents) (now codes) ⌝ }
+    ensures { λ _. ⌜ now (codes .exit) ≡ walkAfter v (now (parents .entry)) (now (starts .entry)) (subtree (v .spared) 0 (now (parents .entry))) (now (codes .entry)) ⌝ }
+{
+    if parents.len() <= 16 {
+        let mut scratch = [0u16; 48];
+        apply_with(&mut scratch, parents, codes, starts, v);
+    } else {
+        let mut scratch = [0u16; 3072];
+        apply_with(&mut scratch, parents, codes, starts, v);
+    }
+}
+
+// Both, by one plan.
+fn visit(parents: &[u16], codes: &mut [u8], starts: &[u8], v: Reach) -> u8
+    requires { ⌜ Ready v (now parents) (now codes) ⌝ }
+    ensures { λ r. ⌜ Made v (now (parents .entry)) (now (starts .entry)) (now (codes .entry)) r (now (codes .exit)) ⌝ }
+{
+    if parents.len() <= 16 {
+        let mut scratch = [0u16; 48];
+        return visit_with(&mut scratch, parents, codes, starts, v);
+    }
+    let mut scratch = [0u16; 3072];
+    visit_with(&mut scratch, parents, codes, starts, v)
 }
 
 // ---- load, store
@@ -275,7 +633,7 @@ fn access_refusal(
         len,
         what: Accesses::Each(kind),
     };
-    check_from(parents, codes, codes, v, 0)
+    check(parents, codes, codes, v)
 }
 
 // The access made.
@@ -301,7 +659,7 @@ fn apply_access(
         len,
         what: Accesses::Each(kind),
     };
-    apply_from(parents, codes, &unused, v, 0);
+    apply(parents, codes, &unused, v);
 }
 
 // A load's or a store's access: the first refusal in visiting order, with the table as it was; or 0, with every visited code as the access leaves it.
@@ -318,11 +676,16 @@ pub fn access(
     requires { ⌜ (node < length (now parents)) × (from + len ≤ width) ⌝ }
     ensures { λ r. ⌜ Each (λ nodes. Holds nodes width (now (parents .entry)) (now (codes .entry))) (λ nodes. Visited (accessVisit (accessKind kind) node from len) nodes r (now (codes .exit))) ⌝ }
 {
-    let refused = access_refusal(parents, codes, width, node, kind, from, len);
-    if refused == 0 {
-        apply_access(parents, codes, width, node, kind, from, len);
-    }
-    refused
+    let unused = [0; 1];
+    let v = Reach {
+        node,
+        spared: parents.len(),
+        width,
+        from,
+        len,
+        what: Accesses::Each(kind),
+    };
+    visit(parents, codes, &unused, v)
 }
 
 // ---- deallocate
@@ -402,9 +765,8 @@ pub fn deallocate(
 
 // ---- retag
 
-// A retag's reads through a node, of the bytes from `from` on whose start codes are `inside`, but for Cell: byte by byte over the whole tree,
-// each on the tree as it stands, the first refusal or 0.
-pub fn reads_refusal(
+// The first refusal of a retag's reads, or 0: byte by byte over the whole tree, each on the tree as it stands.
+fn first_refused_read(
     parents: &[u16],
     codes: &[u8],
     inside: &[u8],
@@ -433,6 +795,34 @@ pub fn reads_refusal(
     0
 }
 
+// A retag's reads through a node, of the bytes from `from` on whose start codes are `inside`, but for Cell: the first refusal, byte by byte over the
+// whole tree, or 0. One visit of all bytes tells whether there is any; where there is, which comes first is looked for.
+pub fn reads_refusal(
+    parents: &[u16],
+    codes: &[u8],
+    inside: &[u8],
+    width: usize,
+    node: usize,
+    from: usize,
+) -> u8
+    requires { ⌜ Some (λ nodes. Holds nodes width (now parents) (now codes)) ⌝ }
+    requires { ⌜ (node < length (now parents)) × (from + length (now inside) ≤ width) ⌝ }
+    ensures { λ r. ⌜ Each (λ nodes. Holds nodes width (now (parents .entry)) (now (codes .entry))) (λ nodes. r ≡ readsRefusal node from (map permission (now (inside .entry))) nodes) ⌝ }
+{
+    let v = Reach {
+        node,
+        spared: parents.len(),
+        width,
+        from,
+        len: inside.len(),
+        what: Accesses::AtInit,
+    };
+    if check(parents, codes, inside, v) == 0 {
+        return 0;
+    }
+    first_refused_read(parents, codes, inside, width, node, from)
+}
+
 // The same reads made, all in one visit.
 pub fn apply_reads(
     parents: &[u16],
@@ -454,7 +844,7 @@ pub fn apply_reads(
         len: inside.len(),
         what: Accesses::AtInit,
     };
-    apply_from(parents, codes, inside, v, 0);
+    apply(parents, codes, inside, v);
 }
 
 // ---- the release of a protected node
@@ -535,7 +925,7 @@ fn release_refusal(
         len: width,
         what: Accesses::AtEnd,
     };
-    check_from(parents, codes, lent, v, 0)
+    check(parents, codes, lent, v)
 }
 
 // The node's row, of which the lent row has a copy, unprotected, and the accesses of its protector's end made.
@@ -555,7 +945,7 @@ fn apply_release(parents: &[u16], codes: &mut [u8], lent: &[u8], width: usize, n
         len: width,
         what: Accesses::AtEnd,
     };
-    apply_from(parents, codes, lent, v, 0);
+    apply(parents, codes, lent, v);
 }
 
 // The release of a node of a live allocation: the first refusal, 16 to 23, with marks and codes as they were; or 0, with the node unprotected and the

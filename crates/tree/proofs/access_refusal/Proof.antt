@@ -5,17 +5,17 @@ use Rattle.tree.proofs.Visits.{held-ready, means-bytes}
 use Rattle.tree.proofs.access_refusal.Statement.{statement}
 use Rattle.tree.proofs.access_refusal.Tie as tie
 
-check-from-requires : tie.Need-check-from-requires
-check-from-requires c κs =
+check-requires : tie.Need-check-requires
+check-requires c κs =
     let s = c .before .before in
-    (held-ready _ (s .pre .0 .0) _ _ (s .pre .0 .1) (s .pre .1 .0) (s .pre .1 .1), s .pre .0 .1 .root)
+    held-ready _ (s .pre .0 .0) _ _ (s .pre .0 .1) (s .pre .1 .0) (s .pre .1 .1)
 
 returns : tie.Need-returns
 returns c =
     let s = c .before .before .before in
     λ nodes holds.
-    c .check-from .ensures
+    c .check .ensures
     ∙ means-refusal _ _ _ _ (means-bytes (s .args .parents .now) (holds .root) (s .args .width) (s .args .kind) (s .args .node) (s .args .from) (s .args .len) (s .args .codes .now)) nodes (s .args .codes .now) holds
 
 pub access-refusal-spec : {M : Type 1} → statement M
-access-refusal-spec = tie.close (tie.spec check-from-requires returns)
+access-refusal-spec = tie.close (tie.spec check-requires returns)

@@ -6,13 +6,13 @@ use Rattle.tree.proofs.Visits.{held-ready, means-bytes}
 use Rattle.tree.proofs.apply_access.Statement.{statement}
 use Rattle.tree.proofs.apply_access.Tie as tie
 
-slice-aggregate-apply-from : tie.Need-slice-aggregate-apply-from
-slice-aggregate-apply-from c = search needs
+slice-aggregate-apply : tie.Need-slice-aggregate-apply
+slice-aggregate-apply c = search needs
 
-apply-from-requires : tie.Need-apply-from-requires
-apply-from-requires c κs =
+apply-requires : tie.Need-apply-requires
+apply-requires c κs =
     let s = c .before .before .before .before in
-    (held-ready _ (s .pre .0 .0) _ _ (s .pre .0 .1) (s .pre .1 .0) (s .pre .1 .1), s .pre .0 .1 .root)
+    held-ready _ (s .pre .0 .0) _ _ (s .pre .0 .1) (s .pre .1 .0) (s .pre .1 .1)
 
 same-length : tie.Need-same-length
 same-length c = search needs
@@ -21,9 +21,9 @@ returns : tie.Need-returns
 returns c =
     let s = c .before .before .before .before .before .before .before in
     λ nodes holds.
-    c .before .before .apply-from .ensures
+    c .before .before .apply .ensures
     ∙ means-after _ _ _ _ (means-bytes (s .args .parents .now) (holds .root) (s .args .width) (s .args .kind) (s .args .node) (s .args .from) (s .args .len) _) nodes (s .args .codes .now) holds
 
 pub apply-access-spec : {M : Type 1} → statement M
 apply-access-spec =
-    tie.close (tie.spec slice-aggregate-apply-from apply-from-requires same-length returns)
+    tie.close (tie.spec slice-aggregate-apply apply-requires same-length returns)

@@ -16,11 +16,11 @@ use Rattle.tree.proofs.apply_release.Statement.{statement}
 use Rattle.tree.proofs.apply_release.Tie as tie
 use Rattle.tree.proofs.apply_release.Reads as reads
 use Rattle.tree.proofs.apply_release.Lts as lts
-use Rattle.tree.proofs.apply_from.Reads as apply-from-reads
+use Rattle.tree.proofs.apply.Reads as apply-reads
 use Rattle.tree.proofs.unprotect_row.Reads as unprotect-row-reads
 
 -- the node's row ends within the table
-ends : (s : lts.Start (unprotect-row-reads.Asked, unprotect-row-reads.Learnt, apply-from-reads.Asked, apply-from-reads.Learnt) reads.Pre reads.Post) → s .args .node * s .args .width + s .args .width ≤ length (s .args .codes .now)
+ends : (s : lts.Start (unprotect-row-reads.Asked, unprotect-row-reads.Learnt, apply-reads.Asked, apply-reads.Learnt) reads.Pre reads.Post) → s .args .node * s .args .width + s .args .width ≤ length (s .args .codes .now)
 ends s = held-fits (s .pre .0 .0) (s .args .width) (s .args .codes .now) (s .pre .0 .1 .table) (s .args .node) (omega (arith, held-count (s .pre .0 .1)))
 
 mul-start : tie.Need-mul-start
@@ -41,21 +41,19 @@ part-unprotect-row-end c = ends (c .before .before .before)
 unprotect-row-requires : tie.Need-unprotect-row-requires
 unprotect-row-requires c κs = search needs
 
-apply-from-requires : tie.Need-apply-from-requires
-apply-from-requires c κs =
+apply-requires : tie.Need-apply-requires
+apply-requires c κs =
     let s = c .before .before .before .before .before .before .before .before in
     let n = s .args .node in
     let width = s .args .width in
     let codes = s .args .codes .now in
     let nodes = s .pre .0 .0 in
     let held = s .pre .0 .1 in
-    let l = held-count held in (
-      held-ready _ _ _ _
-          (unprotected-holds Live nodes width codes (held .table) n (omega arith) (s .args .parents .now) _ held
-          (put-back (map unprotectedCode) width n codes _ (c .before .before .before .unprotect-row .ensures) ∙ unprotected-table Live nodes width codes (held .table) n (omega arith)))
-          (s .pre .1 .0) (omega arith),
-      held .root,
-    )
+    let l = held-count held in
+    held-ready _ _ _ _
+    (unprotected-holds Live nodes width codes (held .table) n (omega arith) (s .args .parents .now) _ held
+    (put-back (map unprotectedCode) width n codes _ (c .before .before .before .unprotect-row .ensures) ∙ unprotected-table Live nodes width codes (held .table) n (omega arith)))
+    (s .pre .1 .0) (omega arith)
 
 same-length : tie.Need-same-length
 same-length c = search needs
@@ -68,7 +66,7 @@ returns c =
     let codes = s .args .codes .now in
     λ nodes held.
     let l = held-count held in
-    c .before .before .apply-from .ensures
+    c .before .before .apply .ensures
     ∙ means-after _ _ _ _
     (means-release (s .args .parents .now) (held .root) width (held .earlier) n (s .pre .1 .1) nodes (s .args .lent .now) (s .pre .1 .2 ∙ held-row nodes width codes (held .table) n (omega arith))) _ _
     (unprotected-holds Live nodes width codes (held .table) n (omega arith) (s .args .parents .now) _ held
@@ -84,6 +82,6 @@ apply-release-spec =
     part-unprotect-row-start
     part-unprotect-row-end
     unprotect-row-requires
-    apply-from-requires
+    apply-requires
     same-length
     returns)

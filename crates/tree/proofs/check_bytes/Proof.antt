@@ -1,55 +1,63 @@
 -- The invariant: what is left of the check is the answer of the whole.
 use Prim.Native.Nat.{ℕ, _+_, _-_, _≤_}
 use mathlib.Core.Option.{Option}
-use mathlib.Core.Path.{_≡_, sym, ap, _∙_}
+use mathlib.Core.Logic.{⊎-elim}
+use mathlib.Core.Path.{_≡_, refl, sym, ap, _∙_}
 use native.Mathlib.Omega.{arith}
 use borrow.Author.Needs.{needs}
 use lib.ListN.{getD}
 use Rattle.definition.specs.Permission.{AccessKind}
-use Rattle.permission.specs.Codes.{nodeRelation}
-use Rattle.tree.specs.Walk.{accessAt, stepped}
-use Rattle.tree.proofs.Rows.{refusalLeft, check-passes, check-refused, check-done}
+use Rattle.permission.proofs.Lines.{line-end, past-refusal}
+use Rattle.permission.specs.Codes.{nodeRelation, maybeAccess, lineOf}
+use Rattle.tree.specs.Walk.{accessAt}
+use Rattle.tree.proofs.Rows.{refusalLeft, check-next, check-here, check-done, look-refused, look-passes}
 use Rattle.tree.proofs.check_bytes.Statement.{statement}
 use Rattle.tree.proofs.check_bytes.Tie as tie
 
 abbrev Inv-loop : tie.InvT-loop
-Inv-loop row starts relation what from len k₀ k = (k ≤ len) × (refusalLeft what len from starts (nodeRelation relation) k row ≡ refusalLeft what len from starts (nodeRelation relation) k₀ row)
+Inv-loop row starts table relation what from len k₀ k = (k ≤ len) × (refusalLeft what len from starts (nodeRelation relation) k row ≡ refusalLeft what len from starts (nodeRelation relation) k₀ row)
 
 abbrev μ-loop : tie.MeasureT-loop
-μ-loop row starts relation what from len k₀ k = len - k
+μ-loop row starts table relation what from len k₀ k = len - k
 
 loop-holds : tie.Need-loop-holds Inv-loop μ-loop
 loop-holds c = search needs
 
-add-step : tie.Need-add-step Inv-loop μ-loop
-add-step c = search needs
+add-code : tie.Need-add-code Inv-loop μ-loop
+add-code c = search needs
 
-shared-slice-read-step : tie.Need-shared-slice-read-step Inv-loop μ-loop
-shared-slice-read-step c = search needs
+shared-slice-read-code : tie.Need-shared-slice-read-code Inv-loop μ-loop
+shared-slice-read-code c = search needs
 
 access-at-requires : tie.Need-access-at-requires Inv-loop μ-loop
 access-at-requires c κs = search needs
 
-step-requires : tie.Need-step-requires Inv-loop μ-loop
-step-requires c κs = search needs
+line-of-requires : tie.Need-line-of-requires Inv-loop μ-loop
+line-of-requires c κs = search needs
 
-enum-told : tie.Need-enum-told Inv-loop μ-loop
-enum-told c = search needs
+index-requires : tie.Need-index-requires Inv-loop μ-loop
+index-requires c κs = search needs
 
-enum-known-n : tie.Need-enum-known-n Inv-loop μ-loop
-enum-known-n c = search needs
+add-outcome : tie.Need-add-outcome Inv-loop μ-loop
+add-outcome c = omega (arith, c .before .line-of .ensures, line-end (maybeAccess (c .before .before .access-at .result)) (nodeRelation (c .before .before .before .before .before .before .before .before .before .args .relation)))
+
+element-copy-out-outcome : tie.Need-element-copy-out-outcome Inv-loop μ-loop
+element-copy-out-outcome c = omega (arith, c .before .line-of .ensures, line-end (maybeAccess (c .before .before .access-at .result)) (nodeRelation (c .before .before .before .before .before .before .before .before .before .args .relation)))
 
 returns : tie.Need-returns Inv-loop μ-loop
 returns c =
-    let s = c .before .before .before .before .before .before .before .before .before .before in
-    let l = c .before .before .before .before .before .before .before .loop in
+    let s = c .before .before .before .before .before .before .before .before .before .before .before in
+    let l = c .before .before .before .before .before .before .before .before .loop in
     let what = s .args .v .what in
     let from = s .args .v .from in
-    let len = s .args .v .len in
     let starts = s .args .starts .now in
+    let row = s .args .row .now in
     let r = nodeRelation (s .args .relation) in
-    let t : c .before .before .before .step .result ≡ stepped (accessAt what starts (l .k)) r (getD (s .args .row .now) (from + l .k) 0) = c .before .before .before .step .ensures ∙ ap (λ (x : Option AccessKind). stepped x r (getD (s .args .row .now) (from + l .k) 0)) (c .before .before .before .before .access-at .ensures) in
-    check-refused what len from starts r (s .args .row .now) (s .pre) (l .k) (c .before .n .given .0 .0) (omega arith) (sym t ∙ c .before .n .given .1) ∙ l .inv .1
+    let line = c .before .before .before .line-of in
+    check-here what (s .args .v .len) from starts r row (s .pre .1) (l .k) _ (omega arith)
+    (look-refused (accessAt what starts (l .k)) r (s .args .table .now) (s .pre .0) (getD row (from + l .k) 0) (line .result) (c .before .before .index .result) _
+    (line .ensures ∙ ap (λ (x : Option AccessKind). lineOf x r) (c .before .before .before .before .access-at .ensures)) (c .before .before .before .before .before .if1 .taken) (c .before .before .index .ensures) refl (c .if2 .taken)) (omega arith)
+    ∙ l .inv .1
 
 add-k : tie.Need-add-k Inv-loop μ-loop
 add-k c = search needs
@@ -59,15 +67,24 @@ loop-less c = search needs
 
 loop-again : tie.Need-loop-again Inv-loop μ-loop
 loop-again c =
-    let s = c .before .before .before .before .before .before .before .before .before in
-    let l = c .before .before .before .before .before .before .loop in
+    let s = c .before .before .before .before .before .before in
+    let l = c .before .before .before .loop in
     let what = s .args .v .what in
     let from = s .args .v .from in
-    let len = s .args .v .len in
     let starts = s .args .starts .now in
+    let row = s .args .row .now in
     let r = nodeRelation (s .args .relation) in
-    let t : c .before .before .step .result ≡ stepped (accessAt what starts (l .k)) r (getD (s .args .row .now) (from + l .k) 0) = c .before .before .step .ensures ∙ ap (λ (x : Option AccessKind). stepped x r (getD (s .args .row .now) (from + l .k) 0)) (c .before .before .before .access-at .ensures) in
-    (omega arith, check-passes what len from starts r (s .args .row .now) (s .pre) (l .k) (c .enum-told .given .0 .0) (omega arith) (sym t ∙ c .enum-told .given .1) ∙ l .inv .1)
+    let code = getD row (from + l .k) 0 in (
+      omega arith,
+      ⊎-elim
+          (λ w.
+          check-next what (s .args .v .len) from starts r row (s .pre .1) (l .k) 0 (omega arith)
+          (look-passes (accessAt what starts (l .k)) r (s .args .table .now) (s .pre .0) code (w .2 .result) (w .3 .result) _
+          (w .2 .ensures ∙ ap (λ (x : Option AccessKind). lineOf x r) (w .1 .ensures)) (w .0 .taken) (w .3 .ensures) refl (omega (arith, w .5 .left))) refl)
+          (λ w. check-next what (s .args .v .len) from starts r row (s .pre .1) (l .k) 0 (omega arith) (sym (past-refusal (accessAt what starts (l .k)) r code (omega arith))) refl)
+          (c .if1 .came)
+          ∙ l .inv .1,
+    )
 
 returns-2 : tie.Need-returns-2 Inv-loop μ-loop
 returns-2 c =
@@ -88,12 +105,13 @@ check-bytes-spec =
     Inv-loop
     μ-loop
     loop-holds
-    add-step
-    shared-slice-read-step
+    add-code
+    shared-slice-read-code
     access-at-requires
-    step-requires
-    enum-told
-    enum-known-n
+    line-of-requires
+    index-requires
+    add-outcome
+    element-copy-out-outcome
     returns
     add-k
     loop-less

@@ -1,4 +1,4 @@
--- The same access at each byte is looked up in its table; else each byte is asked for its own.
+-- The same access at each byte is looked up in its line; else each byte is asked for its own.
 use borrow.Author.Needs.{needs}
 use Rattle.tree.proofs.check_row.Statement.{statement}
 use Rattle.tree.proofs.check_row.Tie as tie

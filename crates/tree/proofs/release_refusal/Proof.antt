@@ -15,12 +15,12 @@ use Rattle.tree.proofs.release_refusal.Statement.{statement}
 use Rattle.tree.proofs.release_refusal.Tie as tie
 use Rattle.tree.proofs.release_refusal.Reads as reads
 use Rattle.tree.proofs.release_refusal.Lts as lts
-use Rattle.tree.proofs.check_from.Reads as check-from-reads
+use Rattle.tree.proofs.check.Reads as check-reads
 use Rattle.tree.proofs.copy_row.Reads as copy-row-reads
 use Rattle.tree.proofs.lacks_protector.Reads as lacks-protector-reads
 
 -- the node's row ends within the table
-ends : (s : lts.Start (copy-row-reads.Asked, copy-row-reads.Learnt, lacks-protector-reads.Asked, lacks-protector-reads.Learnt, check-from-reads.Asked, check-from-reads.Learnt) reads.Pre reads.Post) → s .args .node * s .args .width + s .args .width ≤ length (s .args .codes .now)
+ends : (s : lts.Start (copy-row-reads.Asked, copy-row-reads.Learnt, lacks-protector-reads.Asked, lacks-protector-reads.Learnt, check-reads.Asked, check-reads.Learnt) reads.Pre reads.Post) → s .args .node * s .args .width + s .args .width ≤ length (s .args .codes .now)
 ends s = held-fits (s .pre .0 .0) (s .args .width) (s .args .codes .now) (s .pre .0 .1 .holds .table) (s .args .node) (omega (arith, held-count (s .pre .0 .1 .holds)))
 
 mul-start : tie.Need-mul-start
@@ -56,10 +56,10 @@ returns c =
       λ nodes held. release-16 Live nodes (s .args .node) (sym (c .before .lacks-protector .ensures nodes (held-marks held)) ∙ c .if1 .taken),
     )
 
-check-from-requires : tie.Need-check-from-requires
-check-from-requires c κs =
+check-requires : tie.Need-check-requires
+check-requires c κs =
     let s = c .before .before .before .before .before .before .before .before .before .before .before .before in
-    (held-ready _ (s .pre .0 .0) _ _ (s .pre .0 .1 .holds) (s .pre .1 .0) (omega arith), s .pre .0 .1 .holds .root)
+    held-ready _ (s .pre .0 .0) _ _ (s .pre .0 .1 .holds) (s .pre .1 .0) (omega arith)
 
 same-length-2 : tie.Need-same-length-2
 same-length-2 c = search needs
@@ -75,7 +75,7 @@ returns-2 c =
       λ nodes held.
           let l = held-count (held .holds) in
           let protected = sym (c .before .before .before .lacks-protector .ensures nodes (held-marks held)) ∙ c .before .before .if1 .left in
-          c .check-from .ensures
+          c .check .ensures
           ∙ means-refusal _ _ _ _
           (means-release (s .args .parents .now) (held .holds .root) width (held .holds .earlier) n (root-lacks nodes (held .rootFree) n protected) nodes _
           (lent-row width n codes (s .args .lent .now) _ (ends s) copied ∙ held-row nodes width codes (held .holds .table) n (omega arith))) nodes codes (held .holds)
@@ -96,6 +96,6 @@ release-refusal-spec =
     lacks-protector-requires
     same-length
     returns
-    check-from-requires
+    check-requires
     same-length-2
     returns-2)
