@@ -16,7 +16,8 @@ use Rattle.definition.specs.Memory.{AllocationKind, Memory, allocationAt, kindN
 use Rattle.definition.specs.Retag.{ofNode}
 use Rattle.definition.proofs.ValidMemory.{Room, room}
 use Rattle.tables.specs.Encoding.{protectorNumber, recordOf, parentsOf, protectorsOf, wordsOf, rowOf, codesOf, concatMap, held, encode}
-use Rattle.tables.specs.Held.{buffers, Holds, startOf, Records, StartsAt, AllocationFits, Appended, inserted, withNode, Trees, NodeFits}
+use Rattle.tables.specs.Held.{buffers, Holds, startOf, Records, StartsAt, AllocationFits, Appended, inserted, withNode, Trees, NodeFits, Used, ZerosFrom}
+use Rattle.tables.proofs.Inserts.{held-zeros}
 use Rattle.tables.proofs.Parts.{map-snoc, map-replicate, put-paste}
 use Rattle.tables.proofs.Focus.{concat-append, length-held, focus-used, focus-same, focus-set, focus-insert, focus-append, focus-append-zeros}
 use Rattle.tables.proofs.Sizes.{length-parents, records-used, words-used, parents-used, protectors-used, codes-used}
@@ -141,14 +142,37 @@ module _ {m : Memory} {a : ℕ} {x : Node} {A P R C : List ℕ} {pa pr : ℕ} (r
     codes-place : c ≡ startOf codesOf m a + length (codesOf (allocationAt m a))
     codes-place = s .codes ∙ start-more codesOf m a (ok .made)
 
-    pub parents-in : n + 1 ≤ length P
-    parents-in = omega (arith, parents-place, focus-used 1024 parentsOf m a (ok .made), parents-room, ap length (ok .trees .parents), length-held 1024 parentsOf m (omega (arith, parents-room)))
+    -- what is used, where only that moves
+    module _ {tw tn tc : ℕ} (u : Used m tw tn tc) where
+      parents-all : tn ≡ length (concatMap parentsOf m)
+      parents-all = u .nodes ∙ sym (parents-used m)
 
-    pub protectors-in : n + 1 ≤ length R
-    protectors-in = omega (arith, protectors-place, focus-used 1024 protectorsOf m a (ok .made), protectors-room, ap length (ok .trees .protectors), length-held 1024 protectorsOf m (omega (arith, protectors-room)))
+      protectors-all : tn ≡ length (concatMap protectorsOf m)
+      protectors-all = u .nodes ∙ sym (protectors-used m)
 
-    pub codes-in : c + length row ≤ length C
-    codes-in = omega (arith, codes-place, focus-used 32768 codesOf m a (ok .made), codes-room, ap length (ok .trees .codes), length-held 32768 codesOf m (omega (arith, codes-room)))
+      codes-all : tc ≡ length (concatMap codesOf m)
+      codes-all = u .codes ∙ sym (codes-used m (ok .valid .each))
+
+      pub parents-moved : ZerosFrom tn P × ((n ≤ tn) × (tn + 1 ≤ length P))
+      parents-moved =
+          let l = ap length (ok .trees .parents) ∙ length-held 1024 parentsOf m (omega (arith, parents-room)) in (
+            held-zeros 1024 parentsOf m (ok .trees .parents) parents-all (omega (arith, parents-all, parents-room)),
+            (omega (arith, parents-place, focus-used 1024 parentsOf m a (ok .made), parents-all), omega (arith, parents-all, parents-room, l)),
+          )
+
+      pub protectors-moved : ZerosFrom tn R × ((n ≤ tn) × (tn + 1 ≤ length R))
+      protectors-moved =
+          let l = ap length (ok .trees .protectors) ∙ length-held 1024 protectorsOf m (omega (arith, protectors-room)) in (
+            held-zeros 1024 protectorsOf m (ok .trees .protectors) protectors-all (omega (arith, protectors-all, protectors-room)),
+            (omega (arith, protectors-place, focus-used 1024 protectorsOf m a (ok .made), protectors-all), omega (arith, protectors-all, protectors-room, l)),
+          )
+
+      pub codes-moved : ZerosFrom tc C × ((c ≤ tc) × (tc + length row ≤ length C))
+      codes-moved =
+          let l = ap length (ok .trees .codes) ∙ length-held 32768 codesOf m (omega (arith, codes-room)) in (
+            held-zeros 32768 codesOf m (ok .trees .codes) codes-all (omega (arith, codes-all, codes-room)),
+            (omega (arith, codes-place, focus-used 32768 codesOf m a (ok .made), codes-all), omega (arith, codes-all, codes-room, l)),
+          )
 
     new-parents : inserted P n (pa ∷ []) ≡ held 1024 parentsOf (mutateAt a (withNode x) m)
     unfolding parentsOf

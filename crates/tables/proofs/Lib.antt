@@ -5,5 +5,6 @@ pub mod Focus
 pub mod Sizes
 pub mod Lookup
 pub mod ReadBack
+pub mod Inserts
 pub mod Grown
 pub mod Lent

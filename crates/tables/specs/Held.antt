@@ -3,7 +3,7 @@ use Prim.Native.Nat.{ℕ, _+_, _-_, _<_}
 use mathlib.Core.Path.{_≡_}
 use mathlib.Core.Bool.{false}
 use mathlib.Core.List.{List, [], _∷_, _++_}
-use lib.ListN.{length, take, drop}
+use lib.ListN.{length, take, drop, replicate}
 use Rattle.definition.specs.Notation.{sumOf}
 use Rattle.definition.specs.Tree.{Node}
 use Rattle.definition.specs.Memory.{Allocation, Memory, allocationAt, changed, size, nodeCount, codeCount, exceedsBounds, ofAllocation}
@@ -62,6 +62,10 @@ pub record Appended (m : Memory) (x : Allocation) (n : ℕ) (A C : List ℕ) : T
 -- c with row put in at q: what stood there and behind moves up, and as much falls off the end
 abbrev pub inserted : List ℕ → ℕ → List ℕ → List ℕ
 inserted c q row = take q c ++ (row ++ take (length c - (q + length row)) (drop q c))
+
+-- nothing but zeros from u on
+abbrev pub ZerosFrom : ℕ → List ℕ → Type 0
+ZerosFrom u c = drop u c ≡ replicate (length c - u) 0
 
 abbrev pub withNode : Node → Allocation → Allocation
 withNode x a = changed a (a .state) (a .words) (a .nodes ++ (x ∷ []))

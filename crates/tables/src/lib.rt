@@ -12,7 +12,7 @@ ghost use Rattle.definition.specs.Notation.{mutateAt};
 ghost use Rattle.definition.specs.Tree.{Node};
 ghost use Rattle.definition.specs.Memory.{Memory, AllocationKind, kindNumber, isMisaligned, rangesOverlap, newAllocation};
 ghost use Rattle.tables.specs.Decoding.{madeIn};
-ghost use Rattle.tables.specs.Held.{inserted, withNode, Records, StartsAt, Used, AllocationFits, Appended, NodeFits, Trees};
+ghost use Rattle.tables.specs.Held.{inserted, ZerosFrom, withNode, Records, StartsAt, Used, AllocationFits, Appended, NodeFits, Trees};
 
 // An allocation's record.
 pub struct Allocation {
@@ -180,6 +180,25 @@ pub fn insert_one(c: &mut [u16], p: usize, x: u16)
     c[p] = x;
 }
 
+// In tables that are zero from `used` on: only what is used moves.
+pub fn insert_row_in_used(c: &mut [u8], used: usize, p: usize, row: &[u8])
+    requires { ⌜ ZerosFrom used (now c) ⌝ }
+    requires { ⌜ (p ≤ used) × (used + length (now row) ≤ length (now c)) ⌝ }
+    ensures { λ _. ⌜ now (c .exit) ≡ inserted (now (c .entry)) p (now (row .entry)) ⌝ }
+{
+    let end = used + row.len();
+    insert_row(&mut c[..end], p, row);
+}
+
+pub fn insert_one_in_used(c: &mut [u16], used: usize, p: usize, x: u16)
+    requires { ⌜ ZerosFrom used (now c) ⌝ }
+    requires { ⌜ (p ≤ used) × (used + 1 ≤ length (now c)) ⌝ }
+    ensures { λ _. ⌜ now (c .exit) ≡ inserted (now (c .entry)) p (x ∷ []) ⌝ }
+{
+    let end = used + 1;
+    insert_one(&mut c[..end], p, x);
+}
+
 // Sets the first n to x.
 pub fn fill(d: &mut [u8], n: usize, x: u8)
     requires { ⌜ n ≤ length (now d) ⌝ }
@@ -244,13 +263,16 @@ pub fn insert_node(
         → NodeFits m a x (now (allocs .entry)) (now (parents .entry)) (now (protectors .entry)) (now (codes .entry)) parent protector (now (row .entry))
         → Trees (mutateAt a (withNode x) m) (now (allocs .exit)) (now (parents .exit)) (now (protectors .exit)) (now (codes .exit))) ⌝ }
 {
+    let all = used(allocs);
+    let nodes = all.nodes;
+    let size = all.codes;
     let behind = starts_at(allocs, a + 1);
     let node = behind.nodes;
     let code = behind.codes;
-    insert_one(parents, node, parent);
+    insert_one_in_used(parents, nodes, node, parent);
     let mark = [protector; 1];
-    insert_row(protectors, node, &mark);
-    insert_row(codes, code, row);
+    insert_row_in_used(protectors, nodes, node, &mark);
+    insert_row_in_used(codes, size, code, row);
     let p = a * 6 + 5;
     allocs[p] += 1;
 }
