@@ -1,13 +1,11 @@
--- general: a text behind another, digits, fields
+-- texts written one behind the other
 pub mod Writes
 pub mod Numbers
 pub mod Lines
--- answers
-pub mod Given
--- the memory
 pub mod Names
 pub mod Rows
 pub mod Parts
 pub mod Held
-pub mod Walk
 pub mod Lengths
+pub mod Walk
+pub mod Given

@@ -8,7 +8,7 @@ use native.Mathlib.Omega.{arith}
 use lib.ListN.{length, drop, getD, set, length-append}
 use lib.Seq.{drop-cons}
 use Rattle.definition.specs.Notation.{writeAt}
-use Rattle.report.specs.Written.{Room, Written}
+use Rattle.report.specs.Written.{Room, Written, WrittenInside}
 
 -- ---- `writeAt`
 write-none : (n : ℕ) (xs : List ℕ) → writeAt n [] xs ≡ xs
@@ -66,6 +66,18 @@ room-as {out} {at} e r = subst (λ (t : List ℕ). Room out at t) e r
 
 pub byte-room : {out : List ℕ} {at x y : ℕ} → Room out at (x ∷ []) → Room out at (y ∷ [])
 byte-room r = record { fits = r .fits }
+
+-- ---- with room for it a text ends in the buffer
+pub inside : {out : List ℕ} {at : ℕ} (text : List ℕ) {after : List ℕ} {end : ℕ} → Room out at text → Written out at text after end → WrittenInside out at text after end
+inside {out} {at} text {after} {end} r w =
+    record { written = w; fits = omega (arith, r .fits, w .place, ap length (w .contents) ∙ write-length at text out) }
+
+pub inside-as : {out : List ℕ} {at : ℕ} {text text′ after : List ℕ} {end : ℕ} → text ≡ text′ → WrittenInside out at text after end → WrittenInside out at text′ after end
+inside-as {out} {at} {text} {text′} {after} {end} e w = subst (λ (t : List ℕ). WrittenInside out at t after end) e w
+
+pub both-inside : {out : List ℕ} {at : ℕ} (s t : List ℕ) {mid : List ℕ} {p : ℕ} {after : List ℕ} {end : ℕ}
+    → Written out at s mid p → WrittenInside mid p t after end → WrittenInside out at (s ++ t) after end
+both-inside s t v w = record { written = both-written s t v (w .written); fits = w .fits }
 
 -- an element and those behind it
 pub drop-next : (xs : List ℕ) (i : ℕ) → i < length xs → drop i xs ≡ (getD xs i 0 ∷ []) ++ drop (i + 1) xs

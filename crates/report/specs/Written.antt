@@ -13,3 +13,8 @@ pub record Room (buffer : List ℕ) (at : ℕ) (text : List ℕ) : Type 0 where
 pub record Written (before : List ℕ) (at : ℕ) (text after : List ℕ) (end : ℕ) : Type 0 where
   pub contents : after ≡ writeAt at text before
   pub place : end ≡ at + length text
+
+-- so it is, and the text ends in the buffer
+pub record WrittenInside (before : List ℕ) (at : ℕ) (text after : List ℕ) (end : ℕ) : Type 0 where
+  pub written : Written before at text after end
+  pub fits : end ≤ length after

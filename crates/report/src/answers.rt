@@ -6,27 +6,27 @@ use crate::text::put_words;
 use answer::Answer;
 use pointer::Provenance;
 ghost use mathlib.Core.List.{_∷_, []};
-ghost use mathlib.Core.Option.{none};
+ghost use mathlib.Core.Option.{none, some};
 ghost use Prim.Native.Nat.{_+_, _*_, _≤_};
 ghost use lib.ListN.{length};
 ghost use Rattle.definition.specs.Output.{decimal, pointed, given, ended, answerLine};
 ghost use Rattle.pointer.specs.Pointer.{provenanceOf};
-ghost use Rattle.report.specs.Written.{Written};
+ghost use Rattle.report.specs.Written.{WrittenInside};
 ghost use Rattle.report.specs.Answer.{named, giving};
 
-// The allocation that 25 names, and the line's end.
+// The last field is the allocation that 25 names, and the line's end.
 fn put_leak(out: &mut [u8], at: usize, a: u64) -> usize
     requires { ⌜ at + 22 ≤ length (now out) ⌝ }
-    ensures { λ r. ⌜ Written (now (out .entry)) at (ended (decimal a ∷ [])) (now (out .exit)) r ⌝ }
+    ensures { λ r. ⌜ WrittenInside (now (out .entry)) at (ended (decimal a ∷ [])) (now (out .exit)) r ⌝ }
 {
     let p = put_number(out, at, a);
     put_byte(out, p, b'\n')
 }
 
-// A pointer, and the line's end. "A pointer without provenance prints `-`.": what stands for no words.
+// It is a pointer. "A pointer without provenance prints `-`."
 fn put_pointer(out: &mut [u8], at: usize, pointer: Provenance, loaded: &[u32]) -> usize
     requires { ⌜ at + 43 + 9 * length (now loaded) ≤ length (now out) ⌝ }
-    ensures { λ r. ⌜ Written (now (out .entry)) at (ended (given none (provenanceOf pointer) (now (loaded .entry)))) (now (out .exit)) r ⌝ }
+    ensures { λ r. ⌜ WrittenInside (now (out .entry)) at (ended (given none (provenanceOf pointer) (now (loaded .entry)))) (now (out .exit)) r ⌝ }
 {
     match pointer {
         Provenance::None => put_words(out, at, loaded),
@@ -39,10 +39,10 @@ fn put_pointer(out: &mut [u8], at: usize, pointer: Provenance, loaded: &[u32]) -
     }
 }
 
-// "allocation.node", and the line's end.
+// "allocation.node"
 fn put_provenance(out: &mut [u8], at: usize, allocation: u64, node: u64) -> usize
     requires { ⌜ at + 43 ≤ length (now out) ⌝ }
-    ensures { λ r. ⌜ Written (now (out .entry)) at (ended (pointed (record { allocation = allocation; node = node }) ∷ [])) (now (out .exit)) r ⌝ }
+    ensures { λ r. ⌜ WrittenInside (now (out .entry)) at (ended (pointed (record { allocation = allocation; node = node }) ∷ [])) (now (out .exit)) r ⌝ }
 {
     let p = put_number(out, at, allocation);
     let q = put_byte(out, p, b'.');
@@ -50,10 +50,9 @@ fn put_provenance(out: &mut [u8], at: usize, allocation: u64, node: u64) -> usiz
     put_byte(out, r, b'\n')
 }
 
-// What the answer gives, and the line's end.
 fn put_given(out: &mut [u8], at: usize, answer: Answer, loaded: &[u32]) -> usize
     requires { ⌜ at + 43 + 9 * length (now loaded) ≤ length (now out) ⌝ }
-    ensures { λ r. ⌜ Written (now (out .entry)) at (ended (given (named answer) (giving answer (now (loaded .entry)) .pointer) (now (loaded .entry)))) (now (out .exit)) r ⌝ }
+    ensures { λ r. ⌜ WrittenInside (now (out .entry)) at (ended (given (named answer) (giving answer (now (loaded .entry)) .pointer) (now (loaded .entry)))) (now (out .exit)) r ⌝ }
 {
     match answer {
         Answer::Refused(_) => put_words(out, at, loaded),
@@ -68,7 +67,7 @@ fn put_given(out: &mut [u8], at: usize, answer: Answer, loaded: &[u32]) -> usize
 // `load_view` hands out: none but for a load.
 pub fn answer_line(out: &mut [u8], at: usize, index: u64, answer: Answer, loaded: &[u32]) -> usize
     requires { ⌜ at + 128 + 9 * length (now loaded) ≤ length (now out) ⌝ }
-    ensures { λ r. ⌜ Written (now (out .entry)) at (answerLine index (named answer) (giving answer (now (loaded .entry)))) (now (out .exit)) r ⌝ }
+    ensures { λ r. ⌜ WrittenInside (now (out .entry)) at (answerLine index (named answer) (giving answer (now (loaded .entry)))) (now (out .exit)) r ⌝ }
 {
     let refusal = answer.refusal();
     let p = put_decimal(out, at, index);

@@ -7,7 +7,7 @@ use borrow.Author.Needs.{needs}
 use Rattle.definition.specs.Output.{ascii, decimal, ended, answerLine}
 use Rattle.answer.specs.Answer.{answerOf}
 use Rattle.report.proofs.Numbers.{decimal-length}
-use Rattle.report.proofs.Writes.{both-written, written-as}
+use Rattle.report.proofs.Writes.{both-inside, written-as}
 use Rattle.report.proofs.answers.answer_line.Statement.{statement}
 use Rattle.report.proofs.answers.answer_line.Tie as tie
 
@@ -62,8 +62,8 @@ returns : tie.Need-returns
 unfolding answerLine ended
 returns c =
     let s = c .before .before .before .before .before .before .before .before .before .before .before .before .before .before .before in
-    both-written _ _ (c .before .before .before .before .before .before .before .before .before .before .put-decimal .ensures)
-    (both-written (ascii " " ++ decimal (answerOf (s .args .answer) [] .refusal)) _
+    both-inside _ _ (c .before .before .before .before .before .before .before .before .before .before .put-decimal .ensures)
+    (both-inside (ascii " " ++ decimal (answerOf (s .args .answer) [] .refusal)) _
     (written-as (ap (λ (n : ℕ). ascii " " ++ decimal n) (c .before .before .before .before .before .before .before .before .before .before .before .before .refusal .ensures [])) (c .before .before .before .before .before .before .put-number .ensures)) (c .before .before .put-given .ensures))
 
 pub answer-line-spec : {M : Type 1} → statement M

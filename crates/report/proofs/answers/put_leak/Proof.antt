@@ -5,6 +5,7 @@ use borrow.Author.Needs.{needs}
 use Rattle.definition.specs.Output.{decimal, ended}
 use Rattle.report.specs.Written.{Room}
 use Rattle.report.proofs.Lines.{field-room, field-behind, field-written, end-room, end-written, number-length}
+use Rattle.report.proofs.Writes.{inside}
 use Rattle.report.proofs.answers.put_leak.Statement.{statement}
 use Rattle.report.proofs.answers.put_leak.Tie as tie
 
@@ -21,7 +22,9 @@ same-length : tie.Need-same-length
 same-length c = search needs
 
 returns : tie.Need-returns
-returns c = field-written [] (c .before .before .before .before .before .before .put-number .ensures) (end-written (c .before .before .put-byte .ensures))
+returns c =
+    inside _ (room (c .before .before .before .before .before .before .before .before .before))
+    (field-written [] (c .before .before .before .before .before .before .put-number .ensures) (end-written (c .before .before .put-byte .ensures)))
 
 pub put-leak-spec : {M : Type 1} → statement M
 put-leak-spec = tie.close (tie.spec put-number-requires put-byte-requires same-length returns)

@@ -7,7 +7,7 @@ use Rattle.definition.specs.Output.{given, ended}
 use Rattle.pointer.specs.Pointer.{provenanceOf}
 use Rattle.pointer.specs.declared.Provenance.{Provenance}
 use Rattle.report.proofs.Lines.{words-length}
-use Rattle.report.proofs.Writes.{written-as}
+use Rattle.report.proofs.Writes.{inside, inside-as}
 use Rattle.report.proofs.answers.put_pointer.Statement.{statement}
 use Rattle.report.proofs.answers.put_pointer.Tie as tie
 
@@ -35,8 +35,8 @@ same-length c = search needs
 returns : tie.Need-returns
 unfolding given
 returns c =
-    written-as (ap (λ (p : Provenance). ended (given none (provenanceOf p) (c .before .before .before .before .before .before .before .before .args .loaded .now))) (sym (c .before .before .before .before .enum-told .given .1)))
-    (c .before .before .put-words .ensures)
+    inside-as (ap (λ (p : Provenance). ended (given none (provenanceOf p) (c .before .before .before .before .before .before .before .before .args .loaded .now))) (sym (c .before .before .before .before .enum-told .given .1)))
+    (inside _ (record { fits = omega (arith, words-length (c .before .before .before .before .before .before .before .before .args .loaded .now), c .before .before .before .before .before .before .before .before .pre) }) (c .before .before .put-words .ensures))
 
 same-length-2 : tie.Need-same-length-2
 same-length-2 c = search needs
@@ -44,7 +44,7 @@ same-length-2 c = search needs
 returns-2 : tie.Need-returns-2
 unfolding given
 returns-2 c =
-    written-as (ap (λ (p : Provenance). ended (given none (provenanceOf p) (c .before .before .before .before .before .before .before .before .before .args .loaded .now))) (sym (c .before .before .before .before .before .pointer .given .1)))
+    inside-as (ap (λ (p : Provenance). ended (given none (provenanceOf p) (c .before .before .before .before .before .before .before .before .before .args .loaded .now))) (sym (c .before .before .before .before .before .pointer .given .1)))
     (c .before .before .put-provenance .ensures)
 
 pub put-pointer-spec : {M : Type 1} → statement M

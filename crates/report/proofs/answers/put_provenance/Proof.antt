@@ -7,7 +7,7 @@ use Rattle.definition.specs.Memory.{Provenance}
 use Rattle.definition.specs.Output.{Text, ascii, decimal}
 use Rattle.report.specs.Written.{Room}
 use Rattle.report.proofs.Lines.{pointed-length, pointed-parts}
-use Rattle.report.proofs.Writes.{both-written, room-front, room-behind, room-as, written-as}
+use Rattle.report.proofs.Writes.{both-written, room-front, room-behind, room-as, inside, inside-as}
 use Rattle.report.proofs.answers.put_provenance.Statement.{statement}
 use Rattle.report.proofs.answers.put_provenance.Tie as tie
 
@@ -48,10 +48,10 @@ same-length c = search needs
 returns : tie.Need-returns
 returns c =
     let s = c .before .before .before .before .before .before .before .before .before .before .before .before .before .before .before .before .before in
-    written-as (sym (pointed-parts (pointer s)))
-    (both-written (first s) _ (c .before .before .before .before .before .before .before .before .before .before .before .before .before .before .put-number .ensures)
+    inside-as (sym (pointed-parts (pointer s)))
+    (inside _ (room s) (both-written (first s) _ (c .before .before .before .before .before .before .before .before .before .before .before .before .before .before .put-number .ensures)
     (both-written (ascii ".") _ (c .before .before .before .before .before .before .before .before .before .before .put-byte .ensures)
-    (both-written (third s) _ (c .before .before .before .before .before .before .put-decimal .ensures) (c .before .before .put-byte2 .ensures))))
+    (both-written (third s) _ (c .before .before .before .before .before .before .put-decimal .ensures) (c .before .before .put-byte2 .ensures)))))
 
 pub put-provenance-spec : {M : Type 1} → statement M
 put-provenance-spec =

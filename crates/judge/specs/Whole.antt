@@ -1,0 +1,57 @@
+-- A whole run, and the text of its verdict.
+use Prim.Native.Nat.{ℕ, _+_, _≤_, _<_}
+use mathlib.Core.Path.{_≡_}
+use mathlib.Core.Bool.{Bool, true, false, not, _&&_}
+use mathlib.Core.List.{List, [], _++_}
+use lib.Dec.{ltb, leb}
+use lib.ListN.{length, take, drop}
+use Rattle.definition.specs.Notation.{if_then_else_}
+use Rattle.definition.specs.Memory.{Answer}
+use Rattle.definition.specs.Frame.{State}
+use Rattle.definition.specs.Run.{program}
+use Rattle.definition.specs.Output.{answerLines, output}
+use Rattle.tables.specs.Encoding.{Buffers}
+use Rattle.perform.specs.Performed.{HoldsState}
+use Rattle.stream.specs.Stream.{programFrom}
+use Rattle.judge.specs.declared.Place.{Place}
+use Rattle.judge.specs.declared.Judged.{Judged}
+use Rattle.judge.specs.declared.Judged.the-variants.{Text, TooLong}
+use Rattle.judge.specs.Turn.{lineRoom, NamesLeak}
+
+abbrev pub goesOn : Place → ℕ → ℕ → Bool
+goesOn p bytes room = (not (p .refused) && ltb (p .from) bytes) && leb (p .at + lineRoom) room
+
+-- what is left of the run at place p, in state s: no request behind the one that is refused
+abbrev pub leftAt : State → List ℕ → Place → List Answer × State
+leftAt s run p = if p .refused then ([], s) else programFrom s (drop (p .from) run)
+
+-- the run came to place p: the lines so far, and those of what is left, are the definition's
+pub record Performing (run : List ℕ) (p : Place) (out : List ℕ) (b : Buffers) (F : List ℕ) : Type 0 where
+  pub state : State
+  pub holds : HoldsState state b F
+  pub leak : ℕ
+  pub right : NamesLeak (state .memory) leak
+  pub text : (l : ℕ) → (p .refused ≡ true → l ≡ leak)
+      → take (p .at) out ++ answerLines l (p .index) (leftAt state run p .0) ≡ answerLines l 0 (program run .0)
+  pub final : leftAt state run p .1 ≡ program run .1
+  pub fits : p .at ≤ length out
+  pub within : p .from ≤ length run
+  pub counted : p .index ≤ p .from
+
+-- the memory's lines have room in this
+abbrev pub memoryRoom : ℕ
+memoryRoom = 0x28000
+
+-- the first n bytes are what the program prints of the run; 25 names a live heap allocation of the memory that is left
+pub record TextOf (run : List ℕ) (leak n : ℕ) (after : List ℕ) : Type 0 where
+  pub right : NamesLeak (program run .1 .memory) leak
+  pub fits : n ≤ length after
+  pub text : take n after ≡ output leak run
+
+abbrev pub JudgedWith : List ℕ → ℕ → List ℕ → Judged → List ℕ → Type 0
+JudgedWith run leak before (Text n) after = TextOf run leak n after
+JudgedWith run leak before TooLong after = length before < length (output leak run) + memoryRoom
+
+pub record JudgedAs (run before : List ℕ) (r : Judged) (after : List ℕ) : Type 0 where
+  pub leak : ℕ
+  pub judged : JudgedWith run leak before r after

@@ -1,0 +1,181 @@
+// One request of a run: performed, and the line of its answer written.
+use crate::Place;
+use answer::Answer;
+ghost use Prim.Native.Nat.{_+_, _*_, _≤_, _<_, _^_};
+ghost use mathlib.Core.Path.{_≡_};
+ghost use mathlib.Core.List.{List};
+ghost use lib.ListN.{length, take, drop};
+ghost use Rattle.definition.specs.Memory.{Memory};
+ghost use Rattle.definition.specs.Frame.{State};
+ghost use Rattle.definition.specs.Run.{wordsOf};
+ghost use Rattle.answer.specs.Answer.{answerOf};
+ghost use Rattle.tables.specs.Held.{buffers, Records};
+ghost use Rattle.perform.specs.Performed.{HoldsState};
+ghost use Rattle.definition.specs.Output.{answerLine};
+ghost use Rattle.report.specs.Written.{WrittenInside};
+ghost use Rattle.report.specs.Answer.{named};
+ghost use Rattle.judge.specs.Turn.{lineRoom, Shown, LineWritten, Turned, requestEnd, Taken};
+
+// Where the next line goes, and whether the request was refused.
+struct Line {
+    at: usize,
+    refused: bool,
+}
+
+// 25 with the allocation that the leak check names. `step` promises that it is 25, and no name.
+fn shown(allocs: &[u64], answer: Answer) -> Answer
+    requires { ⌜ ((m : Memory) × Records m (now allocs)) ⌝ }
+    ensures { λ r. ⌜ ((m : Memory) → Records m (now (allocs .entry)) → Shown m answer r) ⌝ }
+{
+    if answer.refusal() != 25 {
+        return answer;
+    }
+    let check = bounds::leak_check(allocs);
+    match check {
+        Answer::Leak(a) => Answer::Leak(a),
+        Answer::Refused(_) => Answer::Leak(0),
+        Answer::Accepted => Answer::Leak(0),
+        Answer::Pointer(_) => Answer::Leak(0),
+        Answer::Words { start: _, len: _ } => Answer::Leak(0),
+    }
+}
+
+fn put_line(out: &mut [u8], at: usize, index: u64, answer: Answer, words: &[u32]) -> usize
+    requires { ⌜ (at + lineRoom ≤ length (now out)) × (length (now words) ≤ 4096) ⌝ }
+    ensures { λ r. ⌜ WrittenInside (now (out .entry)) at (answerLine index (named answer) (answerOf answer (now (words .entry)))) (now (out .exit)) r ⌝ }
+{
+    let loaded = library::load::load_view(words, answer);
+    report::answers::answer_line(out, at, index, answer, loaded)
+}
+
+fn write_answer(
+    out: &mut [u8],
+    at: usize,
+    index: u64,
+    answer: Answer,
+    allocs: &[u64],
+    words: &[u32],
+) -> Line
+    requires { ⌜ ((m : Memory) × Records m (now allocs)) ⌝ }
+    requires { ⌜ (at + lineRoom ≤ length (now out)) × (length (now words) ≤ 4096) ⌝ }
+    ensures { λ r. ⌜ ((m : Memory) → Records m (now (allocs .entry)) → LineWritten m index (answerOf answer (now (words .entry))) (now (out .entry)) at (now (out .exit)) (r .at) (r .refused)) ⌝ }
+{
+    let named = shown(allocs, answer);
+    let end = put_line(out, at, index, named, words);
+    Line {
+        at: end,
+        refused: named.refusal() != 0,
+    }
+}
+
+// The request that these words make.
+fn answer_words(
+    allocs: &mut [u64],
+    parents: &mut [u16],
+    protectors: &mut [u8],
+    words: &mut [u32],
+    codes: &mut [u8],
+    frames: &mut [u32],
+    request: &[u32],
+    out: &mut [u8],
+    at: usize,
+    index: u64,
+) -> Line
+    requires { ⌜ ((s : State) × HoldsState s (buffers (now allocs) (now parents) (now protectors) (now words) (now codes)) (now frames)) ⌝ }
+    requires { ⌜ at + lineRoom ≤ length (now out) ⌝ }
+    ensures { λ r. ⌜ ((s : State) → HoldsState s (buffers (now (allocs .entry)) (now (parents .entry)) (now (protectors .entry)) (now (words .entry)) (now (codes .entry))) (now (frames .entry))
+        → Turned s (now (request .entry)) index (now (out .entry)) at (now (out .exit)) (r .at) (r .refused)
+        (buffers (now (allocs .exit)) (now (parents .exit)) (now (protectors .exit)) (now (words .exit)) (now (codes .exit))) (now (frames .exit))) ⌝ }
+{
+    let answer = run::step::step(allocs, parents, protectors, words, codes, frames, request);
+    write_answer(out, at, index, answer, allocs, words)
+}
+
+// The request that these bytes make. `request` is room for its words.
+fn answer_bytes(
+    allocs: &mut [u64],
+    parents: &mut [u16],
+    protectors: &mut [u8],
+    words: &mut [u32],
+    codes: &mut [u8],
+    frames: &mut [u32],
+    bytes: &[u8],
+    request: &mut [u32],
+    out: &mut [u8],
+    at: usize,
+    index: u64,
+) -> Line
+    requires { ⌜ ((s : State) × HoldsState s (buffers (now allocs) (now parents) (now protectors) (now words) (now codes)) (now frames)) ⌝ }
+    requires { ⌜ (at + lineRoom ≤ length (now out)) × (length (now bytes) < 4 * length (now request) + 4) ⌝ }
+    ensures { λ r. ⌜ ((s : State) → HoldsState s (buffers (now (allocs .entry)) (now (parents .entry)) (now (protectors .entry)) (now (words .entry)) (now (codes .entry))) (now (frames .entry))
+        → Turned s (wordsOf (now (bytes .entry))) index (now (out .entry)) at (now (out .exit)) (r .at) (r .refused)
+        (buffers (now (allocs .exit)) (now (parents .exit)) (now (protectors .exit)) (now (words .exit)) (now (codes .exit))) (now (frames .exit))) ⌝ }
+{
+    let n = stream::read_words(bytes, request);
+    answer_words(
+        allocs,
+        parents,
+        protectors,
+        words,
+        codes,
+        frames,
+        &request[..n],
+        out,
+        at,
+        index,
+    )
+}
+
+// Where the request that starts at `from` ends: behind its bytes, or with the run.
+fn request_end(run: &[u8], from: usize) -> usize
+    requires { ⌜ from ≤ length (now run) ⌝ }
+    ensures { λ r. ⌜ r ≡ requestEnd (now (run .entry)) from ⌝ }
+{
+    let size = stream::request_size(&run[from..]);
+    if run.len() - from < size {
+        return run.len();
+    }
+    from + size
+}
+
+// The next request of the bytes at hand. Where they end inside it, it is cut short.
+pub fn next(
+    allocs: &mut [u64],
+    parents: &mut [u16],
+    protectors: &mut [u8],
+    words: &mut [u32],
+    codes: &mut [u8],
+    frames: &mut [u32],
+    run: &[u8],
+    request: &mut [u32],
+    out: &mut [u8],
+    p: Place,
+) -> Place
+    requires { ⌜ ((s : State) × HoldsState s (buffers (now allocs) (now parents) (now protectors) (now words) (now codes)) (now frames)) ⌝ }
+    requires { ⌜ (p .at + lineRoom ≤ length (now out)) × ((length (now request) ≡ 4100) × ((p .from < length (now run)) × (p .index + 1 < 2 ^ 64))) ⌝ }
+    ensures { λ r. ⌜ ((s : State) → HoldsState s (buffers (now (allocs .entry)) (now (parents .entry)) (now (protectors .entry)) (now (words .entry)) (now (codes .entry))) (now (frames .entry))
+        → Taken s (now (run .entry)) p (now (out .entry)) r (now (out .exit))
+        (buffers (now (allocs .exit)) (now (parents .exit)) (now (protectors .exit)) (now (words .exit)) (now (codes .exit))) (now (frames .exit))) ⌝ }
+{
+    let from = p.from;
+    let end = request_end(run, from);
+    let line = answer_bytes(
+        allocs,
+        parents,
+        protectors,
+        words,
+        codes,
+        frames,
+        &run[from..end],
+        request,
+        out,
+        p.at,
+        p.index,
+    );
+    Place {
+        from: end,
+        at: line.at,
+        index: p.index + 1,
+        refused: line.refused,
+    }
+}

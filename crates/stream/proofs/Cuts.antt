@@ -1,0 +1,282 @@
+-- The next request by its bytes is the first request of the definition's cut, or is refused as that is, and what is left is cut from the bytes
+-- behind it. So a run taken request by request, up to the first refusal, is the definition's `program`.
+use Prim.Native.Nat.{ℕ, zero, suc, _+_, _-_, _*_, _%_, _≤_, _<_}
+use mathlib.Core.Path.{_≡_, refl, sym, ap, subst, _∙_}
+use mathlib.Core.Bool.{Bool, true, false, not, _||_}
+use mathlib.Core.List.{List, [], _∷_}
+use native.Mathlib.Omega.{arith}
+use native.Mathlib.Nat.{mul-add-mod-self-left, mod-eq-of-lt}
+use borrow.Author.Tests.{ltb-true, ltb-false, lt-ltb, ne-eqb}
+use lib.Dec.{eqb, ltb}
+use lib.ListN.{length, getD, take, drop, length-take, length-drop, drop-of-length-le}
+use lib.Seq.{take-all, getD-take}
+use Rattle.definition.specs.Notation.{if_then_else_}
+use Rattle.definition.specs.Refusal.{malformed}
+use Rattle.definition.specs.Memory.{Answer, refusedWith}
+use Rattle.definition.specs.Frame.{State, empty}
+use Rattle.definition.specs.Request.{Request, request, followingLength, isMiscounted, isMalformed}
+use Rattle.definition.specs.Run.{wordsOf, restRequest, cutRequests, requestsOf, performedCount, answers, final, run, perform, step, program}
+use Rattle.stream.specs.Stream.{requestSize, nextRequest, programFrom}
+use Rattle.stream.proofs.Words.{fourfold, fourfold-mul, words-take, words-drop, Counted, counted}
+
+-- ---- how many words follow is read from the first four
+abbrev follow : List ℕ → ℕ
+follow ws = followingLength (request ws)
+
+follow-sucs : (n : ℕ) (ws : List ℕ) → follow (take (suc (suc (suc (suc n)))) ws) ≡ follow ws
+unfolding request followingLength
+follow-sucs n [] = refl
+follow-sucs n (a ∷ []) = refl
+follow-sucs n (a ∷ b ∷ []) = refl
+follow-sucs n (a ∷ b ∷ c ∷ []) = refl
+follow-sucs n (a ∷ b ∷ c ∷ d ∷ ws) = refl
+
+pub follow-four : (n : ℕ) (ws : List ℕ) → follow (take (4 + n) ws) ≡ follow ws
+follow-four n ws =
+    let e : 4 + n ≡ suc (suc (suc (suc n))) = omega arith in ap (λ (m : ℕ). follow (take m ws)) e ∙ follow-sucs n ws
+
+-- ---- what is miscounted is refused, and changes nothing
+step-miscounted : (s : State) (ws : List ℕ) → isMiscounted ws ≡ true → step s ws ≡ (refusedWith malformed, s)
+unfolding step
+step-miscounted s ws e =
+    ap (λ (t : Bool). if t || isMalformed (request ws .kind) s (request ws) then (refusedWith malformed, s) else perform (request ws .kind) s (request ws)) e
+
+too-many : (ws : List ℕ) → ltb 4096 (follow ws) ≡ true → isMiscounted ws ≡ true
+unfolding isMiscounted
+too-many ws e = by (not (eqb (length ws) (4 + follow ws))) (ltb 4096 (follow ws)) e
+  where
+    by : (a b : Bool) → b ≡ true → a || b ≡ true
+    by true b e = refl
+    by false b e = e
+
+-- ---- more fuel than words makes no difference
+cut-fuel : (m m′ : ℕ) (rest : Bool) (ws : List ℕ) → length ws ≤ m → length ws ≤ m′ → cutRequests m rest ws ≡ cutRequests m′ rest ws
+unfolding cutRequests
+cut-fuel zero zero rest ws h h′ = refl
+cut-fuel zero (suc m′) rest [] h h′ = refl
+cut-fuel zero (suc m′) rest (w ∷ ws) h h′ = absurd (omega arith)
+cut-fuel (suc m) zero rest [] h h′ = refl
+cut-fuel (suc m) zero rest (w ∷ ws) h h′ = absurd (omega arith)
+cut-fuel (suc m) (suc m′) rest [] h h′ = refl
+cut-fuel (suc m) (suc m′) rest (w ∷ ws) h h′ =
+    let n : ℕ = 4 + follow (w ∷ ws) in
+    let k : length (drop n (w ∷ ws)) ≡ length (w ∷ ws) - n = length-drop n (w ∷ ws) in
+    ap (λ (l : List (List ℕ)). if ltb (length (w ∷ ws)) n then (w ∷ ws) ∷ [] else take n (w ∷ ws) ∷ l)
+    (cut-fuel m m′ rest (drop n (w ∷ ws)) (omega arith) (omega arith))
+
+-- ---- bytes behind the last word
+abbrev isRest : List ℕ → Bool
+isRest bytes = not (eqb (length bytes % 4) 0)
+
+rest-drop : (n : ℕ) (bytes : List ℕ) → 4 * n ≤ length bytes → isRest (drop (4 * n) bytes) ≡ isRest bytes
+rest-drop n bytes h =
+    let k : length (drop (4 * n) bytes) ≡ length bytes - 4 * n = length-drop (4 * n) bytes in
+    let e : 4 * n + length (drop (4 * n) bytes) ≡ length bytes = omega arith in
+    ap (λ (r : ℕ). not (eqb r 0)) (sym (mul-add-mod-self-left 4 n (length (drop (4 * n) bytes))) ∙ ap (λ (x : ℕ). x % 4) e)
+
+-- ---- the first request
+-- the size that is taken, in words
+abbrev taken : List ℕ → ℕ
+taken ws = if ltb 4096 (follow ws) then 0 else follow ws
+
+size-taken : (bytes : List ℕ) → requestSize bytes ≡ fourfold (4 + taken (wordsOf bytes))
+unfolding requestSize
+size-taken bytes = let h : fourfold (4 + taken (wordsOf bytes)) ≡ 4 * (4 + taken (wordsOf bytes)) = fourfold-mul (4 + taken (wordsOf bytes)) in omega arith
+
+pub record First (bytes : List ℕ) : Type 0 where
+  pub first : List ℕ
+  pub others : List (List ℕ)
+  pub cut : requestsOf bytes ≡ first ∷ others
+  pub same : (s : State) → step s first ≡ step s (nextRequest bytes)
+  pub behind : (s : State) → step s first .0 .refusal ≡ 0 → others ≡ requestsOf (drop (requestSize bytes) bytes)
+
+next-words : (bytes : List ℕ) → nextRequest bytes ≡ take (4 + taken (wordsOf bytes)) (wordsOf bytes)
+next-words bytes =
+    ap (λ (n : ℕ). wordsOf (take n bytes)) (size-taken bytes) ∙ words-take (4 + taken (wordsOf bytes)) bytes
+
+-- no word: one to three bytes
+no-words : (bytes : List ℕ) → wordsOf bytes ≡ [] → 0 < length bytes → requestsOf bytes ≡ [] ∷ []
+unfolding requestsOf cutRequests
+no-words bytes e h =
+    let k = counted bytes in
+    let z : length (wordsOf bytes) ≡ 0 = ap length e in
+    let r : length bytes % 4 ≡ length bytes = mod-eq-of-lt (omega (arith, k .few, k .total)) in
+    ap (λ (ws : List ℕ). cutRequests (length ws) (isRest bytes) ws) e
+    ∙ ap (λ (t : Bool). restRequest (not t)) (ne-eqb (length bytes % 4) 0 (omega arith))
+
+refused-not-accepted : (s : State) (ws : List ℕ) → isMiscounted ws ≡ true → step s ws .0 .refusal ≡ 0 → ⊥
+refused-not-accepted s ws e z =
+    let two : malformed ≡ 0 = sym (ap (λ (o : Answer × State). o .0 .refusal) (step-miscounted s ws e)) ∙ z in omega arith
+
+module _ (bytes : List ℕ) (w : ℕ) (ws : List ℕ) (e : wordsOf bytes ≡ w ∷ ws) where
+  abbrev all : List ℕ
+  all = w ∷ ws
+
+  abbrev whole : ℕ
+  whole = 4 + follow all
+
+  abbrev later : List (List ℕ)
+  later = cutRequests (length ws) (isRest bytes) (drop whole all)
+
+  cut-by : (short : Bool) → ltb (length all) whole ≡ short → requestsOf bytes ≡ (if short then all ∷ [] else take whole all ∷ later)
+  unfolding requestsOf cutRequests
+  cut-by short es =
+      ap (λ (l : List ℕ). cutRequests (length l) (isRest bytes) l) e
+      ∙ ap (λ (t : Bool). if t then all ∷ [] else take whole all ∷ later) es
+
+  next-by : (many : Bool) → ltb 4096 (follow all) ≡ many → nextRequest bytes ≡ take (4 + (if many then 0 else follow all)) all
+  next-by many em =
+      next-words bytes
+      ∙ ap (λ (l : List ℕ). take (4 + taken l) l) e
+      ∙ ap (λ (t : Bool). take (4 + (if t then 0 else follow all)) all) em
+
+  size-by : ltb 4096 (follow all) ≡ false → requestSize bytes ≡ fourfold whole
+  size-by em =
+      size-taken bytes
+      ∙ ap (λ (l : List ℕ). fourfold (4 + taken l)) e
+      ∙ ap (λ (t : Bool). fourfold (4 + (if t then 0 else follow all))) em
+
+  -- more than 4,096 words follow: whatever is taken of the request is refused
+  many-by : ltb 4096 (follow all) ≡ true → (n : ℕ) → isMiscounted (take (4 + n) all) ≡ true
+  many-by em n = too-many (take (4 + n) all) (ap (λ (k : ℕ). ltb 4096 k) (follow-four n all) ∙ em)
+
+  many-same : ltb 4096 (follow all) ≡ true → (first : List ℕ) → isMiscounted first ≡ true → (s : State) → step s first ≡ step s (nextRequest bytes)
+  many-same em first m s =
+      step-miscounted s first m
+      ∙ sym (step-miscounted s (take 4 all) (many-by em 0))
+      ∙ ap (λ (l : List ℕ). step s l) (sym (next-by true em))
+
+  -- the last request is cut short
+  nothing-behind : ltb (length all) whole ≡ true → ltb 4096 (follow all) ≡ false → [] ≡ requestsOf (drop (requestSize bytes) bytes)
+  unfolding requestsOf cutRequests wordsOf
+  nothing-behind es em =
+      let k = counted bytes in
+      let z : length (wordsOf bytes) ≡ length all = ap length e in
+      let f : fourfold whole ≡ 4 * whole = fourfold-mul whole in
+      let n : requestSize bytes ≡ fourfold whole = size-by em in
+      let l : length all < whole = ltb-true (length all) whole es in
+      sym (ap (λ (l : List ℕ). requestsOf l) (drop-of-length-le bytes {i = requestSize bytes} (omega (arith, k .few, k .total))))
+
+  -- more may follow
+  later-behind : ltb (length all) whole ≡ false → ltb 4096 (follow all) ≡ false → later ≡ requestsOf (drop (requestSize bytes) bytes)
+  unfolding requestsOf
+  later-behind es em =
+      let k = counted bytes in
+      let z : length (wordsOf bytes) ≡ length all = ap length e in
+      let f : fourfold whole ≡ 4 * whole = fourfold-mul whole in
+      let n : requestSize bytes ≡ fourfold whole = size-by em in
+      let l : whole ≤ length all = ltb-false (length all) whole es in
+      let d : length (drop whole all) ≡ length all - whole = length-drop whole all in
+      let words : wordsOf (drop (fourfold whole) bytes) ≡ drop whole all = words-drop whole bytes ∙ ap (drop whole) e in
+      let rest : isRest (drop (fourfold whole) bytes) ≡ isRest bytes =
+      ap (λ (n : ℕ). isRest (drop n bytes)) f ∙ rest-drop whole bytes (omega (arith, k .few, k .total)) in
+      cut-fuel (length ws) (length (drop whole all)) (isRest bytes) (drop whole all) (omega arith) (omega arith)
+      ∙ ap (λ (r : Bool). cutRequests (length (drop whole all)) r (drop whole all)) (sym rest)
+      ∙ ap (λ (l : List ℕ). cutRequests (length l) (isRest (drop (fourfold whole) bytes)) l) (sym words)
+      ∙ ap (λ (n : ℕ). requestsOf (drop n bytes)) (sym n)
+
+  first-by : (short many : Bool) → ltb (length all) whole ≡ short → ltb 4096 (follow all) ≡ many → First bytes
+  first-by true true es em =
+      let m : isMiscounted all ≡ true = too-many all em in
+      record {
+        first = all;
+        others = [];
+        cut = cut-by true es;
+        same = many-same em all m;
+        behind = λ s z. absurd (refused-not-accepted s all m z);
+      }
+  first-by false true es em =
+      let m : isMiscounted (take whole all) ≡ true = many-by em (follow all) in
+      record {
+        first = take whole all;
+        others = later;
+        cut = cut-by false es;
+        same = many-same em (take whole all) m;
+        behind = λ s z. absurd (refused-not-accepted s (take whole all) m z);
+      }
+  first-by true false es em =
+      let l : length all < whole = ltb-true (length all) whole es in
+      record {
+        first = all;
+        others = [];
+        cut = cut-by true es;
+        same = λ s. ap (λ (l : List ℕ). step s l) (sym (next-by false em ∙ take-all whole all (omega arith)));
+        behind = λ s z. nothing-behind es em;
+      }
+  first-by false false es em =
+      record {
+        first = take whole all;
+        others = later;
+        cut = cut-by false es;
+        same = λ s. ap (λ (l : List ℕ). step s l) (sym (next-by false em));
+        behind = λ s z. later-behind es em;
+      }
+
+first-without : (bytes : List ℕ) → wordsOf bytes ≡ [] → 0 < length bytes → First bytes
+unfolding request followingLength isMiscounted
+first-without bytes e h =
+    record {
+      first = [];
+      others = [];
+      cut = no-words bytes e h;
+      same = λ s. ap (λ (l : List ℕ). step s l) (sym (next-words bytes ∙ ap (λ (l : List ℕ). take (4 + taken l) l) e));
+      behind = λ s z. absurd (refused-not-accepted s [] refl z);
+    }
+
+pub first-request : (bytes : List ℕ) → 0 < length bytes → First bytes
+first-request bytes h = by (wordsOf bytes) refl
+  where
+    by : (l : List ℕ) → wordsOf bytes ≡ l → First bytes
+    by [] e = first-without bytes e h
+    by (w ∷ ws) e = first-by bytes w ws e (ltb (length (w ∷ ws)) (4 + follow (w ∷ ws))) (ltb 4096 (follow (w ∷ ws))) refl refl
+
+-- ---- the run, request by request
+pub program-from : (bytes : List ℕ) → programFrom empty bytes ≡ program bytes
+unfolding programFrom program
+program-from bytes = refl
+
+pub program-end : (s : State) → programFrom s [] ≡ ([], s)
+unfolding programFrom requestsOf wordsOf cutRequests answers performedCount final
+program-end s = refl
+
+-- the requests up to the first that is refused
+abbrev stopped : State → List (List ℕ) → List Answer × State
+stopped s wss = run s (take (performedCount (answers s wss)) wss)
+
+stopped-more : (s : State) (ws : List ℕ) (wss : List (List ℕ)) → step s ws .0 .refusal ≡ 0
+    → stopped s (ws ∷ wss) ≡ (step s ws .0 ∷ stopped (step s ws .1) wss .0, stopped (step s ws .1) wss .1)
+unfolding answers performedCount final
+stopped-more s ws wss z =
+    ap (λ (r : ℕ). run s (take (suc (if eqb r 0 then performedCount (answers (step s ws .1) wss) else 0)) (ws ∷ wss))) z
+
+stopped-last : (s : State) (ws : List ℕ) (wss : List (List ℕ)) → eqb (step s ws .0 .refusal) 0 ≡ false
+    → stopped s (ws ∷ wss) ≡ (step s ws .0 ∷ [], step s ws .1)
+unfolding answers performedCount final
+stopped-last s ws wss z =
+    ap (λ (t : Bool). run s (take (suc (if t then performedCount (answers (step s ws .1) wss) else 0)) (ws ∷ wss))) z
+
+module _ (s : State) (bytes : List ℕ) (h : 0 < length bytes) where
+  abbrev outcome : Answer × State
+  outcome = step s (nextRequest bytes)
+
+  abbrev left : List Answer × State
+  left = programFrom (outcome .1) (drop (requestSize bytes) bytes)
+
+  pub program-more : outcome .0 .refusal ≡ 0 → programFrom s bytes ≡ (outcome .0 ∷ left .0, left .1)
+  unfolding programFrom
+  program-more z =
+      let f = first-request bytes h in
+      let z′ : step s (f .first) .0 .refusal ≡ 0 = ap (λ (o : Answer × State). o .0 .refusal) (f .same s) ∙ z in
+      ap (stopped s) (f .cut)
+      ∙ stopped-more s (f .first) (f .others) z′
+      ∙ ap (λ (l : List (List ℕ)). (step s (f .first) .0 ∷ stopped (step s (f .first) .1) l .0, stopped (step s (f .first) .1) l .1)) (f .behind s z′)
+      ∙ ap (λ (o : Answer × State). let p = programFrom (o .1) (drop (requestSize bytes) bytes) in (o .0 ∷ p .0, p .1)) (f .same s)
+
+  pub program-last : eqb (outcome .0 .refusal) 0 ≡ false → programFrom s bytes ≡ (outcome .0 ∷ [], outcome .1)
+  unfolding programFrom
+  program-last z =
+      let f = first-request bytes h in
+      let z′ : eqb (step s (f .first) .0 .refusal) 0 ≡ false = ap (λ (o : Answer × State). eqb (o .0 .refusal) 0) (f .same s) ∙ z in
+      ap (stopped s) (f .cut)
+      ∙ stopped-last s (f .first) (f .others) z′
+      ∙ ap (λ (o : Answer × State). (o .0 ∷ [], o .1)) (f .same s)

@@ -1,0 +1,38 @@
+-- A run by its bytes, request by request. Document 01: "A run and its requests".
+use Prim.Native.Nat.{ℕ, _+_, _*_, _^_}
+use mathlib.Core.Path.{_≡_}
+use mathlib.Core.List.{List, _++_}
+use lib.Dec.{ltb}
+use lib.ListN.{length, take, drop}
+use Rattle.definition.specs.Notation.{if_then_else_}
+use Rattle.definition.specs.Memory.{Answer}
+use Rattle.definition.specs.Frame.{State}
+use Rattle.definition.specs.Request.{request, followingLength}
+use Rattle.definition.specs.Run.{wordsOf, requestsOf, performedCount, answers, run}
+
+-- "words are .. stored most significant byte first"
+abbrev pub wordFrom : ℕ → ℕ → ℕ → ℕ → ℕ
+wordFrom a b c d = a * 2 ^ 24 + b * 2 ^ 16 + c * 2 ^ 8 + d
+
+-- the n words of the bytes stand in front, and behind them what stood there
+pub record WordsRead (bytes before : List ℕ) (n : ℕ) (after : List ℕ) : Type 0 where
+  pub words : take n after ≡ wordsOf bytes
+  pub count : n ≡ length (wordsOf bytes)
+  pub rest : drop n after ≡ drop n before
+
+-- how many bytes the next request has, by those at hand: "a store or retag with more than 4,096 words after its fourth" falls under 2 by its first
+-- four words, so that the others need not be read
+unfoldable pub requestSize : List ℕ → ℕ
+requestSize bytes = let n = followingLength (request (wordsOf bytes)) in 16 + 4 * (if ltb 4096 n then 0 else n)
+
+-- the next request: the words of these bytes, fewer where the input ends inside it
+abbrev pub nextRequest : List ℕ → List ℕ
+nextRequest bytes = wordsOf (take (requestSize bytes) bytes)
+
+-- n bytes from a place on stand in front, and behind them what stood there
+abbrev pub moved : ℕ → ℕ → List ℕ → List ℕ
+moved from n bytes = take n (drop from bytes) ++ drop n bytes
+
+-- the definition's `program`, from any state: the bytes that are left when the run has come to s
+unfoldable pub programFrom : State → List ℕ → List Answer × State
+programFrom s bytes = let wss = requestsOf bytes in run s (take (performedCount (answers s wss)) wss)
