@@ -154,8 +154,8 @@ pub fn list_reply(answer: ListRun) -> ListReply
     ensures { λ r. ⌜ r ≡ listReplyOf answer ⌝ }
 {
     match answer {
-        ListRun::Refused(n) => ListReply {
-            refusal: n,
+        ListRun::Refused(reason) => ListReply {
+            refusal: reason,
             whole: false,
             at: 0,
         },
