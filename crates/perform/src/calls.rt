@@ -4,8 +4,7 @@ ghost use Prim.Native.Nat.{_<_};
 ghost use mathlib.Core.Path.{_≡_};
 ghost use mathlib.Core.Bool.{false};
 ghost use Rattle.definition.specs.Frame.{State, frameAt, isOpen, newCall, endCall};
-ghost use Rattle.definition.specs.Valid.{ValidState};
-ghost use Rattle.entries.specs.Buffer.{HoldsFrames, framesHeld};
+ghost use Rattle.entries.specs.Buffer.{HoldsFrames};
 ghost use Rattle.perform.specs.Performed.{HoldsTrees, LeftTrees, LeftFrames};
 
 pub fn new_call(frames: &mut [u32], f: usize) -> Answer

@@ -21,7 +21,7 @@ ghost use Rattle.pointer.specs.Pointer.{provenanceOf};
 ghost use Rattle.answer.specs.Answer.{answerOf};
 ghost use Rattle.permission.specs.Codes.{protector};
 ghost use Rattle.entries.specs.Buffer.{HoldsFrames, framesHeld};
-ghost use Rattle.request.specs.Fields.{requestOf, fieldsOf};
+ghost use Rattle.request.specs.Fields.{requestOf};
 ghost use Rattle.reborrow.specs.Settings.{maskOf, settingsOf};
 ghost use Rattle.perform.specs.Performed.{HoldsTrees, LeftTrees};
 ghost use Rattle.perform.specs.Entered.{CanEnter, entered};

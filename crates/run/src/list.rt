@@ -2,8 +2,7 @@
 use crate::ListRun;
 use transcript::Written;
 ghost use mathlib.Core.Path.{_≡_};
-ghost use mathlib.Core.List.{List};
-ghost use Prim.Native.Nat.{ℕ, _-_};
+ghost use Prim.Native.Nat.{_-_};
 ghost use lib.ListN.{take, drop};
 ghost use Rattle.definition.specs.Frame.{State, empty};
 ghost use Rattle.tables.specs.Held.{buffers};

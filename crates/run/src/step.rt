@@ -2,11 +2,7 @@
 use answer::Answer;
 use request::Request;
 ghost use mathlib.Core.Path.{_≡_};
-ghost use mathlib.Core.List.{List};
-ghost use Prim.Native.Nat.{ℕ};
 ghost use Rattle.definition.specs.Frame.{State};
-ghost use Rattle.definition.specs.Run.{IsWord};
-ghost use Rattle.definition.specs.Valid.{All};
 ghost use Rattle.tables.specs.Held.{buffers};
 ghost use Rattle.entries.specs.Buffer.{HoldsFrames};
 ghost use Rattle.perform.specs.Performed.{HoldsState};
