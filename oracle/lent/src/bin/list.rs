@@ -1,0 +1,143 @@
+//! The proved library's list of requests (`tree_borrows_run_list`) behind the interface of `oracle --batch --list`, so that `compare --lists`
+//! can hold it against the Rust: answers, memory and frames. The buffers of one list are lent to the next as they are.
+
+#[allow(dead_code)]
+#[path = "../buffers.rs"]
+mod buffers;
+
+use buffers::Buffers;
+use runs::reference::next_request;
+use std::cell::RefCell;
+use std::fmt::Write;
+use tools::framing;
+
+const FRAMES: usize = 32 * 65;
+
+#[repr(C)]
+struct ListReply {
+    refusal: u8,
+    whole: bool,
+    at: usize,
+}
+
+#[repr(C)]
+struct Reply {
+    refusal: u8,
+    gives: u8,
+    first: u64,
+    second: u64,
+}
+
+extern "C" {
+    fn tree_borrows_run_list(
+        allocs: *mut u64, _: usize, parents: *mut u16, _: usize, protectors: *mut u8, _: usize, words: *mut u32, _: usize, codes: *mut u8, _: usize,
+        frames: *mut u32, _: usize, requests: *const u32, _: usize, ends: *const u32, _: usize, answers: *mut u32, _: usize,
+    ) -> ListReply;
+    fn tree_borrows_leak_check(
+        allocs: *const u64, _: usize, parents: *const u16, _: usize, protectors: *const u8, _: usize, words: *const u32, _: usize, codes: *const u8, _: usize,
+    ) -> Reply;
+}
+
+/// Everything that is lent.
+struct Lent {
+    memory: Buffers,
+    frames: Vec<u32>,
+    answers: Vec<u32>,
+}
+
+impl Lent {
+    /// Contents that no list leaves: it empties them first.
+    fn new() -> Lent {
+        let memory = Buffers {
+            allocs: vec![7; buffers::ALLOCS],
+            parents: vec![7; buffers::NODES],
+            protectors: vec![7; buffers::NODES],
+            words: vec![7; buffers::WORDS],
+            codes: vec![7; buffers::CODES],
+        };
+        Lent { memory, frames: vec![7; FRAMES], answers: Vec::new() }
+    }
+
+    fn run(&mut self, words: &[u32], ends: &[u32]) {
+        self.answers.resize(ends.len() * (5 + buffers::WORDS), 0);
+        let m = &mut self.memory;
+        let reply = unsafe {
+            tree_borrows_run_list(
+                m.allocs.as_mut_ptr(), m.allocs.len(), m.parents.as_mut_ptr(), m.parents.len(), m.protectors.as_mut_ptr(), m.protectors.len(),
+                m.words.as_mut_ptr(), m.words.len(), m.codes.as_mut_ptr(), m.codes.len(), self.frames.as_mut_ptr(), self.frames.len(), words.as_ptr(), words.len(),
+                ends.as_ptr(), ends.len(), self.answers.as_mut_ptr(), self.answers.len(),
+            )
+        };
+        assert!(reply.refusal == 0 && reply.whole && reply.at <= self.answers.len());
+    }
+
+    /// The allocation that a leak check names.
+    fn leak(&self) -> u64 {
+        let m = &self.memory;
+        let reply = unsafe {
+            tree_borrows_leak_check(
+                m.allocs.as_ptr(), m.allocs.len(), m.parents.as_ptr(), m.parents.len(), m.protectors.as_ptr(), m.protectors.len(), m.words.as_ptr(), m.words.len(),
+                m.codes.as_ptr(), m.codes.len(),
+            )
+        };
+        assert_eq!((reply.refusal, reply.gives, reply.second), (25, 3, 0));
+        reply.first
+    }
+}
+
+/// The requests of a run: all words, and where each request ends. One that is cut short has no words.
+fn cut(run: &[u8]) -> (Vec<u32>, Vec<u32>) {
+    let (mut words, mut ends, mut at) = (Vec::new(), Vec::new(), 0);
+    while at < run.len() {
+        let (request, next) = next_request(run, at);
+        words.extend(request.unwrap_or_default());
+        ends.push(words.len() as u32);
+        at = next;
+    }
+    (words, ends)
+}
+
+/// One answer at the front of the words; and how many of them it has.
+fn third(answer: &[u32], leak: impl FnOnce() -> u64) -> (String, usize) {
+    let &[refusal, has_pointer, allocation, node, count, ..] = answer else { panic!("a cut answer") };
+    let loaded = &answer[5..5 + count as usize];
+    let text = match (refusal, has_pointer, count) {
+        (25, ..) => leak().to_string(),
+        (_, 1, 0) => format!("{allocation}.{node}"),
+        (_, 0, 0) => "-".into(),
+        (0, 0, _) => loaded.iter().map(|w| format!("{w:08x}")).collect::<Vec<_>>().join(" "),
+        _ => panic!("an answer of two kinds"),
+    };
+    (text, 5 + count as usize)
+}
+
+fn answer(lent: &mut Lent, run: &[u8]) -> String {
+    let (words, ends) = cut(run);
+    let mut text = String::new();
+    let mut at = 0;
+    lent.run(&words, &ends);
+    let answers = lent.answers.clone();
+    for index in 0..ends.len() {
+        let named = || {
+            lent.run(&words[..ends[index] as usize], &ends[..=index]);
+            lent.leak()
+        };
+        let (shown, length) = third(&answers[at..], named);
+        writeln!(text, "{index} {} {shown}", answers[at]).unwrap();
+        at += length;
+    }
+    lent.run(&words, &ends);
+    let mut memory = buffers::decode(&lent.memory).expect("the list leaves a well-formed memory");
+    for (frame, words) in memory.frames.iter_mut().zip(lent.frames.chunks_exact(65)) {
+        let count = words[0] as usize;
+        assert!(count <= 65 && words[1 + count.saturating_sub(1)..].iter().all(|w| *w == 0));
+        let entry = |w: &u32| ((w / 4096) as usize, (w % 4096) as usize);
+        *frame = (count > 0).then(|| words[1..count].iter().map(entry).collect());
+    }
+    text + &memory.text(true)
+}
+
+fn main() -> std::io::Result<()> {
+    let lent = RefCell::new(Lent::new());
+    framing::serve(|run| answer(&mut lent.borrow_mut(), run))
+}
