@@ -10,7 +10,7 @@ use native.Mathlib.Numerals.{add-one}
 use native.Mathlib.Nat.{zero-add, suc-add}
 use borrow.Author.Tests.{eqb-true, lt-ltb, le-ltb, ltb-true, leb-true, leb-false, not-true, not-false}
 use lib.Dec.{eqb, ltb, leb}
-use lib.ListN.{length, take, drop, length-append, length-take, length-drop, drop-of-length-le}
+use lib.ListN.{length, take, drop, length-append, length-drop, drop-of-length-le}
 use lib.Seq.{drop-drop, take-all, length-take-le, take-length}
 use Rattle.definition.specs.Notation.{if_then_else_, writeAt}
 use Rattle.definition.specs.Refusal.{memoryLeak}
@@ -23,7 +23,7 @@ use Rattle.definition.proofs.Booleans.{and-left, and-right, or-neither}
 use Rattle.tables.specs.Encoding.{Buffers}
 use Rattle.tables.specs.Held.{Holds}
 use Rattle.perform.specs.Performed.{HoldsState}
-use Rattle.report.specs.Written.{Written, WrittenInside}
+use Rattle.report.specs.Written.{Written}
 use Rattle.report.proofs.Lengths.{memory-length}
 use Rattle.report.proofs.Writes.{write-length}
 use Rattle.stream.specs.Stream.{requestSize, nextRequest, programFrom}

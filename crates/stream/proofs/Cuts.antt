@@ -1,23 +1,23 @@
 -- The next request by its bytes is the first request of the definition's cut, or is refused as that is, and what is left is cut from the bytes
 -- behind it. So a run taken request by request, up to the first refusal, is the definition's `program`.
 use Prim.Native.Nat.{ℕ, zero, suc, _+_, _-_, _*_, _%_, _≤_, _<_}
-use mathlib.Core.Path.{_≡_, refl, sym, ap, subst, _∙_}
+use mathlib.Core.Path.{_≡_, refl, sym, ap, _∙_}
 use mathlib.Core.Bool.{Bool, true, false, not, _||_}
 use mathlib.Core.List.{List, [], _∷_}
 use native.Mathlib.Omega.{arith}
 use native.Mathlib.Nat.{mul-add-mod-self-left, mod-eq-of-lt}
-use borrow.Author.Tests.{ltb-true, ltb-false, lt-ltb, ne-eqb}
+use borrow.Author.Tests.{ltb-true, ltb-false, ne-eqb}
 use lib.Dec.{eqb, ltb}
-use lib.ListN.{length, getD, take, drop, length-take, length-drop, drop-of-length-le}
-use lib.Seq.{take-all, getD-take}
+use lib.ListN.{length, take, drop, length-drop, drop-of-length-le}
+use lib.Seq.{take-all}
 use Rattle.definition.specs.Notation.{if_then_else_}
 use Rattle.definition.specs.Refusal.{malformed}
 use Rattle.definition.specs.Memory.{Answer, refusedWith}
 use Rattle.definition.specs.Frame.{State, empty}
-use Rattle.definition.specs.Request.{Request, request, followingLength, isMiscounted, isMalformed}
+use Rattle.definition.specs.Request.{request, followingLength, isMiscounted, isMalformed}
 use Rattle.definition.specs.Run.{wordsOf, restRequest, cutRequests, requestsOf, performedCount, answers, final, run, perform, step, program}
 use Rattle.stream.specs.Stream.{requestSize, nextRequest, programFrom}
-use Rattle.stream.proofs.Words.{fourfold, fourfold-mul, words-take, words-drop, Counted, counted}
+use Rattle.stream.proofs.Words.{fourfold, fourfold-mul, words-take, words-drop, counted}
 
 -- ---- how many words follow is read from the first four
 abbrev follow : List ℕ → ℕ

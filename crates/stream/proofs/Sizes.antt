@@ -13,7 +13,7 @@ use Rattle.definition.specs.Request.{Kind}
 use Rattle.definition.specs.Request.Kind.{Allocate, Deallocate, Load, Store, Retag, NewCall, EndCall, Dereferenceable, SignedDereferenceable, LeakCheck, Unused}
 use Rattle.definition.specs.Run.{wordsOf}
 use Rattle.stream.specs.Stream.{requestSize}
-use Rattle.stream.proofs.Words.{Counted, counted}
+use Rattle.stream.proofs.Words.{counted}
 
 -- ---- no fourth word
 either : (b : Bool) (n : ℕ) → n ≡ 0 → (if b then n else 0) ≡ 0

@@ -1,18 +1,13 @@
-use lib.ListN.{set, getD}
+-- After n turns the first n bytes are moved; the byte that is read is not written yet (Words).
+use Prim.Native.Nat.{ℕ, _+_, _-_, _≤_}
 use mathlib.Core.List.{List}
-use Prim.Native.Nat.{ℕ}
-use mathlib.Core.Path.{sym, subst}
+use mathlib.Core.Path.{_≡_, refl, ap, _∙_}
+use native.Mathlib.Omega.{arith}
+use lib.ListN.{set, getD, length}
 use Rattle.stream.proofs.Words.{moved-more, moved-length}
 use Rattle.stream.specs.Stream.{moved}
-use lib.ListN.{length}
-use mathlib.Core.Path.{_≡_, refl, ap, _∙_}
-use Prim.Native.Nat.{_+_, _-_, _≤_}
-use borrow.Author.Needs.{needs}
-use native.Mathlib.Omega.{arith}
 use Rattle.stream.proofs.move_to_front.Statement.{statement}
 use Rattle.stream.proofs.move_to_front.Tie as tie
-use Rattle.stream.proofs.move_to_front.Reads as reads
-use Rattle.stream.proofs.move_to_front.Lts as lts
 
 abbrev Inv-loop : tie.InvT-loop
 Inv-loop bytes₀ from end at₀ n₀ bytes at n = (at ≡ from + n) × ((at ≤ end) × (bytes ≡ moved from n bytes₀))
@@ -26,31 +21,24 @@ kept c =
     let l = c .loop in
     ap length (l .inv .1 .1) ∙ moved-length (c .before .args .from) (l .n) (c .before .args .bytes .now) (omega arith)
 
--- src/lib.rt:68:5
 loop-holds : tie.Need-loop-holds Inv-loop μ-loop
 loop-holds c = (omega arith, (c .pre .0, refl))
 
--- src/lib.rt:69:20
 slice-read-bytes : tie.Need-slice-read-bytes Inv-loop μ-loop
 slice-read-bytes c = omega (arith, kept (c .before .before))
 
--- src/lib.rt:69:9
 slice-write-bytes : tie.Need-slice-write-bytes Inv-loop μ-loop
 slice-write-bytes c = omega (arith, kept (c .before .before))
 
--- src/lib.rt:70:9
 add-n : tie.Need-add-n Inv-loop μ-loop
 add-n c = omega arith
 
--- src/lib.rt:71:9
 add-at : tie.Need-add-at Inv-loop μ-loop
 add-at c = omega arith
 
--- src/lib.rt:68:5
 loop-less : tie.Need-loop-less Inv-loop μ-loop
 loop-less c = omega arith
 
--- src/lib.rt:68:5
 loop-again : tie.Need-loop-again Inv-loop μ-loop
 loop-again c = let l = c .before .before .loop in
     let s = c .before .before .before in
@@ -64,11 +52,9 @@ loop-again c = let l = c .before .before .loop in
       ),
     )
 
--- src/lib.rt:62:1
 same-length : tie.Need-same-length Inv-loop μ-loop
 same-length c = kept (c .before)
 
--- src/lib.rt:62:1
 returns : tie.Need-returns Inv-loop μ-loop
 returns c = let l = c .before .loop in
     let s = c .before .before in

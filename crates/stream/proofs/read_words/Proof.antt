@@ -1,23 +1,14 @@
-use mathlib.Core.List.{[]}
-use mathlib.Core.List.{List}
-use Prim.Native.Nat.{ℕ, _<_}
-use lib.Seq.{length-take-le}
-use lib.ListN.{length-set, length-drop}
-use mathlib.Core.List.{append-nil}
-use mathlib.Core.Path.{sym, ap, _∙_}
-use Rattle.stream.proofs.Words.{read-more, rest-more, words-few}
-use Rattle.definition.specs.Run.{wordsOf}
-use lib.ListN.{length, take, drop}
-use mathlib.Core.List.{_++_}
-use mathlib.Core.Path.{_≡_, refl}
-use Prim.Native.Nat.{_+_, _-_, _*_, _≤_}
-use borrow.Author.Needs.{needs}
+-- After n turns the first n words and those of the bytes behind them are all words (Words).
+use Prim.Native.Nat.{ℕ, _<_, _+_, _-_, _*_, _≤_}
+use mathlib.Core.List.{[], List, append-nil, _++_}
+use mathlib.Core.Path.{sym, ap, _∙_, _≡_, refl}
 use native.Mathlib.Omega.{arith}
+use lib.Seq.{length-take-le}
+use lib.ListN.{length-set, length-drop, length, take, drop}
+use Rattle.definition.specs.Run.{wordsOf}
+use Rattle.stream.proofs.Words.{read-more, rest-more, words-few}
 use Rattle.stream.proofs.read_words.Statement.{statement}
 use Rattle.stream.proofs.read_words.Tie as tie
-use Rattle.stream.proofs.read_words.Reads as reads
-use Rattle.stream.proofs.read_words.Lts as lts
-use Rattle.stream.proofs.word_at.Reads as word-at-reads
 
 abbrev Inv-loop : tie.InvT-loop
 Inv-loop bytes words₀ at₀ n₀ words at n = (at ≡ 4 * n) × ((at ≤ length bytes) × ((length words ≡ length words₀) × ((take n words ++ wordsOf (drop at bytes) ≡ wordsOf bytes) × (drop n words ≡ drop n words₀))))
@@ -25,39 +16,30 @@ Inv-loop bytes words₀ at₀ n₀ words at n = (at ≡ 4 * n) × ((at ≤ lengt
 abbrev μ-loop : tie.MeasureT-loop
 μ-loop bytes words₀ at₀ n₀ words at n = length bytes - at
 
--- src/lib.rt:38:5
 loop-holds : tie.Need-loop-holds Inv-loop μ-loop
 loop-holds c = (omega arith, (omega arith, (refl, (refl, refl))))
 
--- src/lib.rt:38:16
 sub-loop : tie.Need-sub-loop Inv-loop μ-loop
 sub-loop c = omega arith
 
--- src/lib.rt:39:20
 word-at-requires : tie.Need-word-at-requires Inv-loop μ-loop
 word-at-requires c κs = omega arith
 
--- src/lib.rt:39:9
 mul-words : tie.Need-mul-words Inv-loop μ-loop
 mul-words c = omega arith
 
--- src/lib.rt:39:9
 slice-write-words : tie.Need-slice-write-words Inv-loop μ-loop
 slice-write-words c = omega arith
 
--- src/lib.rt:40:9
 add-n : tie.Need-add-n Inv-loop μ-loop
 add-n c = omega arith
 
--- src/lib.rt:41:9
 add-at : tie.Need-add-at Inv-loop μ-loop
 add-at c = omega arith
 
--- src/lib.rt:38:5
 loop-less : tie.Need-loop-less Inv-loop μ-loop
 loop-less c = omega arith
 
--- src/lib.rt:38:5
 loop-again : tie.Need-loop-again Inv-loop μ-loop
 loop-again c = let l = c .before .before .loop in
     let bytes = c .before .before .before .before .before .args .bytes .now in
@@ -76,11 +58,9 @@ loop-again c = let l = c .before .before .loop in
       ),
     )
 
--- src/lib.rt:32:1
 same-length : tie.Need-same-length Inv-loop μ-loop
 same-length c = omega arith
 
--- src/lib.rt:32:1
 returns : tie.Need-returns Inv-loop μ-loop
 returns c = let l = c .before .loop in
     let bytes = c .before .before .before .before .args .bytes .now in

@@ -1,100 +1,71 @@
-use lib.Seq.{length-take-le}
-use lib.ListN.{length, take}
-use mathlib.Core.Path.{_≡_, refl, sym, ap, _∙_}
+-- What is kept and what is read fill the buffer's front.
+use mathlib.Core.Path.{sym}
 use native.Mathlib.Omega.{arith}
 use borrow.Author.Needs.{needs}
+use lib.Seq.{length-take-le}
 use Rattle.verdict.proofs.read_more.Statement.{statement}
 use Rattle.verdict.proofs.read_more.Tie as tie
-use Rattle.verdict.proofs.read_more.Reads as reads
-use Rattle.verdict.proofs.read_more.Lts as lts
-use Rattle.io.proofs.count.Reads as count-reads
-use Rattle.libc.proofs.read.Reads as read-reads
-use Rattle.os.proofs.fail.Reads as fail-reads
-use Rattle.stream.proofs.move_to_front.Reads as move-to-front-reads
-use Rattle.verdict.proofs.failure.Reads as failure-reads
-use Rattle.verdict.proofs.write_text.Reads as write-text-reads
 
--- src/main.rt:71:20
 slice-aggregate-write-text : tie.Need-slice-aggregate-write-text
 slice-aggregate-write-text c = sym (length-take-le (c .before .before .before .before .args .p .place .at) (c .before .before .before .before .args .out .now) (omega (arith, c .before .before .before .before .pre .room)))
 
--- src/main.rt:71:9
 write-text-requires : tie.Need-write-text-requires
 write-text-requires c κs = search needs
 
--- src/main.rt:72:9
 failure-requires : tie.Need-failure-requires
 failure-requires c κs = search needs
 
--- src/main.rt:72:9
 returns : tie.Need-returns
 returns c = (c .failure .ensures .0 _ (c .before .before .before .before .before .before .before .args .out .now) (omega (arith, c .before .before .before .before .before .before .before .pre .room)), c .failure .ensures .1)
 
--- src/main.rt:74:9
 move-to-front-requires : tie.Need-move-to-front-requires
 move-to-front-requires c κs = search needs
 
--- src/main.rt:75:29
 sub-read : tie.Need-sub-read
 sub-read c = search needs
 
--- src/main.rt:75:29
 part-read-start : tie.Need-part-read-start
 part-read-start c = search needs
 
--- src/main.rt:75:29
 part-read-end : tie.Need-part-read-end
 part-read-end c = search needs
 
--- src/main.rt:75:9
 read-requires : tie.Need-read-requires
 read-requires c κs = search needs
 
--- src/main.rt:77:18
 slice-aggregate-fail : tie.Need-slice-aggregate-fail
 slice-aggregate-fail c = search needs
 
--- src/main.rt:77:9
 fail-requires : tie.Need-fail-requires
 fail-requires c κs = search needs
 
--- src/main.rt:78:9
 failure-requires-2 : tie.Need-failure-requires-2
 failure-requires-2 c κs = search needs
 
--- src/main.rt:78:9
 same-length : tie.Need-same-length
 same-length c = search needs
 
--- src/main.rt:78:9
 returns-2 : tie.Need-returns-2
 returns-2 c = (c .failure2 .ensures .0 _ (c .before .before .before .before .before .before .before .before .before .before .before .before .before .before .before .before .before .before .args .out .now) (omega (arith, c .before .before .before .before .before .before .before .before .before .before .before .before .before .before .before .before .before .before .pre .room)), c .failure2 .ensures .1)
 
--- src/main.rt:80:28
 sub-count : tie.Need-sub-count
 sub-count c = search needs
 
--- src/main.rt:80:28
 part-count-start : tie.Need-part-count-start
 part-count-start c = search needs
 
--- src/main.rt:80:28
 part-count-end : tie.Need-part-count-end
 part-count-end c = search needs
 
--- src/main.rt:80:9
 count-requires : tie.Need-count-requires
 count-requires c κs = search needs
 
--- src/main.rt:89:14
 add-t19 : tie.Need-add-t19
 add-t19 c = search needs
 
--- src/main.rt:64:1
 same-length-2 : tie.Need-same-length-2
 same-length-2 c = search needs
 
--- src/main.rt:64:1
 returns-3 : tie.Need-returns-3
 returns-3 c = search needs
 

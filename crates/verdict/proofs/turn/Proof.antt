@@ -1,62 +1,44 @@
-use Prim.Native.Nat.{_≤_}
-use Rattle.verdict.proofs.Turns.{some-request}
-use Rattle.judge.proofs.Runs.{end-within}
-use lib.ListN.{length-take}
-use lib.Seq.{length-take-le}
-use lib.ListN.{length, take}
-use mathlib.Core.Path.{_≡_, refl, sym, ap, _∙_}
+-- A turn reads, and leaves the buffers as they are, or takes a request that is at hand (Turns).
+use mathlib.Core.Path.{sym, _∙_}
 use native.Mathlib.Omega.{arith}
 use borrow.Author.Needs.{needs}
+use lib.ListN.{take}
+use lib.Seq.{length-take-le}
+use Rattle.judge.proofs.Runs.{end-within}
+use Rattle.verdict.proofs.Turns.{some-request}
 use Rattle.verdict.proofs.turn.Statement.{statement}
 use Rattle.verdict.proofs.turn.Tie as tie
-use Rattle.verdict.proofs.turn.Reads as reads
-use Rattle.verdict.proofs.turn.Lts as lts
-use Rattle.judge.proofs.turn.next.Reads as next-reads
-use Rattle.verdict.proofs.flushed.Reads as flushed-reads
-use Rattle.verdict.proofs.lacks.Reads as lacks-reads
-use Rattle.verdict.proofs.read_more.Reads as read-more-reads
 
--- src/main.rt:149:14
 sub-lacks : tie.Need-sub-lacks
 sub-lacks c = search needs
 
--- src/main.rt:149:14
 part-lacks-start : tie.Need-part-lacks-start
 part-lacks-start c = search needs
 
--- src/main.rt:149:14
 part-lacks-end : tie.Need-part-lacks-end
 part-lacks-end c = search needs
 
--- src/main.rt:149:8
 lacks-requires : tie.Need-lacks-requires
 lacks-requires c κs = search needs
 
--- src/main.rt:150:9
 read-more-requires : tie.Need-read-more-requires
 read-more-requires c κs = search needs
 
--- src/main.rt:150:9
 same-length : tie.Need-same-length
 same-length c = search needs
 
--- src/main.rt:150:9
 same-length-2 : tie.Need-same-length-2
 same-length-2 c = search needs
 
--- src/main.rt:150:9
 returns : tie.Need-returns
 returns c = (c .before .before .before .before .before .before .before .before .before .before .before .before .before .before .before .before .before .before .before .pre .0, (c .before .before .read-more .ensures .0, omega (arith, c .before .before .read-more .ensures .1)))
 
--- src/main.rt:159:9
 slice-reshare-prefix-next : tie.Need-slice-reshare-prefix-next
 slice-reshare-prefix-next c = search needs
 
--- src/main.rt:159:9
 slice-aggregate-next : tie.Need-slice-aggregate-next
 slice-aggregate-next c = let s = c .before .before .before .before .before .before .before .before .before .before .before .before .before .before .before .before .before .before .before .before .before in sym (length-take-le (s .args .p .end) (s .args .input .now) (s .pre .1 .0 .0 .filled))
 
--- src/main.rt:152:9
 next-requires : tie.Need-next-requires
 next-requires c κs = let s = c .before .before .before .before .before .before .before .before .before .before .before .before .before .before .before .before .before .before .before .before .before .before .before in
     let p = s .args .p in
@@ -64,7 +46,6 @@ next-requires c κs = let s = c .before .before .before .before .before .before 
     let some = some-request p (s .args .input .now) (s .pre .1 .1 .0) (sym (c .before .before .before .before .before .before .before .before .before .before .lacks .ensures) ∙ c .before .before .before .before .before .before .before .before .before .if1 .left) in
     (s .pre .0, (ready .room, (s .pre .1 .0 .1 .0, (omega (arith, some, length-take-le (p .end) (s .args .input .now) (ready .filled)), s .pre .1 .1 .1))))
 
--- src/main.rt:164:5
 flushed-requires : tie.Need-flushed-requires
 flushed-requires c κs = let s = c .before .before .before .before .before .before .before .before .before .before .before .before .before .before .before .before .before .before .before .before .before .before .before .before .before .before .before .before .before .before .before .before .before .before .before .before .before .before .before .before .before in
     let p = s .args .p in
@@ -76,43 +57,33 @@ flushed-requires c κs = let s = c .before .before .before .before .before .befo
       (omega (arith, k .from, all, end-within run (p .place .from) (omega (arith, all, ready .ordered))), omega (arith, k .index, s .pre .1 .1 .1)),
     )
 
--- src/main.rt:128:1
 same-length-3 : tie.Need-same-length-3
 same-length-3 c = search needs
 
--- src/main.rt:128:1
 same-length-4 : tie.Need-same-length-4
 same-length-4 c = search needs
 
--- src/main.rt:128:1
 same-length-5 : tie.Need-same-length-5
 same-length-5 c = search needs
 
--- src/main.rt:128:1
 same-length-6 : tie.Need-same-length-6
 same-length-6 c = search needs
 
--- src/main.rt:128:1
 same-length-7 : tie.Need-same-length-7
 same-length-7 c = search needs
 
--- src/main.rt:128:1
 same-length-8 : tie.Need-same-length-8
 same-length-8 c = search needs
 
--- src/main.rt:128:1
 same-length-9 : tie.Need-same-length-9
 same-length-9 c = search needs
 
--- src/main.rt:128:1
 same-length-10 : tie.Need-same-length-10
 same-length-10 c = search needs
 
--- src/main.rt:128:1
 same-length-11 : tie.Need-same-length-11
 same-length-11 c = search needs
 
--- src/main.rt:128:1
 returns-2 : tie.Need-returns-2
 returns-2 c = let s = c .before .before .before .before .before .before .before .before .before .before .before .before .before .before .before .before .before .before .before .before .before .before .before .before .before .before .before .before .before .before .before .before .before .before .before .before .before .before .before .before .before .before in
     let k = c .before .before .before .before .before .before .before .before .before .before .before .before .before .before .before .before .before .before .next .ensures (s .pre .0 .0) (s .pre .0 .1) in

@@ -1,66 +1,48 @@
-use Rattle.judge.proofs.Runs.{turned-as}
-use lib.ListN.{length, length-take}
-use mathlib.Core.List.{List}
-use Prim.Native.Nat.{ℕ}
-use mathlib.Core.Path.{subst, sym, ap, _∙_}
+-- The words that were read are those of the bytes.
+use mathlib.Core.Path.{sym, ap, _∙_}
 use native.Mathlib.Omega.{arith}
 use borrow.Author.Needs.{needs}
+use lib.ListN.{length, length-take}
+use Rattle.judge.proofs.Runs.{turned-as}
 use Rattle.judge.proofs.turn.answer_bytes.Statement.{statement}
 use Rattle.judge.proofs.turn.answer_bytes.Tie as tie
-use Rattle.judge.proofs.turn.answer_bytes.Reads as reads
-use Rattle.judge.proofs.turn.answer_bytes.Lts as lts
-use Rattle.judge.proofs.turn.answer_words.Reads as answer-words-reads
-use Rattle.stream.proofs.read_words.Reads as read-words-reads
 
--- src/turn.rt:107:9
 read-words-requires : tie.Need-read-words-requires
 read-words-requires c κs = c .before .before .before .before .before .before .before .before .before .before .pre .1 .1
 
--- src/turn.rt:115:9
 slice-reshare-prefix-answer-words : tie.Need-slice-reshare-prefix-answer-words
 slice-reshare-prefix-answer-words c = let k = c .before .before .before .before .before .before .before .before .read-words .ensures in omega (arith, k .count, ap length (k .words), length-take (c .before .before .before .before .before .before .before .before .read-words .result) (c .before .before .before .before .before .before .before .before .read-words .last .1 .0))
 
--- src/turn.rt:115:9
 slice-aggregate-answer-words : tie.Need-slice-aggregate-answer-words
 slice-aggregate-answer-words c = let k = c .before .before .before .before .before .before .before .before .before .read-words .ensures in k .count ∙ sym (ap length (k .words))
 
--- src/turn.rt:108:5
 answer-words-requires : tie.Need-answer-words-requires
 answer-words-requires c κs = let s = c .before .before .before .before .before .before .before .before .before .before .before .before .before .before .before .before .before .before .before .before .before in (s .pre .0, s .pre .1 .0)
 
--- src/turn.rt:88:1
 same-length : tie.Need-same-length
 same-length c = search needs
 
--- src/turn.rt:88:1
 same-length-2 : tie.Need-same-length-2
 same-length-2 c = search needs
 
--- src/turn.rt:88:1
 same-length-3 : tie.Need-same-length-3
 same-length-3 c = search needs
 
--- src/turn.rt:88:1
 same-length-4 : tie.Need-same-length-4
 same-length-4 c = search needs
 
--- src/turn.rt:88:1
 same-length-5 : tie.Need-same-length-5
 same-length-5 c = search needs
 
--- src/turn.rt:88:1
 same-length-6 : tie.Need-same-length-6
 same-length-6 c = search needs
 
--- src/turn.rt:88:1
 same-length-7 : tie.Need-same-length-7
 same-length-7 c = search needs
 
--- src/turn.rt:88:1
 same-length-8 : tie.Need-same-length-8
 same-length-8 c = search needs
 
--- src/turn.rt:88:1
 returns : tie.Need-returns
 returns c = λ s h. turned-as (c .before .before .before .before .before .before .before .before .before .before .before .before .before .before .before .before .before .before .before .before .before .before .before .before .before .read-words .ensures .words) (c .before .before .before .before .before .before .before .before .before .before .before .before .before .before .answer-words .ensures s h)
 

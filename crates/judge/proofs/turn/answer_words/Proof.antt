@@ -1,57 +1,42 @@
+-- The answer is the definition's, and the memory that is left has the leak that is named.
+use mathlib.Core.Path.{subst}
+use borrow.Author.Needs.{needs}
+use Rattle.definition.specs.Run.{step}
 use Rattle.judge.proofs.Held.{records-held, words-held}
 use Rattle.judge.specs.Turn.{LineWritten}
-use Rattle.definition.specs.Run.{step}
 use Rattle.definition.specs.Memory as definition
-use Prim.Native.Nat.{ℕ}
-use mathlib.Core.Path.{subst}
-use native.Mathlib.Omega.{arith}
-use borrow.Author.Needs.{needs}
 use Rattle.judge.proofs.turn.answer_words.Statement.{statement}
 use Rattle.judge.proofs.turn.answer_words.Tie as tie
-use Rattle.judge.proofs.turn.answer_words.Reads as reads
-use Rattle.judge.proofs.turn.answer_words.Lts as lts
-use Rattle.judge.proofs.turn.write_answer.Reads as write-answer-reads
-use Rattle.run.proofs.step.step.Reads as step-reads
 
--- src/turn.rt:83:9
 step-requires : tie.Need-step-requires
 step-requires c κs = search needs
 
--- src/turn.rt:84:5
 write-answer-requires : tie.Need-write-answer-requires
 write-answer-requires c κs = let s = c .before .before .before .before .before .before .before .before .before .before .before .before .before .before .before .before .before .before .before .before .before .before .before .before .before .before .before .before .before .before in
     let k = c .before .before .before .before .before .before .before .before .before .before .before .before .before .before .before .step .ensures (s .pre .0 .0) (s .pre .0 .1) in
     ((step (s .pre .0 .0) (s .args .request .now) .1 .memory, records-held (k .holds)), (s .pre .1, words-held (k .holds)))
 
--- src/turn.rt:65:1
 same-length : tie.Need-same-length
 same-length c = search needs
 
--- src/turn.rt:65:1
 same-length-2 : tie.Need-same-length-2
 same-length-2 c = search needs
 
--- src/turn.rt:65:1
 same-length-3 : tie.Need-same-length-3
 same-length-3 c = search needs
 
--- src/turn.rt:65:1
 same-length-4 : tie.Need-same-length-4
 same-length-4 c = search needs
 
--- src/turn.rt:65:1
 same-length-5 : tie.Need-same-length-5
 same-length-5 c = search needs
 
--- src/turn.rt:65:1
 same-length-6 : tie.Need-same-length-6
 same-length-6 c = search needs
 
--- src/turn.rt:65:1
 same-length-7 : tie.Need-same-length-7
 same-length-7 c = search needs
 
--- src/turn.rt:65:1
 returns : tie.Need-returns
 returns c = λ state h.
     let s = c .before .before .before .before .before .before .before .before .before .before .before .before .before .before .before .before .before .before .before .before .before .before .before .before .before .before .before .before .before .before .before .before .before in

@@ -1,34 +1,26 @@
-use Rattle.judge.proofs.Runs.{request-bytes, size-most, taken}
-use Rattle.definition.specs.Run.{wordsOf}
-use lib.ListN.{length, take, drop, length-take}
+-- The bytes up to the end of the request are its words, or those that are left (Runs).
 use Prim.Native.Nat.{ℕ, _-_}
 use mathlib.Core.Path.{refl, ap, _∙_}
 use native.Mathlib.Omega.{arith}
 use borrow.Author.Needs.{needs}
+use lib.ListN.{take, drop, length-take}
+use Rattle.definition.specs.Run.{wordsOf}
+use Rattle.judge.proofs.Runs.{request-bytes, size-most, taken}
 use Rattle.judge.proofs.turn.next.Statement.{statement}
 use Rattle.judge.proofs.turn.next.Tie as tie
-use Rattle.judge.proofs.turn.next.Reads as reads
-use Rattle.judge.proofs.turn.next.Lts as lts
-use Rattle.judge.proofs.turn.answer_bytes.Reads as answer-bytes-reads
-use Rattle.judge.proofs.turn.request_end.Reads as request-end-reads
 
--- src/turn.rt:154:9
 request-end-requires : tie.Need-request-end-requires
 request-end-requires c κs = search needs
 
--- src/turn.rt:162:9
 sub-answer-bytes : tie.Need-sub-answer-bytes
 sub-answer-bytes c = search needs
 
--- src/turn.rt:162:9
 part-answer-bytes-start : tie.Need-part-answer-bytes-start
 part-answer-bytes-start c = search needs
 
--- src/turn.rt:162:9
 part-answer-bytes-end : tie.Need-part-answer-bytes-end
 part-answer-bytes-end c = search needs
 
--- src/turn.rt:155:9
 answer-bytes-requires : tie.Need-answer-bytes-requires
 answer-bytes-requires c κs = let s = c .before .before .before .before .before .before .before .before .before .before .before .before .before .before .before .before .before .before .before in
     let run = s .args .run .now in
@@ -46,43 +38,33 @@ answer-bytes-requires c κs = let s = c .before .before .before .before .before 
       ),
     )
 
--- src/turn.rt:171:16
 add-t34 : tie.Need-add-t34
 add-t34 c = omega (arith, c .before .before .before .before .before .before .before .before .before .before .before .before .before .before .before .before .before .before .before .before .before .before .before .before .before .before .before .before .before .before .before .before .before .before .before .before .before .pre .1 .1 .1 .1)
 
--- src/turn.rt:135:1
 same-length : tie.Need-same-length
 same-length c = search needs
 
--- src/turn.rt:135:1
 same-length-2 : tie.Need-same-length-2
 same-length-2 c = search needs
 
--- src/turn.rt:135:1
 same-length-3 : tie.Need-same-length-3
 same-length-3 c = search needs
 
--- src/turn.rt:135:1
 same-length-4 : tie.Need-same-length-4
 same-length-4 c = search needs
 
--- src/turn.rt:135:1
 same-length-5 : tie.Need-same-length-5
 same-length-5 c = search needs
 
--- src/turn.rt:135:1
 same-length-6 : tie.Need-same-length-6
 same-length-6 c = search needs
 
--- src/turn.rt:135:1
 same-length-7 : tie.Need-same-length-7
 same-length-7 c = search needs
 
--- src/turn.rt:135:1
 same-length-8 : tie.Need-same-length-8
 same-length-8 c = search needs
 
--- src/turn.rt:135:1
 returns : tie.Need-returns
 returns c = λ state h.
     let s = c .before .before .before .before .before .before .before .before .before .before .before .before .before .before .before .before .before .before .before .before .before .before .before .before .before .before .before .before .before .before .before .before .before .before .before .before .before in

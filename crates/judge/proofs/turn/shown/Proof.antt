@@ -1,75 +1,58 @@
-use Rattle.judge.proofs.Names.{check-names, check-silent, shown-other, shown-leak}
-use borrow.Author.Tests.{eqb-true, eqb-false, not-true, not-false}
-use mathlib.Core.List.{[]}
+-- 25 gets the name that the leak check gives, and any other answer has none (Names).
 use Prim.Native.Nat.{ℕ}
-use mathlib.Core.Path.{_≡_, sym, _∙_}
+use mathlib.Core.List.{[]}
+use mathlib.Core.Path.{_≡_}
 use native.Mathlib.Omega.{arith}
 use borrow.Author.Needs.{needs}
+use Rattle.judge.proofs.Names.{check-names, check-silent, shown-other, shown-leak}
 use Rattle.judge.proofs.turn.shown.Statement.{statement}
 use Rattle.judge.proofs.turn.shown.Tie as tie
-use Rattle.judge.proofs.turn.shown.Reads as reads
-use Rattle.judge.proofs.turn.shown.Lts as lts
-use Rattle.answer.proofs.Answer.refusal.Reads as refusal-reads
-use Rattle.bounds.proofs.leak_check.Reads as leak-check-reads
 
--- src/turn.rt:30:8
 refusal-requires : tie.Need-refusal-requires
 refusal-requires c κs = search needs
 
--- src/turn.rt:31:9
 returns : tie.Need-returns
 returns c = λ m h. shown-other m (c .before .before .before .args .answer) (λ e. omega (arith, c .before .refusal .ensures []))
 
--- src/turn.rt:33:9
 leak-check-requires : tie.Need-leak-check-requires
 leak-check-requires c κs = search needs
 
--- src/turn.rt:35:22
 enum-known-check : tie.Need-enum-known-check
 enum-known-check c = search needs
 
--- src/turn.rt:36:31
 enum-told : tie.Need-enum-told
 enum-told c = search needs
 
--- src/turn.rt:37:29
 enum-told-2 : tie.Need-enum-told-2
 enum-told-2 c = search needs
 
--- src/turn.rt:38:31
 enum-told-3 : tie.Need-enum-told-3
 enum-told-3 c = search needs
 
--- src/turn.rt:39:47
 enum-told-4 : tie.Need-enum-told-4
 enum-told-4 c = search needs
 
--- src/turn.rt:26:1
 returns-2 : tie.Need-returns-2
 returns-2 c = λ m h. shown-leak m (c .before .before .before .before .before .before .before .args .answer) (omega (arith, c .before .before .before .before .before .refusal .ensures [])) _ (check-names m (c .before .before .before .leak-check .result) (c .before .before .before .leak-check .ensures m h) _ (c .before .check .given .1))
 
--- src/turn.rt:26:1
 returns-3 : tie.Need-returns-3
 returns-3 c = λ m h.
     let is = c .enum-told .given .1 in
     shown-leak m (c .before .before .before .before .before .before .args .answer) (omega (arith, c .before .before .before .before .refusal .ensures [])) 0
     (check-silent m (c .before .before .leak-check .result) (c .before .before .leak-check .ensures m h) (λ n e. let z : _≡_ {A = ℕ} 0 1 = cc in omega arith))
 
--- src/turn.rt:26:1
 returns-4 : tie.Need-returns-4
 returns-4 c = λ m h.
     let is = c .enum-told2 .given .1 in
     shown-leak m (c .before .before .before .before .before .before .args .answer) (omega (arith, c .before .before .before .before .refusal .ensures [])) 0
     (check-silent m (c .before .before .leak-check .result) (c .before .before .leak-check .ensures m h) (λ n e. let z : _≡_ {A = ℕ} 0 1 = cc in omega arith))
 
--- src/turn.rt:26:1
 returns-5 : tie.Need-returns-5
 returns-5 c = λ m h.
     let is = c .enum-told3 .given .1 in
     shown-leak m (c .before .before .before .before .before .before .args .answer) (omega (arith, c .before .before .before .before .refusal .ensures [])) 0
     (check-silent m (c .before .before .leak-check .result) (c .before .before .leak-check .ensures m h) (λ n e. let z : _≡_ {A = ℕ} 0 1 = cc in omega arith))
 
--- src/turn.rt:26:1
 returns-6 : tie.Need-returns-6
 returns-6 c = λ m h.
     let is = c .enum-told4 .given .1 in

@@ -1,36 +1,23 @@
-use Rattle.judge.specs.Whole.{memoryRoom}
-use Rattle.definition.specs.Output.{memoryLines}
-use Prim.Native.Nat.{_+_}
-use Rattle.judge.proofs.Held.{memory-held}
-use Rattle.judge.proofs.Runs.{not-over, too-long, memory-inside}
-use Rattle.judge.specs.Turn.{NamesLeak}
-use lib.Dec.{ltb}
-use borrow.Author.Tests.{leb-true}
-use Rattle.report.proofs.Writes.{write-length}
-use Rattle.definition.specs.Frame.{State}
-use Prim.Native.Nat.{ℕ}
-use mathlib.Core.Bool.{Bool, true, false, not, _&&_, _||_}
-use mathlib.Core.Path.{_≡_, ap, subst, sym, _∙_}
-use Rattle.judge.proofs.Runs.{performing-end, text-short, text-whole}
-use Rattle.report.proofs.Lengths.{memory-length}
-use lib.ListN.{length}
-use mathlib.Core.Bool.{true, false}
-use Prim.Native.Nat.{_≤_, _<_}
-use mathlib.Core.Path.{_≡_, ap, _∙_}
+-- No request is left, and the lines of the memory follow; or there is no room (Runs).
+use Prim.Native.Nat.{_+_, _≤_}
+use mathlib.Core.Bool.{Bool, not, _&&_, _||_}
+use mathlib.Core.Path.{ap, subst, sym, _∙_}
 use native.Mathlib.Omega.{arith}
+use borrow.Author.Tests.{leb-true}
 use borrow.Author.Needs.{needs}
+use lib.Dec.{ltb}
+use lib.ListN.{length}
+use Rattle.definition.specs.Frame.{State}
+use Rattle.judge.proofs.Held.{memory-held}
+use Rattle.judge.proofs.Runs.{not-over, too-long, memory-inside, performing-end, text-short, text-whole}
+use Rattle.judge.specs.Turn.{NamesLeak}
+use Rattle.judge.specs.Whole.{memoryRoom}
 use Rattle.judge.proofs.whole.finish.Statement.{statement}
 use Rattle.judge.proofs.whole.finish.Tie as tie
-use Rattle.judge.proofs.whole.finish.Reads as reads
-use Rattle.judge.proofs.whole.finish.Lts as lts
-use Rattle.judge.proofs.whole.has_room.Reads as has-room-reads
-use Rattle.report.proofs.allocations.memory_lines.Reads as memory-lines-reads
 
--- src/whole.rt:90:47
 has-room-requires : tie.Need-has-room-requires
 has-room-requires c κs = search needs
 
--- src/whole.rt:91:9
 returns : tie.Need-returns
 returns c = let s = c .before .before .before .before .before .before .before .before .before .before .before in
     let h = s .pre .0 .1 in
@@ -39,7 +26,6 @@ returns c = let s = c .before .before .before .before .before .before .before .b
     let short = too-long left (q .at) (length (s .args .out .now)) (s .pre .1) (ap (λ (t : Bool). left || not t) (sym (c .before .has-room .ensures)) ∙ c .if1 .taken) in
     record { leak = h .leak; judged = omega (arith, short, text-short h) }
 
--- src/whole.rt:93:18
 memory-lines-requires : tie.Need-memory-lines-requires
 memory-lines-requires c κs = let s = c .before .before .before .before .before .before .before .before .before .before .before .before in
     let h = s .pre .0 .1 in
@@ -48,11 +34,9 @@ memory-lines-requires c κs = let s = c .before .before .before .before .before 
       leb-true _ _ (sym (c .before .before .has-room .ensures) ∙ room),
     )
 
--- src/whole.rt:75:1
 same-length : tie.Need-same-length
 same-length c = search needs
 
--- src/whole.rt:75:1
 returns-2 : tie.Need-returns-2
 returns-2 c = let s = c .before .before .before .before .before .before .before .before .before .before .before .before .before .before .before in
     let h = s .pre .0 .1 in
