@@ -18,7 +18,7 @@ use Rattle.definition.specs.Memory.{Answer, Memory}
 use Rattle.definition.specs.Frame.{State, empty}
 use Rattle.definition.specs.Request.{request, followingLength}
 use Rattle.definition.specs.Run.{step, program, wordsOf}
-use Rattle.definition.specs.Output.{answerLine, answerLines, memoryLines, output}
+use Rattle.definition.specs.Output.{answerLine, answerLines, memoryLines, output, IsOutput}
 use Rattle.definition.proofs.Booleans.{and-left, and-right, or-neither}
 use Rattle.tables.specs.Encoding.{Buffers}
 use Rattle.tables.specs.Held.{Holds}
@@ -31,7 +31,7 @@ use Rattle.stream.proofs.Cuts.{program-from, program-end, program-more, program
 use Rattle.judge.specs.declared.Place.{Place}
 use Rattle.judge.specs.declared.Judged.{Judged}
 use Rattle.judge.specs.declared.Judged.the-variants.{Text, TooLong}
-use Rattle.judge.specs.Turn.{lineRoom, nameIn, requestEnd, Turned, Taken}
+use Rattle.judge.specs.Turn.{lineRoom, NamesLeak, nameIn, requestEnd, Turned, Taken}
 use Rattle.judge.specs.Whole.{goesOn, leftAt, memoryRoom, Performing, JudgedAs}
 use Rattle.judge.proofs.Names.{some-leak}
 
@@ -220,16 +220,28 @@ performing-end {run} {p} {out} h over =
         ∙ ap (programFrom (h .state)) (drop-of-length-le run all)
         ∙ program-end (h .state)
 
+-- an allocation that 25 may name in the end: the one that is written, where the last request was refused
+pub right-leak : {run : List ℕ} {p : Place} {out : List ℕ} {b : Buffers} {F : List ℕ} (h : Performing run p out b F)
+    → (leak : ℕ) × (NamesLeak (program run .1 .memory) leak × (p .refused ≡ true → leak ≡ h .leak))
+right-leak {run} {p} h = by (p .refused) refl
+  where
+    by : (t : Bool) → p .refused ≡ t → (leak : ℕ) × (NamesLeak (program run .1 .memory) leak × (p .refused ≡ true → leak ≡ h .leak))
+    by true e =
+        let none : leftAt (h .state) run p ≡ ([], h .state) = ap (λ (t : Bool). if t then ([], h .state) else programFrom (h .state) (drop (p .from) run)) e in
+        let final : h .state ≡ program run .1 = ap (λ (o : List Answer × State). o .1) (sym none) ∙ h .final in
+        (h .leak, (subst (λ (s : State). NamesLeak (s .memory) (h .leak)) final (h .right), λ _. refl))
+    by false e = let l = some-leak (program run .1 .memory) in (l .0, (l .1, λ t. absurd (false≢true (sym e ∙ t))))
+
 -- the text so far is no longer than the whole
-pub text-short : {run : List ℕ} {p : Place} {out : List ℕ} {b : Buffers} {F : List ℕ} (h : Performing run p out b F)
-    → p .at ≤ length (output (h .leak) run)
+pub text-short : {run : List ℕ} {p : Place} {out : List ℕ} {b : Buffers} {F : List ℕ} (h : Performing run p out b F) (leak : ℕ) → (p .refused ≡ true → leak ≡ h .leak)
+    → p .at ≤ length (output leak run)
 unfolding output
-text-short {run} {p} {out} h =
-    let left = answerLines (h .leak) (p .index) (leftAt (h .state) run p .0) in
-    let lines = answerLines (h .leak) 0 (program run .0) in
+text-short {run} {p} {out} h leak same =
+    let left = answerLines leak (p .index) (leftAt (h .state) run p .0) in
+    let lines = answerLines leak 0 (program run .0) in
     omega (
       arith,
-      ap length (h .text (h .leak) (λ _. refl)),
+      ap length (h .text leak same),
       length-append (take (p .at) out) left,
       length-take-le (p .at) out (h .fits),
       length-append lines (memoryLines 0 (program run .1 .memory)),
@@ -290,5 +302,9 @@ goes p bytes room e =
 
 -- of the buffer as it was only the length matters
 pub judged-same : {run before before′ : List ℕ} (r : Judged) {after : List ℕ} → length before ≡ length before′ → JudgedAs run before r after → JudgedAs run before′ r after
-judged-same (Text n) e k = record { leak = k .leak; judged = k .judged }
-judged-same TooLong e k = record { leak = k .leak; judged = omega (arith, k .judged) }
+judged-same (Text n) e k = record { leak = k .leak; right = k .right; judged = k .judged }
+judged-same TooLong e k = record { leak = k .leak; right = k .right; judged = omega (arith, k .judged) }
+
+-- the text is one that the definition allows
+pub is-output : {run before after : List ℕ} (n : ℕ) → JudgedAs run before (Text n) after → IsOutput run (take n after)
+is-output n k = record { leak = k .leak; isALeak = k .right; isPrinted = k .judged .text }

@@ -42,9 +42,8 @@ pub record Performing (run : List ℕ) (p : Place) (out : List ℕ) (b : Buffers
 abbrev pub memoryRoom : ℕ
 memoryRoom = 0x28000
 
--- the first n bytes are what the program prints of the run; 25 names a live heap allocation of the memory that is left
+-- the first n bytes are what the program prints of the run, if 25 names `leak`
 pub record TextOf (run : List ℕ) (leak n : ℕ) (after : List ℕ) : Type 0 where
-  pub right : NamesLeak (program run .1 .memory) leak
   pub fits : n ≤ length after
   pub text : take n after ≡ output leak run
 
@@ -52,6 +51,8 @@ abbrev pub JudgedWith : List ℕ → ℕ → List ℕ → Judged → List ℕ �
 JudgedWith run leak before (Text n) after = TextOf run leak n after
 JudgedWith run leak before TooLong after = length before < length (output leak run) + memoryRoom
 
+-- 25 names a live heap allocation of the memory that is left, if there is one: the text is one that the definition allows (`IsOutput`)
 pub record JudgedAs (run before : List ℕ) (r : Judged) (after : List ℕ) : Type 0 where
   pub leak : ℕ
+  pub right : NamesLeak (program run .1 .memory) leak
   pub judged : JudgedWith run leak before r after

@@ -14,7 +14,7 @@ module _ {run before after : List ℕ} where
   agrees-text text n r k same other =
       record {
         leak = k .leak;
-        right = λ _. k .judged .right;
+        right = k .right;
         same = λ e. same e ∙ k .judged .text;
         other = λ e e′. absurd (false≢true (sym e ∙ other (e′ ∙ sym (k .judged .text))));
       }
@@ -23,7 +23,7 @@ module _ {run before after : List ℕ} where
   agrees-long text k =
       record {
         leak = k .leak;
-        right = λ e. absurd (false≢true e);
+        right = k .right;
         same = λ e. absurd (false≢true e);
         other = λ _ _. k .judged;
       }

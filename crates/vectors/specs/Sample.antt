@@ -20,6 +20,6 @@ pub record Placed (file : List ℕ) (at : ℕ) (r : Record) : Type 0 where
 -- whether the text is what the program prints of the run. Only a text that has no room in a buffer of this length is told to be another
 pub record Agrees (run text : List ℕ) (room : ℕ) (r : Bool) : Type 0 where
   pub leak : ℕ
-  pub right : r ≡ true → NamesLeak (program run .1 .memory) leak
+  pub right : NamesLeak (program run .1 .memory) leak
   pub same : r ≡ true → text ≡ output leak run
   pub other : r ≡ false → text ≡ output leak run → room < length (output leak run) + memoryRoom

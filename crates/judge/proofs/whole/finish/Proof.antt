@@ -9,7 +9,7 @@ use lib.Dec.{ltb}
 use lib.ListN.{length}
 use Rattle.definition.specs.Frame.{State}
 use Rattle.judge.proofs.Held.{memory-held}
-use Rattle.judge.proofs.Runs.{not-over, too-long, memory-inside, performing-end, text-short, text-whole}
+use Rattle.judge.proofs.Runs.{not-over, too-long, memory-inside, performing-end, right-leak, text-short, text-whole}
 use Rattle.judge.specs.Turn.{NamesLeak}
 use Rattle.judge.specs.Whole.{memoryRoom}
 use Rattle.judge.proofs.whole.finish.Statement.{statement}
@@ -24,7 +24,8 @@ returns c = let s = c .before .before .before .before .before .before .before .b
     let q = s .args .p in
     let left = not (q .refused) && ltb (q .from) (length (s .args .run .now)) in
     let short = too-long left (q .at) (length (s .args .out .now)) (s .pre .1) (ap (λ (t : Bool). left || not t) (sym (c .before .has-room .ensures)) ∙ c .if1 .taken) in
-    record { leak = h .leak; judged = omega (arith, short, text-short h) }
+    let l = right-leak h in
+    record { leak = l .0; right = l .1 .0; judged = omega (arith, short, text-short h (l .0) (l .1 .1)) }
 
 memory-lines-requires : tie.Need-memory-lines-requires
 memory-lines-requires c κs = let s = c .before .before .before .before .before .before .before .before .before .before .before .before in
@@ -48,8 +49,8 @@ returns-2 c = let s = c .before .before .before .before .before .before .before 
     let fits : c .before .before .memory-lines .result ≤ length (c .before .before .memory-lines .last .0) = memory-inside (memory-held (h .holds)) w room in
     record {
       leak = h .leak;
+      right = subst (λ (o : State). NamesLeak (o .memory) (h .leak)) (k .final) (h .right);
       judged = record {
-        right = subst (λ (o : State). NamesLeak (o .memory) (h .leak)) (k .final) (h .right);
         fits = fits;
         text = text-whole k w fits;
       };
