@@ -80,37 +80,39 @@ impl List {
     }
 }
 
-const ADDRESS: u32 = 0x1000;
-
-fn allocate(bytes: u32) -> Vec<u32> {
-    vec![1, 0, ADDRESS, bytes]
+/// The address of an allocation.
+fn address(allocation: u32) -> u32 {
+    0x1000 * (allocation + 1)
 }
 
-fn through(kind: u32, node: u32, extra: u32) -> u32 {
-    kind << 28 | node << 9 | 1 << 8 | extra
+fn through(kind: u32, allocation: u32, node: u32, extra: u32) -> u32 {
+    kind << 28 | allocation << 21 | node << 9 | 1 << 8 | extra
 }
 
-/// A mutable borrow of so many bytes, or with a protector in frame 0.
-fn retag(node: u32, bytes: u32, protected: bool) -> Vec<u32> {
-    vec![through(4, node, 1), 0, ADDRESS, (protected as u32) << 31 | 0x6000_0002, 0, bytes]
+/// A mutable borrow of so many bytes, protected in a frame or not.
+fn retag(allocation: u32, node: u32, bytes: u32, frame: Option<u32>) -> Vec<u32> {
+    let entry = frame.map_or(0, |frame| 1 << 31 | frame << 23);
+    vec![through(4, allocation, node, 1), 0, address(allocation), entry | 0x6000_0002, 0, bytes]
 }
 
 fn load(node: u32, bytes: u32) -> Vec<u32> {
-    vec![through(2, node, 0), 0, ADDRESS, bytes]
+    vec![through(2, 0, node, 0), 0, address(0), bytes]
 }
 
 fn store(node: u32, bytes: u32) -> Vec<u32> {
-    let mut request = vec![through(3, node, 0), 0, ADDRESS, bytes];
+    let mut request = vec![through(3, 0, node, 0), 0, address(0), bytes];
     request.resize(4 + bytes as usize, 0x8000_0007);
     request
 }
 
-/// An allocation of so many bytes, with so many nodes: each a child of the root, or of the one before it.
-fn tree(bytes: u32, nodes: u32, chain: bool) -> List {
+/// Allocations of so many bytes with so many nodes: each a child of the root, or of the one before it.
+fn trees(allocations: u32, bytes: u32, nodes: u32, chain: bool) -> List {
     let mut list = List::default();
-    list.add(&allocate(bytes));
-    for n in 1..nodes {
-        list.add(&retag(if chain { n - 1 } else { 0 }, 0, false));
+    for a in 0..allocations {
+        list.add(&[1, 0, address(a), bytes]);
+        for n in 1..nodes {
+            list.add(&retag(a, if chain { n - 1 } else { 0 }, 0, None));
+        }
     }
     list
 }
@@ -118,9 +120,8 @@ fn tree(bytes: u32, nodes: u32, chain: bool) -> List {
 struct Row {
     name: String,
     before: List,
-    request: Vec<u32>,
-    /// how often it can be made in a row, each time at about the same cost
-    times: usize,
+    /// made one after the other, each at about the same cost; the last is what the Rust is asked for
+    requests: Vec<Vec<u32>>,
 }
 
 fn rows() -> Vec<Row> {
@@ -134,53 +135,78 @@ fn rows() -> Vec<Row> {
             let shape = if nodes == 1 { "" } else if chain { ", a chain" } else { ", children of the root" };
             let last = nodes - 1;
             for (kind, request) in [("load", load(last, bytes)), ("store", store(last, bytes))] {
-                rows.push(Row { name: format!("{kind} of {bytes} bytes, {nodes} nodes{shape}"), before: tree(bytes, nodes, chain), request, times: 200 });
+                rows.push(Row { name: format!("{kind} of {bytes} bytes, {nodes} nodes{shape}"), before: trees(1, bytes, nodes, chain), requests: vec![request; 200] });
             }
-            // a retag adds a node; beside a large tree one alone is lost in the tree's own making
-            let (nodes, times) = if nodes == 1024 { (992, 32) } else if bytes == 4096 && nodes == 8 { (7, 1) } else { (nodes, 1) };
-            rows.push(Row { name: format!("retag of {bytes} bytes, {nodes} nodes{shape}"), before: tree(bytes, nodes, chain), request: retag(nodes - 1, bytes, false), times });
+            rows.push(retags(bytes, nodes, chain, shape));
         }
     }
     for (entries, bytes) in [(0, 1), (1, 1), (1, 64), (8, 64), (64, 64), (7, 4096)] {
-        let mut before = List::default();
-        before.add(&allocate(bytes));
-        before.add(&[5 << 28, 0, 0, 0]);
-        for _ in 0..entries {
-            before.add(&retag(0, bytes, true));
-        }
-        rows.push(Row { name: format!("end call of {entries} entries, {bytes} bytes"), before, request: vec![6 << 28, 0, 0, 0], times: 1 });
+        rows.push(end_calls(entries, bytes));
     }
     rows
 }
 
-/// The nanoseconds of a list, the least of several rounds.
-fn time(lent: &mut Lent, list: &List, rounds: u32) -> f64 {
-    let mut least = f64::MAX;
-    for _ in 0..7 {
-        let start = Instant::now();
-        for _ in 0..rounds {
-            black_box(lent.run(black_box(list)));
+fn among(allocations: u32) -> String {
+    if allocations == 1 { String::new() } else { format!(", {allocations} allocations") }
+}
+
+/// A retag adds a node: one in each of several allocations, or a few beside a large tree.
+fn retags(bytes: u32, nodes: u32, chain: bool, shape: &str) -> Row {
+    let (allocations, nodes, times) = match (bytes, nodes) {
+        (_, 1024) => (1, 992, 32),
+        (4096, 8) => (1, 7, 1),
+        (4096, _) => (1, nodes, 1),
+        _ => (16, nodes, 1),
+    };
+    let requests = (0..allocations).flat_map(|a| vec![retag(a, nodes - 1, bytes, None); times]).collect();
+    Row { name: format!("retag of {bytes} bytes, {nodes} nodes{shape}{}", among(allocations)), before: trees(allocations, bytes, nodes, chain), requests }
+}
+
+/// A frame for each of several allocations, all of whose nodes but the root it protects.
+fn end_calls(entries: u32, bytes: u32) -> Row {
+    let frames = if entries * bytes > 512 { 1 } else { 16 };
+    let mut before = List::default();
+    for f in 0..frames {
+        before.add(&[1, 0, address(f), bytes]);
+        before.add(&[5 << 28, 0, 0, f]);
+        for _ in 0..entries {
+            before.add(&retag(f, 0, bytes, Some(f)));
         }
-        least = least.min(start.elapsed().as_nanos() as f64 / rounds as f64);
+    }
+    let requests = (0..frames).map(|f| vec![6 << 28, 0, 0, f]).collect();
+    Row { name: format!("end call of {entries} entries, {bytes} bytes{}", among(frames)), before, requests }
+}
+
+/// The least nanoseconds that one run of a list takes, of each list: the lists take turns, so that what slows the machine slows them alike.
+fn time<const N: usize>(lent: &mut Lent, lists: [&List; N], rounds: u32) -> [f64; N] {
+    let mut least = [f64::MAX; N];
+    for _ in 0..rounds {
+        for (list, least) in lists.iter().zip(&mut least) {
+            let start = Instant::now();
+            black_box(lent.run(black_box(list)));
+            *least = least.min(start.elapsed().as_nanos() as f64);
+        }
     }
     least
 }
 
 fn port(lent: &mut Lent, row: &Row) -> f64 {
     let mut with = row.before.clone();
-    for _ in 0..row.times {
-        with.add(&row.request);
+    for request in &row.requests {
+        with.add(request);
     }
     assert!(lent.run(&with).whole && !lent.refused(&with), "{}: refused", row.name);
-    let once = time(lent, &with, 1).max(1.0);
-    let rounds = (20_000_000.0 / once).clamp(3.0, 20_000.0) as u32;
-    let (all, before) = (time(lent, &with, rounds), time(lent, &row.before, rounds));
-    (all - before) / row.times as f64
+    let [once] = time(lent, [&with], 3);
+    let rounds = (200_000_000.0 / once).clamp(20.0, 50_000.0) as u32;
+    let [all, before] = time(lent, [&with, &row.before], rounds);
+    (all - before) / row.requests.len() as f64
 }
 
 fn rust(oracle: &str, row: &Row) -> f64 {
     let mut list = row.before.clone();
-    list.add(&row.request);
+    for request in &row.requests {
+        list.add(request);
+    }
     let bytes: Vec<u8> = list.words.iter().flat_map(|w| w.to_be_bytes()).collect();
     let ask = |times: u32| -> f64 {
         let mut child = Command::new(oracle).args(["--time", &times.to_string()]).stdin(Stdio::piped()).stdout(Stdio::piped()).spawn().expect("the oracle");
@@ -198,12 +224,12 @@ fn main() {
     let oracle = arguments.next().expect("usage: requests ORACLE [ROW..]");
     let wanted: Vec<String> = arguments.collect();
     let mut lent = Lent::new();
-    println!("{:<48} {:>12} {:>14} {:>8}", "request", "port, ns", "the Rust, ns", "times");
+    println!("{:<64} {:>12} {:>14} {:>8}", "request", "port, ns", "the Rust, ns", "times");
     for row in rows() {
         if !wanted.is_empty() && !wanted.iter().any(|w| row.name.contains(w.as_str())) {
             continue;
         }
         let (port, rust) = (port(&mut lent, &row), rust(&oracle, &row));
-        println!("{:<48} {:>12.1} {:>14.1} {:>8.1}", row.name, port, rust, rust / port);
+        println!("{:<64} {:>12.1} {:>14.1} {:>8.1}", row.name, port, rust, rust / port);
     }
 }
