@@ -87,6 +87,12 @@ module _ {A : Type 0} where
   mutate-length zero f (x ∷ xs) = refl
   mutate-length (suc n) f (x ∷ xs) = ap suc (mutate-length n f xs)
 
+  pub mutate-id : (n : ℕ) (l : List A) → mutateAt n (λ x. x) l ≡ l
+  unfolding mutateAt
+  mutate-id n [] = refl
+  mutate-id zero (x ∷ xs) = refl
+  mutate-id (suc n) (x ∷ xs) = ap (λ (l : List A). x ∷ l) (mutate-id n xs)
+
   -- what f leaves of any element, it leaves of element k
   pub mutate-kept : {B : Type 0} (g : A → B) (f : A → A) (d : A) (l : List A) (n k : ℕ)
       → (n ≡ k → g (f (getD l n d)) ≡ g (getD l n d)) → g (getD (mutateAt n f l) k d) ≡ g (getD l k d)

@@ -1,18 +1,20 @@
 -- The table of outcomes: its line for an access has each code's outcome, and an outcome tells the refusal and the next code. Both are tests, computed.
 use Prim.Native.Nat.{ℕ, _+_, _≤_, _<_}
-use mathlib.Core.Path.{_≡_, sym, subst}
+use mathlib.Core.Path.{_≡_, sym, ap, subst}
 use mathlib.Core.Bool.{Bool, true, false, _&&_}
 use mathlib.Core.Option.{Option, none, some}
+use mathlib.Core.List.{List}
+use native.Mathlib.Decide.{decLt}
 use native.Mathlib.Omega.{arith}
 use borrow.Author.Tests.{lt-ltb, le-ltb}
 use lib.Dec.{T, eqb, eqb→eq, ltb}
 use lib.ListN.{getD}
 use Rattle.definition.specs.Notation.{if_then_else_, tableFrom}
-use Rattle.definition.specs.Permission.{AccessKind, NodeRelation, refusal, next, refusalBy, nextBy, code}
+use Rattle.definition.specs.Permission.{AccessKind, NodeRelation, refusal, next, refusalBy, nextBy, endAccess, initAccess, code}
 use Rattle.definition.specs.Permission.AccessKind.{Read, Write}
 use Rattle.definition.specs.Permission.NodeRelation.{Local, Foreign}
 use Rattle.definition.proofs.Booleans.{T-left, T-right, every, in-range}
-use Rattle.permission.specs.Codes.{refusalCode, nextCode, outcome, outcomeTable, lineOf}
+use Rattle.permission.specs.Codes.{refusalCode, nextCode, outcome, outcomeTable, lineIn, lineOf, endAccessCode, initAccessCode, endLines, initLines, lineAt}
 use Rattle.permission.proofs.Codes.{at-past}
 
 -- ---- what the line has at a code
@@ -86,3 +88,20 @@ past-refusal a r c h = sym (at-past (refusalBy a r) 0 c h)
 pub past-next : (a : Option AccessKind) (r : NodeRelation) (c : ℕ) → 15 ≤ c → nextCode a r c ≡ c
 unfolding nextCode
 past-next a r c h = sym (at-past (λ p. code (nextBy a r p)) c c h)
+
+-- ---- the line of the access that a code tells; a number that is no code tells none
+module _ (lines : List ℕ) (access : ℕ → Option AccessKind) (all : T (every (λ c. eqb (getD lines c 0) (lineIn (access c))) 0 16)) (past : (c : ℕ) → 15 ≤ c → none ≡ access c) where
+  told-line : (c : ℕ) → lineAt lines c ≡ lineIn (access c)
+  told-line c =
+      elim (decLt c 16) [
+        | yes l ↦ rw (lt-ltb c 16 l) (eqb→eq _ _ (in-range (λ c. eqb (getD lines c 0) (lineIn (access c))) 0 16 all c (omega arith) (omega arith)))
+        | no l ↦ rw (le-ltb c 16 (omega arith)) (ap lineIn (past c (omega arith)))
+      ]
+
+pub end-line : (c : ℕ) → lineAt endLines c ≡ lineIn (endAccessCode c)
+unfolding endLines tableFrom endAccessCode
+end-line c = told-line endLines endAccessCode tt (at-past endAccess none) c
+
+pub init-line : (c : ℕ) → lineAt initLines c ≡ lineIn (initAccessCode c)
+unfolding initLines tableFrom initAccessCode
+init-line c = told-line initLines initAccessCode tt (at-past initAccess none) c

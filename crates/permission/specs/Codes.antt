@@ -4,6 +4,7 @@ use mathlib.Core.Bool.{Bool, true, false}
 use mathlib.Core.Option.{Option, none, some}
 use mathlib.Core.List.{List, [], _∷_, _++_}
 use lib.Dec.{ltb}
+use lib.ListN.{getD}
 use Rattle.definition.specs.Notation.{if_then_else_, _or_, table}
 use Rattle.definition.specs.Permission as definition
 use Rattle.definition.specs.Permission.{Permission, transition, refusal, next, refusalBy, nextBy, isProtected, unprotected, endAccess, preventsDeallocation, initAccess, code, permission}
@@ -98,3 +99,14 @@ lineIn (some definition.AccessKind.Write) = 32
 abbrev pub lineOf : Option definition.AccessKind → definition.NodeRelation → ℕ
 lineOf a definition.NodeRelation.Foreign = lineIn a
 lineOf a definition.NodeRelation.Local = lineIn a + 48
+
+-- the line of the access that a code tells: of the end of its protector, of its first read
+unfoldable pub endLines : List ℕ
+endLines = table 16 (λ c. lineIn (endAccessCode c))
+
+unfoldable pub initLines : List ℕ
+initLines = table 16 (λ c. lineIn (initAccessCode c))
+
+-- what sixteen lines have for a code; none for a number that is no code
+abbrev pub lineAt : List ℕ → ℕ → ℕ
+lineAt lines c = if ltb c 16 then getD lines c 0 else 0

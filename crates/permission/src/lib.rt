@@ -6,7 +6,7 @@ ghost use Rattle.definition.specs.Permission.AccessKind.{Read, Write};
 ghost use Rattle.definition.specs.Permission.NodeRelation.{Local, Foreign};
 ghost use Rattle.definition.specs.Permission.Protected.{No, Weak, Strong};
 ghost use Rattle.definition.specs.Retag.{startPerm};
-ghost use Rattle.permission.specs.Codes.{accessKind, nodeRelation, maybeAccess, protector, safePointer, transitionCode, outcomeTable, lineIn, lineOf, isProtectedCode, unprotectedCode, endAccessCode, preventsCode, initAccessCode};
+ghost use Rattle.permission.specs.Codes.{accessKind, nodeRelation, maybeAccess, protector, safePointer, transitionCode, outcomeTable, lineIn, lineOf, isProtectedCode, unprotectedCode, endAccessCode, preventsCode, initAccessCode, endLines, initLines};
 
 pub enum AccessKind {
     Read,
@@ -234,6 +234,24 @@ pub fn line_of(access: MaybeAccess, relation: NodeRelation) -> usize
         NodeRelation::Foreign => line,
         NodeRelation::Local => line + 48,
     }
+}
+
+// For each code where the line of the access starts that the end of its protector makes (`end_access`), and of the one by which a retag
+// reads it (`init_access`).
+const END_LINES: [u8; 16] = [0, 0, 0, 0, 0, 0, 0, 0, 16, 0, 16, 32, 0, 16, 0, 0];
+
+const INIT_LINES: [u8; 16] = [0, 16, 16, 16, 16, 16, 0, 16, 16, 16, 16, 16, 16, 16, 16, 0];
+
+pub fn end_lines() -> [u8; 16]
+    ensures { λ r. ⌜ r ≡ endLines ⌝ }
+{
+    END_LINES
+}
+
+pub fn init_lines() -> [u8; 16]
+    ensures { λ r. ⌜ r ≡ initLines ⌝ }
+{
+    INIT_LINES
 }
 
 pub fn is_protected(code: u8) -> bool

@@ -16,9 +16,9 @@ use Rattle.definition.proofs.Trees.{Parents, parent-earlier}
 use Rattle.definition.proofs.Order.{walk}
 use Rattle.tree.specs.declared.Reach.{Reach}
 use Rattle.tree.specs.Plan.{childFrom}
-use Rattle.tree.specs.Walk.{below, nodeRefusal, nodeAfter, walkRefusal, walkAfter}
+use Rattle.tree.specs.Walk.{below, nodeRefusal, walkRefusal}
 use Rattle.tree.proofs.Rows.{or-positive}
-use Rattle.tree.proofs.Walks.{at-child, at-spared, at-other, at-end, after-append}
+use Rattle.tree.proofs.Walks.{at-child, at-spared, at-other, at-end}
 
 -- ---- the search for a child, at node m
 module _ (s n m p : ℕ) (qs : List ℕ) where
@@ -166,31 +166,6 @@ module _ (s : ℕ) (ps : List ℕ) (m child sibling : ℕ) (z : 0 < m) (l : m < 
 
       pub passed-below : here ≡ 0 → refused ≡ 0 → refusal (left s ps sibling) ≡ refusal (left s ps m)
       passed-below q w = ap (λ (k : ℕ). k or refusal (left s ps sibling)) (sym w ∙ e ∙ ap refusal left-below) ∙ passed q
-
-  -- ---- the table
-  module _ (v : Reach) (starts codes after : List ℕ) (h : after ≡ nodeAfter v ps starts m codes) where
-    abbrev changed : List ℕ → List ℕ → List ℕ
-    changed ns cs = walkAfter v ps starts ns cs
-
-    change : changed (left s ps m) codes ≡ changed (left s ps sibling) (changed (left s ps child) after)
-    unfolding walkAfter
-    change =
-        ap (λ (ns : List ℕ). changed ns codes) left-step
-        ∙ after-append v ps starts (left s ps child) (left s ps sibling) (nodeAfter v ps starts m codes)
-        ∙ ap (λ (cs : List ℕ). changed (left s ps sibling) (changed (left s ps child) cs)) (sym h)
-
-    unchanged : (m : ℕ) (cs : List ℕ) → m ≡ 0 → changed (left s ps m) cs ≡ cs
-    unfolding walkAfter
-    unchanged m cs q = ap (λ (ns : List ℕ). changed ns cs) (left-none s ps m q)
-
-    pub changed-last : sibling ≡ 0 → changed (left s ps child) after ≡ changed (left s ps m) codes
-    changed-last e = sym (change ∙ unchanged sibling (changed (left s ps child) after) e)
-
-    pub changed-leaf : child ≡ 0 → changed (left s ps sibling) after ≡ changed (left s ps m) codes
-    changed-leaf e = sym (change ∙ ap (changed (left s ps sibling)) (unchanged child after e))
-
-    pub changed-below : (deeper : List ℕ) → deeper ≡ changed (below s m ps) after → changed (left s ps sibling) deeper ≡ changed (left s ps m) codes
-    changed-below deeper e = sym (change ∙ ap (changed (left s ps sibling)) (sym (e ∙ ap (λ (ns : List ℕ). changed ns after) left-below)))
 
 -- ---- how many nodes come after the one that is visited: none once no node is left
 abbrev pub remaining : ℕ → ℕ → ℕ

@@ -76,6 +76,9 @@ held-fits nodes width codes h n l = omega (arith, ap length (h .rows), rows-leng
 pub held-count : {nodes : List Node} {width : ℕ} {ps codes : List ℕ} → Holds nodes width ps codes → length ps ≡ length nodes
 held-count {nodes} h = ap length (h .parents) ∙ length-map nodes (λ x. x .parent)
 
+pub node-fits : {nodes : List Node} {width : ℕ} {ps codes : List ℕ} → Holds nodes width ps codes → (n : ℕ) → n < length ps → n * width + width ≤ length codes
+node-fits {nodes} {width} {ps} {codes} h n l = held-fits nodes width codes (h .table) n (omega (arith, held-count h))
+
 pub marks-count : (nodes : List Node) (protectors : List ℕ) → protectors ≡ marks nodes → length protectors ≡ length nodes
 marks-count nodes protectors e = ap length e ∙ length-map nodes (λ x. mark (x .protected))
 

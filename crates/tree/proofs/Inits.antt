@@ -1,6 +1,6 @@
 -- A retag's reads byte by byte: what is left of them from the k-th byte on. None is refused if the visit that makes them all at once is not.
 use Prim.Native.Nat.{ℕ, zero, suc, _+_, _-_, _≤_, _<_}
-use mathlib.Core.Path.{_≡_, refl, sym, ap, ap₂, _∙_}
+use mathlib.Core.Path.{_≡_, refl, sym, ap, ap₂, subst⁻¹, _∙_}
 use mathlib.Core.Logic.{_⊎_, inl, inr, ⊎-elim}
 use mathlib.Core.Option.{Option, none, some}
 use mathlib.Core.List.{List, [], _∷_, map}
@@ -9,15 +9,17 @@ use native.Mathlib.Numerals.{add-one}
 use native.Mathlib.Decide.{ℕ-discrete, decLt}
 use native.Mathlib.Omega.{arith}
 use borrow.Author.Tests.{lt-ltb, le-ltb}
-use lib.ListN.{length, getD, drop, length-map, drop-of-length-le, List·getD-map, List·getD-eq-default}
+use lib.ListN.{length, getD, drop, replicate, length-map, drop-of-length-le, List·getD-map, List·getD-eq-default}
 use Rattle.definition.specs.Notation.{_or_, firstRefusal}
 use Rattle.definition.specs.Permission.{AccessKind, NodeRelation, Permission, permissions, permission, initAccess, refusalBy}
+use Rattle.definition.specs.Permission.AccessKind.{Read}
 use Rattle.definition.specs.Permission.Permission.{Unprot}
 use Rattle.definition.specs.Permission.PermissionUnprot.{Cell}
 use Rattle.definition.specs.Tree.{Node, rowRefusal, nodeRefusal, visitRefusal, accessVisit}
 use Rattle.definition.proofs.Ranges.{range-places, list-places}
 use Rattle.definition.proofs.Retags.{byteRefusal, readsRefusal, readsVisit, reads-step}
 use Rattle.permission.specs.Codes.{initAccessCode}
+use Rattle.tree.specs.Walk.{readsAt}
 use Rattle.tree.proofs.Rows.{or-positive}
 
 -- a number that is no code is read as Cell, which has no access either
@@ -128,3 +130,17 @@ module _ (node from : ℕ) (inside : List ℕ) (nodes : List Node) (none-refused
 
   pub reads-none : readsRefusal node from (map permission inside) nodes ≡ 0
   reads-none = sym (reads-all node from inside nodes) ∙ left-none (length inside) 0 (omega arith)
+
+-- ---- bytes that are all read
+abbrev pub ReadTo : List ℕ → ℕ → Type 0
+ReadTo inside k = (j : ℕ) → j < k → initAccessCode (getD inside j 0) ≡ some Read
+
+pub read-next : (inside : List ℕ) (k : ℕ) → ReadTo inside k → initAccessCode (getD inside k 0) ≡ some Read → ReadTo inside (k + 1)
+read-next inside k before here j l = elim (ℕ-discrete j k) [
+  | yes e ↦ subst⁻¹ (λ (i : ℕ). initAccessCode (getD inside i 0) ≡ some Read) e here
+  | no e ↦ before j (omega arith)
+]
+
+pub all-read : (inside : List ℕ) → ReadTo inside (length inside) → readsAt inside ≡ replicate (length inside) (some Read)
+all-read [] h = refl
+all-read (c ∷ cs) h = ap₂ _∷_ (h 0 (omega arith)) (all-read cs (λ j l. h (suc j) (omega arith)))

@@ -5,6 +5,7 @@ pub mod Places
 pub mod Walks
 pub mod Children
 pub mod Plans
+pub mod Sweeps
 pub mod Held
 pub mod Meaning
 pub mod Inits

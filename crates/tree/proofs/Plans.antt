@@ -205,6 +205,6 @@ room-taken ps scratch size l cases =
 pub lent-long : (plan rest : List ℕ) (size : ℕ) → length plan ≡ size → size ≡ length (take size (plan ++ rest))
 lent-long plan rest size e = sym (ap length (take-at plan rest size e) ∙ e)
 
-pub planned-lent : (v : Reach) (ps plan rest table : List ℕ) (size : ℕ) → length plan ≡ size → Linked (v .spared) ps plan × Marked (v .node) ps plan → table ≡ outcomeTable → Planned v ps (take size (plan ++ rest)) table
-planned-lent v ps plan rest table size e made t =
-    subst (λ (p : List ℕ). Planned v ps p table) (sym (take-at plan rest size e)) (record { links = made .0; marks = made .1; outcomes = t })
+pub planned-lent : (v : Reach) (ps plan rest : List ℕ) (size : ℕ) → length plan ≡ size → Linked (v .spared) ps plan × Marked (v .node) ps plan → Planned v ps (take size (plan ++ rest))
+planned-lent v ps plan rest size e made =
+    subst (λ (p : List ℕ). Planned v ps p) (sym (take-at plan rest size e)) (record { links = made .0; marks = made .1 })

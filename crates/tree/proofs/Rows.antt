@@ -1,6 +1,6 @@
 -- Codes under accesses, byte by byte, as the loops over a row go through them.
 use Prim.Native.Nat.{ℕ, zero, suc, _+_, _-_, _≤_, _<_}
-use mathlib.Core.Path.{_≡_, refl, sym, ap, ap₂, _∙_}
+use mathlib.Core.Path.{_≡_, refl, sym, ap, ap₂, subst⁻¹, _∙_}
 use mathlib.Core.Option.{Option, none, some}
 use mathlib.Core.List.{List, [], _∷_, _++_}
 use native.Mathlib.Numerals.{add-one}
@@ -10,12 +10,13 @@ use lib.ListN.{length, getD, take, drop, set, getD-replicate, length-replicate, 
 use lib.Seq.{getD-take, getD-drop, drop-drop, length-take-le, getD-append-add, take-at, drop-at, set-getD}
 use Rattle.definition.specs.Notation.{_or_}
 use Rattle.definition.specs.Permission.{AccessKind, NodeRelation}
+use Rattle.definition.specs.Permission.AccessKind.{Read, Write}
 use Rattle.definition.proofs.Lists.{loop-get, loop-set}
-use Rattle.permission.proofs.Lines.{outcome-at, refused-at, passes-at, next-at, stays-at}
-use Rattle.permission.specs.Codes.{accessKind, refusalCode, nextCode, endAccessCode, initAccessCode, outcome, outcomeTable, lineOf}
+use Rattle.permission.proofs.Lines.{outcome-at, refused-at, passes-at, next-at, stays-at, end-line, init-line}
+use Rattle.permission.specs.Codes.{accessKind, refusalCode, nextCode, endAccessCode, initAccessCode, outcome, outcomeTable, lineIn, lineAt, lineOf}
 use Rattle.tree.specs.declared.Accesses.{Accesses}
 use Rattle.tree.specs.declared.Accesses.the-variants.{Each, AtEnd, AtInit}
-use Rattle.tree.specs.Walk.{accessAt, accessesAt, codesRefusal, codesAfter}
+use Rattle.tree.specs.Walk.{accessAt, accessesAt, Looked, Lines, codesRefusal, codesAfter}
 use Rattle.tree.proofs.Steps.{no-refusal, no-change}
 
 pub or-positive : (n y : ℕ) → 0 < n → (n or y) ≡ n
@@ -158,6 +159,23 @@ module _ (what : Accesses) (n from : ℕ) (starts : List ℕ) (r : NodeRelation)
 
       pub turn-stays : getD now (from + k) 0 ≡ nextCode (accessAt what starts k) r (getD now (from + k) 0) → after ≡ now → after ≡ changedTo (k + 1) row
       turn-stays t s = turn (s ∙ sym (ap (set now (from + k)) (sym t) ∙ set-getD now (from + k) 0))
+
+-- ---- the line of a byte's access, by the code that tells it
+module _ (what : Accesses) (lines : List ℕ) (h : Lines what lines) where
+  pub looked-end : what ≡ AtEnd → Looked what lines
+  looked-end e =
+      subst⁻¹ (λ (w : Accesses). Lines w lines → Looked w lines) e
+      (λ t starts k. ap (λ (l : List ℕ). lineAt l (getD starts k 0)) t ∙ end-line (getD starts k 0)) h
+
+  pub looked-init : what ≡ AtInit → Looked what lines
+  looked-init e =
+      subst⁻¹ (λ (w : Accesses). Lines w lines → Looked w lines) e
+      (λ t starts k. ap (λ (l : List ℕ). lineAt l (getD starts k 0)) t ∙ init-line (getD starts k 0)) h
+
+pub line-small : (x : Option AccessKind) → lineIn x ≤ 32
+line-small none = omega arith
+line-small (some Read) = omega arith
+line-small (some Write) = omega arith
 
 -- ---- a look-up of a code's outcome
 module _ (x : Option AccessKind) (r : NodeRelation) (table : List ℕ) (t : table ≡ outcomeTable) (c line i d : ℕ) (e : line ≡ lineOf x r) (small : c < 16) (at : i ≡ c) (u : d ≡ getD table (line + i) 0) where

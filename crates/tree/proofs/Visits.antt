@@ -1,26 +1,29 @@
 -- The visits that the requests make, as the definition's.
 use Prim.Native.Nat.{ℕ, _+_, _-_, _*_, _≤_, _<_}
 use mathlib.Core.Path.{_≡_, refl, sym, ap, ap₂, subst, _∙_}
-use mathlib.Core.Option.{Option}
+use mathlib.Core.Bool.{false}
+use mathlib.Core.Option.{Option, some}
 use mathlib.Core.List.{List, [], _∷_, map}
 use native.Mathlib.Nat.{le-refl}
 use borrow.Author.Tests.{eq-eqb, ne-eqb}
-use lib.ListN.{length, take, length-map}
+use lib.ListN.{length, take, replicate, length-map}
 use lib.Seq.{take-length}
 use Rattle.definition.specs.Permission.{AccessKind, Permission, endAccess, initAccess, code, permission}
-use Rattle.definition.specs.Tree.{Node, nodeAt, Visit, visitRefusal, visited, accessVisit}
+use Rattle.definition.specs.Permission.AccessKind.{Read}
+use Rattle.definition.specs.Tree.{Node, nodeAt, isAbove, Visit, visitRefusal, visited, accessVisit}
 use Rattle.definition.specs.Frame.{releaseVisit}
-use Rattle.definition.proofs.Trees.{Parents}
+use Rattle.definition.proofs.Trees.{Parents, not-above-smaller}
 use Rattle.definition.proofs.Order.{walk-none, walk-some}
 use Rattle.definition.proofs.Ranges.{Places, range-places, list-places, release-places}
 use Rattle.definition.proofs.Retags.{readsVisit}
 use Rattle.permission.specs.Codes.{accessKind, endAccessCode, initAccessCode}
 use Rattle.permission.proofs.Codes.{end-access-code}
 use Rattle.permission.specs.declared.AccessKind as declared
+use Rattle.permission.specs.declared.AccessKind.the-variants as kinds
 use Rattle.tree.specs.declared.Accesses.the-variants.{Each, AtEnd, AtInit}
 use Rattle.tree.specs.declared.Reach.{Reach}
 use Rattle.tree.specs.Table.{rowsOf, Holds}
-use Rattle.tree.specs.Walk.{Ready}
+use Rattle.tree.specs.Walk.{Ready, readsAt}
 use Rattle.tree.specs.Requests.{unlessRefused, Visited}
 use Rattle.tree.proofs.Held.{rows-length}
 use Rattle.tree.proofs.Meaning.{Means}
@@ -47,12 +50,16 @@ same-ends : (row : List Permission) → map endAccessCode (map code row) ≡ map
 same-ends [] = refl
 same-ends (p ∷ row) = ap₂ _∷_ (end-access-code p) (same-ends row)
 
-module _ (ps : List ℕ) (root : 0 < length ps) (width : ℕ) where
+module _ (ps : List ℕ) (tree : Parents ps) (root : 0 < length ps) (width : ℕ) where
+  -- no node has the number that is spared
+  none-above : (n : ℕ) → n < length ps → isAbove ps (length ps) n ≡ false
+  none-above n l = not-above-smaller ps tree (length ps) n l
+
   -- an access of one kind
   pub means-bytes : (kind : declared.AccessKind) (node from len : ℕ) (starts : List ℕ)
       → Means (record { node = node; spared = length ps; width = width; from = from; len = len; what = Each kind }) starts ps (accessVisit (accessKind kind) node from len)
   means-bytes kind node from len starts =
-      record { accessed = refl; places = range-places (accessKind kind) from len; order = walk-none ps (length ps) (le-refl (length ps)) root }
+      record { accessed = refl; places = range-places (accessKind kind) from len; order = walk-none ps (length ps) (le-refl (length ps)) root; spares = none-above }
 
   -- a retag's reads, all at once
   pub means-reads : (node from : ℕ) (inside : List ℕ)
@@ -62,18 +69,33 @@ module _ (ps : List ℕ) (root : 0 < length ps) (width : ℕ) where
         accessed = refl;
         places = subst (λ (xs : List (Option AccessKind)). Places (readsVisit node from (map permission inside) .accessAt) from xs) (same-accesses inside) (list-places from (map initAccess (map permission inside)));
         order = walk-none ps (length ps) (le-refl (length ps)) root;
+        spares = none-above;
+      }
+
+  -- the same where every byte is read: one access
+  pub means-all : (node from : ℕ) (inside starts : List ℕ) → readsAt inside ≡ replicate (length inside) (some Read)
+      → Means (record { node = node; spared = length ps; width = width; from = from; len = length inside; what = Each kinds.Read }) starts ps
+      (readsVisit node from (map permission inside))
+  means-all node from inside starts e =
+      record {
+        accessed = refl;
+        places = subst (λ (xs : List (Option AccessKind)). Places (readsVisit node from (map permission inside) .accessAt) from xs) (same-accesses inside ∙ ap (map initAccessCode) (take-length inside) ∙ e)
+            (list-places from (map initAccess (map permission inside)));
+        order = walk-none ps (length ps) (le-refl (length ps)) root;
+        spares = none-above;
       }
 
   -- the accesses of a protector's end, by the codes of the node's row
-  pub means-release : Parents ps → (n : ℕ) → 0 < n → (nodes : List Node) (lent : List ℕ) → take width lent ≡ map code (nodeAt nodes n .permissions)
+  pub means-release : (n : ℕ) → 0 < n → (nodes : List Node) (lent : List ℕ) → take width lent ≡ map code (nodeAt nodes n .permissions)
       → Means (record { node = n; spared = n; width = width; from = 0; len = width; what = AtEnd }) lent ps (releaseVisit n nodes)
-  means-release tree n z nodes lent e =
+  means-release n z nodes lent e =
       record {
         accessed = refl;
         places =
             subst (λ (xs : List (Option AccessKind)). Places (releaseVisit n nodes .accessAt) 0 xs) (sym (ap (map endAccessCode) e ∙ same-ends (nodeAt nodes n .permissions)))
             (release-places (nodeAt nodes n .permissions));
         order = walk-some ps tree n z root;
+        spares = λ k l. refl;
       }
 
 -- ---- a refusal leaves the nodes as they were

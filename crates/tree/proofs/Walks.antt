@@ -10,7 +10,7 @@ use lib.Seq.{drop-cons}
 use Rattle.definition.specs.Notation.{_or_, firstRefusal}
 use Rattle.definition.proofs.Order.{walk, walk-child, walk-spared, walk-other}
 use Rattle.tree.specs.declared.Reach.{Reach}
-use Rattle.tree.specs.Walk.{subtree, nodeRefusal, nodeAfter, walkRefusal, walkAfter}
+use Rattle.tree.specs.Walk.{subtree, nodeRefusal, walkRefusal}
 use Rattle.tree.proofs.Rows.{or-positive}
 
 -- ---- the nodes
@@ -40,14 +40,3 @@ module _ (v : Reach) (ps starts codes : List ℕ) where
   pub first-subtree : (n : ℕ) → walkRefusal v ps starts codes (subtree (v .spared) n ps) ≡ (nodeRefusal v ps starts codes n or walkRefusal v ps starts codes (walk (v .spared) n (n + 1) (drop (n + 1) ps)))
   unfolding firstRefusal
   first-subtree n = refl
-
--- ---- the table
-module _ (v : Reach) (ps starts : List ℕ) where
-  pub after-append : (xs ys codes : List ℕ) → walkAfter v ps starts (xs ++ ys) codes ≡ walkAfter v ps starts ys (walkAfter v ps starts xs codes)
-  unfolding walkAfter
-  after-append [] ys codes = refl
-  after-append (x ∷ xs) ys codes = after-append xs ys (nodeAfter v ps starts x codes)
-
-  pub after-subtree : (n : ℕ) (codes : List ℕ) → walkAfter v ps starts (subtree (v .spared) n ps) codes ≡ walkAfter v ps starts (walk (v .spared) n (n + 1) (drop (n + 1) ps)) (nodeAfter v ps starts n codes)
-  unfolding walkAfter
-  after-subtree n codes = refl

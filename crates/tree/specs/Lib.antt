@@ -1,4 +1,5 @@
 pub mod Table
 pub mod Walk
+pub mod Sweep
 pub mod Plan
 pub mod Requests

@@ -7,7 +7,6 @@ use lib.ListN.{length, getD, drop}
 use Rattle.definition.specs.Notation.{if_then_else_}
 use Rattle.definition.specs.Permission.NodeRelation.{Local, Foreign}
 use Rattle.definition.specs.Tree.{relation}
-use Rattle.permission.specs.Codes.{outcomeTable}
 use Rattle.tree.specs.declared.Reach.{Reach}
 
 -- the first child of n among the nodes m, m + 1, .., whose parents are listed, but for s; 0 where there is none
@@ -24,11 +23,10 @@ pub record Linked (s : ℕ) (ps plan : List ℕ) : Type 0 where
 pub record Marked (accessed : ℕ) (ps plan : List ℕ) : Type 0 where
   pub path : (k : ℕ) → 3 * k + 2 < length plan → relation ps k accessed ≡ (if eqb (getD plan (3 * k + 2) 0) 0 then Foreign else Local)
 
--- what a visit is lent: its plan, and the outcomes
-pub record Planned (v : Reach) (ps plan table : List ℕ) : Type 0 where
+-- the plan of a visit
+pub record Planned (v : Reach) (ps plan : List ℕ) : Type 0 where
   pub links : Linked (v .spared) ps plan
   pub marks : Marked (v .node) ps plan
-  pub outcomes : table ≡ outcomeTable
 
 -- ---- while it is made
 abbrev pub Zeros : List ℕ → Type 0

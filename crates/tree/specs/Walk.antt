@@ -11,9 +11,10 @@ use Rattle.definition.specs.Permission.AccessKind.{Write}
 use Rattle.definition.specs.Tree.{relation}
 use Rattle.definition.proofs.Trees.{Parents}
 use Rattle.definition.proofs.Order.{walk}
+use Rattle.permission.specs.declared.AccessKind as declared
 use Rattle.permission.specs.declared.Outcome.{Outcome}
 use Rattle.permission.specs.declared.Outcome.the-variants.{Becomes}
-use Rattle.permission.specs.Codes.{accessKind, transitionCode, refusalCode, nextCode, endAccessCode, initAccessCode, preventsCode}
+use Rattle.permission.specs.Codes.{accessKind, transitionCode, refusalCode, nextCode, endAccessCode, initAccessCode, lineIn, lineAt, endLines, initLines, outcomeTable}
 use Rattle.tree.specs.declared.Accesses.{Accesses}
 use Rattle.tree.specs.declared.Accesses.the-variants.{Each, AtEnd, AtInit}
 use Rattle.tree.specs.declared.Reach.{Reach}
@@ -41,6 +42,25 @@ accessesAt AtInit n starts = map initAccessCode (take n starts)
 abbrev pub planned : Reach → List ℕ → List (Option AccessKind)
 planned v starts = accessesAt (v .what) (v .len) starts
 
+-- of a retag, by its bytes' first codes
+abbrev pub readsAt : List ℕ → List (Option AccessKind)
+readsAt inside = map initAccessCode inside
+
+-- ---- what a visit looks up
+-- the line of the k-th byte's access is what `lines` has for its code
+abbrev pub Looked : Accesses → List ℕ → Type 0
+Looked what lines = (starts : List ℕ) (k : ℕ) → lineAt lines (getD starts k 0) ≡ lineIn (accessAt what starts k)
+
+-- where each byte has an access of its own
+abbrev pub Lines : Accesses → List ℕ → Type 0
+Lines (Each a) lines = Unit {0}
+Lines AtEnd lines = lines ≡ endLines
+Lines AtInit lines = lines ≡ initLines
+
+pub record Tabled (v : Reach) (lines table : List ℕ) : Type 0 where
+  pub accesses : Lines (v .what) lines
+  pub outcomes : table ≡ outcomeTable
+
 -- ---- a row
 abbrev pub stepped : Option AccessKind → NodeRelation → ℕ → Outcome
 stepped none r c = Becomes c
@@ -63,6 +83,15 @@ rowRefusal v starts r row = codesRefusal r (planned v starts) (drop (v .from) ro
 
 abbrev pub rowAfter : Reach → List ℕ → NodeRelation → List ℕ → List ℕ
 rowAfter v starts r row = take (v .from) row ++ codesAfter r (planned v starts) (drop (v .from) row)
+
+-- of one access at all its bytes
+abbrev pub eachAfter : Reach → declared.AccessKind → NodeRelation → List ℕ → List ℕ
+eachAfter v a r row = take (v .from) row ++ codesAfter r (replicate (v .len) (some (accessKind a))) (drop (v .from) row)
+
+-- the visit makes this one, and spares none of these nodes
+pub record EachOf (v : Reach) (a : declared.AccessKind) (ps : List ℕ) : Type 0 where
+  pub same : v .what ≡ Each a
+  pub none : length ps ≤ v .spared
 
 -- ---- a node
 -- row n of a table, and the table with another row there
@@ -87,16 +116,6 @@ below s n ps = walk s n (n + 1) (drop (n + 1) ps)
 abbrev pub subtree : ℕ → ℕ → List ℕ → List ℕ
 subtree s n ps = n ∷ below s n ps
 
--- the first refusal at the nodes of a list, and the table after they were visited in turn
+-- the first refusal at the nodes of a list
 abbrev pub walkRefusal : Reach → List ℕ → List ℕ → List ℕ → List ℕ → ℕ
 walkRefusal v ps starts codes ns = firstRefusal (nodeRefusal v ps starts codes) ns
-
-unfoldable pub walkAfter : Reach → List ℕ → List ℕ → List ℕ → List ℕ → List ℕ
-walkAfter v ps starts [] codes = codes
-walkAfter v ps starts (n ∷ ns) codes = walkAfter v ps starts ns (nodeAfter v ps starts n codes)
-
--- a visit is made: refused, it leaves the table as it was
-pub record Made (v : Reach) (ps starts codes : List ℕ) (answer : ℕ) (after : List ℕ) : Type 0 where
-  pub refusal : answer ≡ walkRefusal v ps starts codes (subtree (v .spared) 0 ps)
-  pub accepted : answer ≡ 0 → after ≡ walkAfter v ps starts (subtree (v .spared) 0 ps) codes
-  pub refused : (answer ≡ 0 → ⊥) → after ≡ codes

@@ -1,30 +1,32 @@
 // One allocation's tree, lent as parts of tables: each node's parent, its mark, and a row of codes for its bytes. A visit goes to every
 // node but one that is spared and its descendants, parents before children, children in the order they were made, each with its bytes ascending.
-// It is made twice: a check that stops at the first refusal, and, if there is none, the change. So a refusal leaves nothing to undo.
+// It is made twice: a check, and, if nothing is refused, the change. So a refusal leaves nothing to undo. Only where something is refused does
+// the order matter, for what comes first: the nodes are gone over from the last to the first, and in the tree's order only to find that.
 use permission::AccessKind;
 use permission::MaybeAccess;
 use permission::NodeRelation;
 use permission::Outcome;
 ghost use mathlib.Core.Path.{_≡_};
-ghost use mathlib.Core.Bool.{not};
+ghost use mathlib.Core.Bool.{true, not};
 ghost use mathlib.Core.Logic.{_⊎_};
 ghost use mathlib.Core.Option.{some};
-ghost use mathlib.Core.List.{_++_, map};
-ghost use Prim.Native.Nat.{_+_, _*_, _≤_, _<_};
+ghost use mathlib.Core.List.{List, _++_, map};
+ghost use Prim.Native.Nat.{ℕ, _+_, _*_, _≤_, _<_};
 ghost use lib.ListN.{length, getD, take, drop, replicate};
 ghost use Rattle.definition.specs.Notation.{any};
 ghost use Rattle.definition.specs.Permission.{permission};
-ghost use Rattle.definition.specs.Permission.AccessKind.{Write};
+ghost use Rattle.definition.specs.Permission.AccessKind.{Read, Write};
 ghost use Rattle.definition.specs.Tree as definition;
-ghost use Rattle.definition.specs.Tree.{nodeAt, accessVisit, visitRefusal, visited};
+ghost use Rattle.definition.specs.Tree.{nodeAt, isAbove, accessVisit, visitRefusal, visited};
 ghost use Rattle.definition.specs.Memory.{nodePreventsDeallocation};
 ghost use Rattle.definition.specs.Memory.Liveness.{Live, Dead};
 ghost use Rattle.definition.specs.Frame.{lacksProtector, releasedNodes};
 ghost use Rattle.definition.proofs.Trees.{Parents};
 ghost use Rattle.definition.proofs.Retags.{readsRefusal, readsVisit};
-ghost use Rattle.permission.specs.Codes.{outcomeTable, accessKind, nodeRelation, maybeAccess, nextCode, preventsCode, isProtectedCode, unprotectedCode};
+ghost use Rattle.permission.specs.Codes.{outcomeTable, lineAt, lineOf, accessKind, nodeRelation, maybeAccess, nextCode, preventsCode, isProtectedCode, unprotectedCode};
 ghost use Rattle.tree.specs.Table.{rowsOf, Holds, HoldsMarks, HoldsAll, Some, Each};
-ghost use Rattle.tree.specs.Walk.{Ready, accessAt, stepped, codesRefusal, codesAfter, rowRefusal, rowAfter, rowAt, nodeRefusal, nodeAfter, below, subtree, walkRefusal, walkAfter, Made};
+ghost use Rattle.tree.specs.Walk.{Ready, readsAt, Looked, Lines, Tabled, accessAt, stepped, codesRefusal, codesAfter, rowRefusal, rowAfter, rowAt, withRowAt, eachAfter, EachOf, nodeRefusal, below, subtree, walkRefusal};
+ghost use Rattle.tree.specs.Sweep.{Spares, markOf, relationOn, Climbed, sweptRefusal, sweptNode, swept, Quiet};
 ghost use Rattle.tree.specs.Plan.{childFrom, Linked, Marked, Planned, Zeros, Roomy, Unmarked, SameLinks};
 ghost use Rattle.tree.specs.Requests.{Visited, Deallocated, releaseRefusal, Released};
 
@@ -59,26 +61,39 @@ fn index(code: u8) -> usize
     code as usize
 }
 
-// The access at the k-th visited byte.
-fn access_at(what: Accesses, starts: &[u8], k: usize) -> MaybeAccess
-    ensures { λ r. ⌜ maybeAccess r ≡ accessAt what (now (starts .entry)) k ⌝ }
+// The lent code at the k-th visited byte, 0 where there is none.
+fn start_at(starts: &[u8], k: usize) -> u8
+    ensures { λ r. ⌜ r ≡ getD (now (starts .entry)) k 0 ⌝ }
 {
-    match what {
-        Accesses::Each(a) => MaybeAccess::Access(a),
-        Accesses::AtEnd => {
-            if k < starts.len() {
-                permission::end_access(starts[k])
-            } else {
-                MaybeAccess::Nothing
-            }
-        }
-        Accesses::AtInit => {
-            if k < starts.len() {
-                permission::init_access(starts[k])
-            } else {
-                MaybeAccess::Nothing
-            }
-        }
+    if k < starts.len() { starts[k] } else { 0 }
+}
+
+// What `lines` has for that code.
+fn lent_line(lines: &[u8; 16], starts: &[u8], k: usize) -> usize
+    ensures { λ r. ⌜ r ≡ lineAt (now (lines .entry)) (getD (now (starts .entry)) k 0) ⌝ }
+{
+    let code = start_at(starts, k);
+    if code < 16 {
+        return index(lines[index(code)]);
+    }
+    0
+}
+
+// Where the outcomes of the access at the k-th visited byte start.
+fn line_at(
+    what: Accesses,
+    lines: &[u8; 16],
+    starts: &[u8],
+    k: usize,
+    relation: NodeRelation,
+) -> usize
+    requires { ⌜ Looked what (now lines) ⌝ }
+    ensures { λ r. ⌜ r ≡ lineOf (accessAt what (now (starts .entry)) k) (nodeRelation relation) ⌝ }
+{
+    let line = lent_line(lines, starts, k);
+    match relation {
+        NodeRelation::Foreign => line,
+        NodeRelation::Local => line + 48,
     }
 }
 
@@ -91,17 +106,26 @@ fn step(code: u8, access: MaybeAccess, relation: NodeRelation) -> Outcome
     }
 }
 
-// What a node is to the accessed one: climbing from that one reaches the node or passes it.
+// `upper` is `lower` or an ancestor of it: climbing from `lower` reaches it or passes it.
+fn is_above(parents: &[u16], upper: usize, lower: usize) -> bool
+    requires { ⌜ Parents (now parents) ⌝ }
+    requires { ⌜ lower < length (now parents) ⌝ }
+    ensures { λ r. ⌜ r ≡ isAbove (now (parents .entry)) upper lower ⌝ }
+{
+    let mut x = lower;
+    while upper < x {
+        x = wide(parents[x]);
+    }
+    x == upper
+}
+
+// What a node is to the accessed one.
 fn relation(parents: &[u16], node: usize, accessed: usize) -> NodeRelation
     requires { ⌜ Parents (now parents) ⌝ }
     requires { ⌜ accessed < length (now parents) ⌝ }
     ensures { λ r. ⌜ nodeRelation r ≡ definition.relation (now (parents .entry)) node accessed ⌝ }
 {
-    let mut x = accessed;
-    while node < x {
-        x = wide(parents[x]);
-    }
-    if x == node {
+    if is_above(parents, node, accessed) {
         NodeRelation::Local
     } else {
         NodeRelation::Foreign
@@ -231,8 +255,15 @@ fn check_each(
 }
 
 // The same where each byte may have another access.
-fn check_bytes(row: &[u8], starts: &[u8], table: &[u8; 96], v: Reach, relation: NodeRelation) -> u8
-    requires { ⌜ now table ≡ outcomeTable ⌝ }
+fn check_bytes(
+    row: &[u8],
+    starts: &[u8],
+    lines: &[u8; 16],
+    table: &[u8; 96],
+    v: Reach,
+    relation: NodeRelation,
+) -> u8
+    requires { ⌜ (now table ≡ outcomeTable) × Looked (v .what) (now lines) ⌝ }
     requires { ⌜ v .from + v .len ≤ length (now row) ⌝ }
     ensures { λ r. ⌜ r ≡ rowRefusal v (now (starts .entry)) (nodeRelation relation) (now (row .entry)) ⌝ }
 {
@@ -243,7 +274,7 @@ fn check_bytes(row: &[u8], starts: &[u8], table: &[u8; 96], v: Reach, relation: 
     while k < len {
         let code = row[from + k];
         if code < 16 {
-            let line = permission::line_of(access_at(what, starts, k), relation);
+            let line = line_at(what, lines, starts, k, relation);
             let outcome = table[line + index(code)];
             if 15 < outcome {
                 return outcome;
@@ -255,16 +286,23 @@ fn check_bytes(row: &[u8], starts: &[u8], table: &[u8; 96], v: Reach, relation: 
 }
 
 // The first refusal among the visited bytes of a row, or 0.
-fn check_row(row: &[u8], starts: &[u8], table: &[u8; 96], v: Reach, relation: NodeRelation) -> u8
-    requires { ⌜ now table ≡ outcomeTable ⌝ }
+fn check_row(
+    row: &[u8],
+    starts: &[u8],
+    lines: &[u8; 16],
+    table: &[u8; 96],
+    v: Reach,
+    relation: NodeRelation,
+) -> u8
+    requires { ⌜ Tabled v (now lines) (now table) ⌝ }
     requires { ⌜ v .from + v .len ≤ length (now row) ⌝ }
     ensures { λ r. ⌜ r ≡ rowRefusal v (now (starts .entry)) (nodeRelation relation) (now (row .entry)) ⌝ }
 {
     let what = v.what;
     match what {
         Accesses::Each(kind) => check_each(row, table, v.from, v.len, kind, relation),
-        Accesses::AtEnd => check_bytes(row, starts, table, v, relation),
-        Accesses::AtInit => check_bytes(row, starts, table, v, relation),
+        Accesses::AtEnd => check_bytes(row, starts, lines, table, v, relation),
+        Accesses::AtInit => check_bytes(row, starts, lines, table, v, relation),
     }
 }
 
@@ -296,8 +334,15 @@ fn apply_each(
 }
 
 // The same where each byte may have another access.
-fn apply_bytes(row: &mut [u8], starts: &[u8], table: &[u8; 96], v: Reach, relation: NodeRelation)
-    requires { ⌜ now table ≡ outcomeTable ⌝ }
+fn apply_bytes(
+    row: &mut [u8],
+    starts: &[u8],
+    lines: &[u8; 16],
+    table: &[u8; 96],
+    v: Reach,
+    relation: NodeRelation,
+)
+    requires { ⌜ (now table ≡ outcomeTable) × Looked (v .what) (now lines) ⌝ }
     requires { ⌜ v .from + v .len ≤ length (now row) ⌝ }
     ensures { λ _. ⌜ now (row .exit) ≡ rowAfter v (now (starts .entry)) (nodeRelation relation) (now (row .entry)) ⌝ }
 {
@@ -308,7 +353,7 @@ fn apply_bytes(row: &mut [u8], starts: &[u8], table: &[u8; 96], v: Reach, relati
     while k < len {
         let code = row[from + k];
         if code < 16 {
-            let line = permission::line_of(access_at(what, starts, k), relation);
+            let line = line_at(what, lines, starts, k, relation);
             let outcome = table[line + index(code)];
             if outcome < 16 {
                 row[from + k] = outcome;
@@ -319,20 +364,106 @@ fn apply_bytes(row: &mut [u8], starts: &[u8], table: &[u8; 96], v: Reach, relati
 }
 
 // The visited bytes of a row, each as its access leaves it.
-fn apply_row(row: &mut [u8], starts: &[u8], table: &[u8; 96], v: Reach, relation: NodeRelation)
-    requires { ⌜ now table ≡ outcomeTable ⌝ }
+fn apply_row(
+    row: &mut [u8],
+    starts: &[u8],
+    lines: &[u8; 16],
+    table: &[u8; 96],
+    v: Reach,
+    relation: NodeRelation,
+)
+    requires { ⌜ Tabled v (now lines) (now table) ⌝ }
     requires { ⌜ v .from + v .len ≤ length (now row) ⌝ }
     ensures { λ _. ⌜ now (row .exit) ≡ rowAfter v (now (starts .entry)) (nodeRelation relation) (now (row .entry)) ⌝ }
 {
     let what = v.what;
     match what {
         Accesses::Each(kind) => apply_each(row, table, v.from, v.len, kind, relation),
-        Accesses::AtEnd => apply_bytes(row, starts, table, v, relation),
-        Accesses::AtInit => apply_bytes(row, starts, table, v, relation),
+        Accesses::AtEnd => apply_bytes(row, starts, lines, table, v, relation),
+        Accesses::AtInit => apply_bytes(row, starts, lines, table, v, relation),
     }
 }
 
-// ---- the visit
+// ---- the rows of a table
+
+// The first refusal in the row of node n, to which the access stands in a relation, or 0.
+fn check_at(
+    codes: &[u8],
+    starts: &[u8],
+    lines: &[u8; 16],
+    table: &[u8; 96],
+    v: Reach,
+    n: usize,
+    relation: NodeRelation,
+) -> u8
+    requires { ⌜ Tabled v (now lines) (now table) ⌝ }
+    requires { ⌜ (n * v .width + v .width ≤ length (now codes)) × (v .from + v .len ≤ v .width) ⌝ }
+    ensures { λ r. ⌜ r ≡ rowRefusal v (now (starts .entry)) (nodeRelation relation) (rowAt (v .width) n (now (codes .entry))) ⌝ }
+{
+    let width = v.width;
+    let start = n * width;
+    let end = start + width;
+    check_row(&codes[start..end], starts, lines, table, v, relation)
+}
+
+// The row of node n, each byte as its access leaves it.
+fn apply_at(
+    codes: &mut [u8],
+    starts: &[u8],
+    lines: &[u8; 16],
+    table: &[u8; 96],
+    v: Reach,
+    n: usize,
+    relation: NodeRelation,
+)
+    requires { ⌜ Tabled v (now lines) (now table) ⌝ }
+    requires { ⌜ (n * v .width + v .width ≤ length (now codes)) × (v .from + v .len ≤ v .width) ⌝ }
+    ensures { λ _. ⌜ now (codes .exit) ≡ withRowAt (v .width) n (rowAfter v (now (starts .entry)) (nodeRelation relation) (rowAt (v .width) n (now (codes .entry)))) (now (codes .entry)) ⌝ }
+{
+    let width = v.width;
+    let start = n * width;
+    let end = start + width;
+    apply_row(&mut codes[start..end], starts, lines, table, v, relation);
+}
+
+// The same for one access at all its bytes.
+fn check_each_at(
+    codes: &[u8],
+    table: &[u8; 96],
+    v: Reach,
+    kind: AccessKind,
+    n: usize,
+    relation: NodeRelation,
+) -> u8
+    requires { ⌜ now table ≡ outcomeTable ⌝ }
+    requires { ⌜ (n * v .width + v .width ≤ length (now codes)) × (v .from + v .len ≤ v .width) ⌝ }
+    ensures { λ r. ⌜ r ≡ codesRefusal (nodeRelation relation) (replicate (v .len) (some (accessKind kind))) (drop (v .from) (rowAt (v .width) n (now (codes .entry)))) ⌝ }
+{
+    let width = v.width;
+    let start = n * width;
+    let end = start + width;
+    check_each(&codes[start..end], table, v.from, v.len, kind, relation)
+}
+
+fn apply_each_at(
+    codes: &mut [u8],
+    table: &[u8; 96],
+    v: Reach,
+    kind: AccessKind,
+    n: usize,
+    relation: NodeRelation,
+)
+    requires { ⌜ now table ≡ outcomeTable ⌝ }
+    requires { ⌜ (n * v .width + v .width ≤ length (now codes)) × (v .from + v .len ≤ v .width) ⌝ }
+    ensures { λ _. ⌜ now (codes .exit) ≡ withRowAt (v .width) n (eachAfter v kind (nodeRelation relation) (rowAt (v .width) n (now (codes .entry)))) (now (codes .entry)) ⌝ }
+{
+    let width = v.width;
+    let start = n * width;
+    let end = start + width;
+    apply_each(&mut codes[start..end], table, v.from, v.len, kind, relation);
+}
+
+// ---- in the order of the tree: which refusal comes first
 
 // The first refusal at node n, or 0.
 fn check_node(
@@ -340,42 +471,18 @@ fn check_node(
     parents: &[u16],
     codes: &[u8],
     starts: &[u8],
+    lines: &[u8; 16],
     table: &[u8; 96],
     v: Reach,
     n: usize,
 ) -> u8
-    requires { ⌜ Planned v (now parents) (now plan) (now table) ⌝ }
+    requires { ⌜ Planned v (now parents) (now plan) × Tabled v (now lines) (now table) ⌝ }
     requires { ⌜ Ready v (now parents) (now codes) ⌝ }
     requires { ⌜ n < length (now parents) ⌝ }
     ensures { λ r. ⌜ r ≡ nodeRefusal v (now (parents .entry)) (now (starts .entry)) (now (codes .entry)) n ⌝ }
 {
-    let width = v.width;
-    let start = n * width;
-    let end = start + width;
     let relation = planned_relation(plan, parents, n, v.node);
-    check_row(&codes[start..end], starts, table, v, relation)
-}
-
-// The row of node n as the visit leaves it.
-fn apply_node(
-    plan: &[u16],
-    parents: &[u16],
-    codes: &mut [u8],
-    starts: &[u8],
-    table: &[u8; 96],
-    v: Reach,
-    n: usize,
-)
-    requires { ⌜ Planned v (now parents) (now plan) (now table) ⌝ }
-    requires { ⌜ Ready v (now parents) (now codes) ⌝ }
-    requires { ⌜ n < length (now parents) ⌝ }
-    ensures { λ _. ⌜ now (codes .exit) ≡ nodeAfter v (now (parents .entry)) (now (starts .entry)) n (now (codes .entry)) ⌝ }
-{
-    let width = v.width;
-    let start = n * width;
-    let end = start + width;
-    let relation = planned_relation(plan, parents, n, v.node);
-    apply_row(&mut codes[start..end], starts, table, v, relation);
+    check_at(codes, starts, lines, table, v, n, relation)
 }
 
 // The first refusal at the descendants of node n, or 0.
@@ -384,11 +491,12 @@ fn check_below(
     parents: &[u16],
     codes: &[u8],
     starts: &[u8],
+    lines: &[u8; 16],
     table: &[u8; 96],
     v: Reach,
     n: usize,
 ) -> u8
-    requires { ⌜ Planned v (now parents) (now plan) (now table) ⌝ }
+    requires { ⌜ Planned v (now parents) (now plan) × Tabled v (now lines) (now table) ⌝ }
     requires { ⌜ Ready v (now parents) (now codes) ⌝ }
     requires { ⌜ n < length (now parents) ⌝ }
     ensures { λ r. ⌜ r ≡ walkRefusal v (now (parents .entry)) (now (starts .entry)) (now (codes .entry)) (below (v .spared) n (now (parents .entry))) ⌝ }
@@ -396,7 +504,7 @@ fn check_below(
     let spared = v.spared;
     let mut m = first_child(plan, parents, spared, n);
     while m != 0 {
-        let here = check_node(plan, parents, codes, starts, table, v, m);
+        let here = check_node(plan, parents, codes, starts, lines, table, v, m);
         if here != 0 {
             return here;
         }
@@ -406,7 +514,7 @@ fn check_below(
             m = child; // of the last child, its own children are what is left
         } else {
             if child != 0 {
-                let refused = check_below(plan, parents, codes, starts, table, v, m);
+                let refused = check_below(plan, parents, codes, starts, lines, table, v, m);
                 if refused != 0 {
                     return refused;
                 }
@@ -417,96 +525,26 @@ fn check_below(
     0
 }
 
-// The descendants of node n, each row as the visit leaves it.
-fn apply_below(
-    plan: &[u16],
-    parents: &[u16],
-    codes: &mut [u8],
-    starts: &[u8],
-    table: &[u8; 96],
-    v: Reach,
-    n: usize,
-)
-    requires { ⌜ Planned v (now parents) (now plan) (now table) ⌝ }
-    requires { ⌜ Ready v (now parents) (now codes) ⌝ }
-    requires { ⌜ n < length (now parents) ⌝ }
-    ensures { λ _. ⌜ now (codes .exit) ≡ walkAfter v (now (parents .entry)) (now (starts .entry)) (below (v .spared) n (now (parents .entry))) (now (codes .entry)) ⌝ }
-{
-    let spared = v.spared;
-    let mut m = first_child(plan, parents, spared, n);
-    while m != 0 {
-        apply_node(plan, parents, codes, starts, table, v, m);
-        let child = first_child(plan, parents, spared, m);
-        let sibling = next_sibling(plan, parents, spared, m);
-        if sibling == 0 {
-            m = child;
-        } else {
-            if child != 0 {
-                apply_below(plan, parents, codes, starts, table, v, m);
-            }
-            m = sibling;
-        }
-    }
-}
-
 // The first refusal of a visit, or 0.
 fn check_from(
     plan: &[u16],
     parents: &[u16],
     codes: &[u8],
     starts: &[u8],
+    lines: &[u8; 16],
     table: &[u8; 96],
     v: Reach,
 ) -> u8
-    requires { ⌜ Planned v (now parents) (now plan) (now table) ⌝ }
+    requires { ⌜ Planned v (now parents) (now plan) × Tabled v (now lines) (now table) ⌝ }
     requires { ⌜ Ready v (now parents) (now codes) ⌝ }
     ensures { λ r. ⌜ r ≡ walkRefusal v (now (parents .entry)) (now (starts .entry)) (now (codes .entry)) (subtree (v .spared) 0 (now (parents .entry))) ⌝ }
 {
-    let here = check_node(plan, parents, codes, starts, table, v, 0);
+    let here = check_node(plan, parents, codes, starts, lines, table, v, 0);
     if here != 0 {
         return here;
     }
-    check_below(plan, parents, codes, starts, table, v, 0)
+    check_below(plan, parents, codes, starts, lines, table, v, 0)
 }
-
-// The rows as a visit leaves them.
-fn apply_from(
-    plan: &[u16],
-    parents: &[u16],
-    codes: &mut [u8],
-    starts: &[u8],
-    table: &[u8; 96],
-    v: Reach,
-)
-    requires { ⌜ Planned v (now parents) (now plan) (now table) ⌝ }
-    requires { ⌜ Ready v (now parents) (now codes) ⌝ }
-    ensures { λ _. ⌜ now (codes .exit) ≡ walkAfter v (now (parents .entry)) (now (starts .entry)) (subtree (v .spared) 0 (now (parents .entry))) (now (codes .entry)) ⌝ }
-{
-    apply_node(plan, parents, codes, starts, table, v, 0);
-    apply_below(plan, parents, codes, starts, table, v, 0);
-}
-
-// Both: the first refusal with the rows as they were; or 0, with the rows as the visit leaves them.
-fn visit_from(
-    plan: &[u16],
-    parents: &[u16],
-    codes: &mut [u8],
-    starts: &[u8],
-    table: &[u8; 96],
-    v: Reach,
-) -> u8
-    requires { ⌜ Planned v (now parents) (now plan) (now table) ⌝ }
-    requires { ⌜ Ready v (now parents) (now codes) ⌝ }
-    ensures { λ r. ⌜ Made v (now (parents .entry)) (now (starts .entry)) (now (codes .entry)) r (now (codes .exit)) ⌝ }
-{
-    let refused = check_from(plan, parents, codes, starts, table, v);
-    if refused == 0 {
-        apply_from(plan, parents, codes, starts, table, v);
-    }
-    refused
-}
-
-// ---- a visit with its plan: the scratch, all zeros, is for it
 
 // How many numbers the plan has: none where it would not fit, or for one node, where there is nothing to look up.
 fn plan_size(nodes: usize, room: usize) -> usize
@@ -536,77 +574,258 @@ fn make_plan(parents: &[u16], plan: &mut [u16], v: Reach)
     }
 }
 
-fn check_with(scratch: &mut [u16], parents: &[u16], codes: &[u8], starts: &[u8], v: Reach) -> u8
-    requires { ⌜ Zeros (now scratch) ⌝ }
+// The scratch, all zeros, is for the plan.
+fn check_with(
+    scratch: &mut [u16],
+    parents: &[u16],
+    codes: &[u8],
+    starts: &[u8],
+    lines: &[u8; 16],
+    table: &[u8; 96],
+    v: Reach,
+) -> u8
+    requires { ⌜ Zeros (now scratch) × Tabled v (now lines) (now table) ⌝ }
     requires { ⌜ Ready v (now parents) (now codes) ⌝ }
     ensures { λ r. ⌜ r ≡ walkRefusal v (now (parents .entry)) (now (starts .entry)) (now (codes .entry)) (subtree (v .spared) 0 (now (parents .entry))) ⌝ }
 {
-    let table = permission::outcomes();
     let size = plan_size(parents.len(), scratch.len());
     make_plan(parents, &mut scratch[..size], v);
-    check_from(&scratch[..size], parents, codes, starts, &table, v)
+    check_from(&scratch[..size], parents, codes, starts, lines, table, v)
 }
 
-fn apply_with(scratch: &mut [u16], parents: &[u16], codes: &mut [u8], starts: &[u8], v: Reach)
-    requires { ⌜ Zeros (now scratch) ⌝ }
-    requires { ⌜ Ready v (now parents) (now codes) ⌝ }
-    ensures { λ _. ⌜ now (codes .exit) ≡ walkAfter v (now (parents .entry)) (now (starts .entry)) (subtree (v .spared) 0 (now (parents .entry))) (now (codes .entry)) ⌝ }
-{
-    let table = permission::outcomes();
-    let size = plan_size(parents.len(), scratch.len());
-    make_plan(parents, &mut scratch[..size], v);
-    apply_from(&scratch[..size], parents, codes, starts, &table, v);
-}
-
-fn visit_with(scratch: &mut [u16], parents: &[u16], codes: &mut [u8], starts: &[u8], v: Reach) -> u8
-    requires { ⌜ Zeros (now scratch) ⌝ }
-    requires { ⌜ Ready v (now parents) (now codes) ⌝ }
-    ensures { λ r. ⌜ Made v (now (parents .entry)) (now (starts .entry)) (now (codes .entry)) r (now (codes .exit)) ⌝ }
-{
-    let table = permission::outcomes();
-    let size = plan_size(parents.len(), scratch.len());
-    make_plan(parents, &mut scratch[..size], v);
-    visit_from(&scratch[..size], parents, codes, starts, &table, v)
-}
-
-// The check of a visit: the first refusal, or 0. A small tree has a small plan.
-fn check(parents: &[u16], codes: &[u8], starts: &[u8], v: Reach) -> u8
+// A small tree has a small plan.
+fn check_in_order(
+    parents: &[u16],
+    codes: &[u8],
+    starts: &[u8],
+    lines: &[u8; 16],
+    table: &[u8; 96],
+    v: Reach,
+) -> u8
+    requires { ⌜ Tabled v (now lines) (now table) ⌝ }
     requires { ⌜ Ready v (now parents) (now codes) ⌝ }
     ensures { λ r. ⌜ r ≡ walkRefusal v (now (parents .entry)) (now (starts .entry)) (now (codes .entry)) (subtree (v .spared) 0 (now (parents .entry))) ⌝ }
 {
     if parents.len() <= 16 {
         let mut scratch = [0u16; 48];
-        return check_with(&mut scratch, parents, codes, starts, v);
+        return check_with(&mut scratch, parents, codes, starts, lines, table, v);
     }
     let mut scratch = [0u16; 3072];
-    check_with(&mut scratch, parents, codes, starts, v)
+    check_with(&mut scratch, parents, codes, starts, lines, table, v)
+}
+
+// ---- from the last node to the first: whether there is a refusal, and the change, which no order alters
+// `path` is where the path from the accessed node to the root meets the nodes that are left: that one is local, those behind it are foreign.
+
+// The spared node and its descendants have a mark. A node that the marks have no number for is looked for in the parents.
+fn is_spared(marks: &[u8], parents: &[u16], spared: usize, n: usize) -> bool
+    requires { ⌜ Parents (now parents) × Spares spared (now parents) (now marks) ⌝ }
+    requires { ⌜ n < length (now parents) ⌝ }
+    ensures { λ r. ⌜ r ≡ isAbove (now (parents .entry)) spared n ⌝ }
+{
+    if n < marks.len() {
+        return marks[n] != 0;
+    }
+    is_above(parents, spared, n)
+}
+
+// The mark of a node, if those of the nodes before it are there: the spared one has 1, any later one its parent's.
+fn mark_of(parents: &[u16], marks: &[u8], spared: usize, n: usize) -> u8
+    requires { ⌜ Parents (now parents) ⌝ }
+    requires { ⌜ (spared ≤ n) × (n < length (now marks)) × (length (now marks) ≤ length (now parents)) ⌝ }
+    ensures { λ r. ⌜ r ≡ markOf (now (parents .entry)) (now (marks .entry)) spared n ⌝ }
+{
+    if n == spared {
+        return 1;
+    }
+    marks[wide(parents[n])]
+}
+
+// The marks of the spared node and of every later one.
+fn mark_spared(parents: &[u16], marks: &mut [u8], spared: usize)
+    requires { ⌜ Parents (now parents) × Zeros (now marks) ⌝ }
+    requires { ⌜ length (now marks) ≤ length (now parents) ⌝ }
+    ensures { λ _. ⌜ Spares spared (now (parents .entry)) (now (marks .exit)) ⌝ }
+{
+    let mut n = spared;
+    while n < marks.len() {
+        marks[n] = mark_of(parents, marks, spared, n);
+        n += 1;
+    }
+}
+
+fn relation_on(path: usize, n: usize) -> NodeRelation
+    ensures { λ r. ⌜ nodeRelation r ≡ relationOn path n ⌝ }
+{
+    if n == path {
+        NodeRelation::Local
+    } else {
+        NodeRelation::Foreign
+    }
+}
+
+// The first refusal at node n, or 0; the spared are passed over.
+fn check_swept(
+    marks: &[u8],
+    parents: &[u16],
+    codes: &[u8],
+    starts: &[u8],
+    lines: &[u8; 16],
+    table: &[u8; 96],
+    v: Reach,
+    n: usize,
+    path: usize,
+) -> u8
+    requires { ⌜ Tabled v (now lines) (now table) × Spares (v .spared) (now parents) (now marks) ⌝ }
+    requires { ⌜ Ready v (now parents) (now codes) ⌝ }
+    requires { ⌜ (n < length (now parents)) × Climbed (now parents) (v .node) path n ⌝ }
+    ensures { λ r. ⌜ r ≡ sweptRefusal v (now (parents .entry)) (now (starts .entry)) (now (codes .entry)) n ⌝ }
+{
+    if is_spared(marks, parents, v.spared, n) {
+        return 0;
+    }
+    check_at(codes, starts, lines, table, v, n, relation_on(path, n))
+}
+
+// The row of node n as the visit leaves it.
+fn apply_swept(
+    marks: &[u8],
+    parents: &[u16],
+    codes: &mut [u8],
+    starts: &[u8],
+    lines: &[u8; 16],
+    table: &[u8; 96],
+    v: Reach,
+    n: usize,
+    path: usize,
+)
+    requires { ⌜ Tabled v (now lines) (now table) × Spares (v .spared) (now parents) (now marks) ⌝ }
+    requires { ⌜ Ready v (now parents) (now codes) ⌝ }
+    requires { ⌜ (n < length (now parents)) × Climbed (now parents) (v .node) path n ⌝ }
+    ensures { λ _. ⌜ now (codes .exit) ≡ sweptNode v (now (parents .entry)) (now (starts .entry)) n (now (codes .entry)) ⌝ }
+{
+    if is_spared(marks, parents, v.spared, n) {
+        return;
+    }
+    apply_at(codes, starts, lines, table, v, n, relation_on(path, n));
+}
+
+// No visited node is refused.
+fn is_quiet(
+    marks: &[u8],
+    parents: &[u16],
+    codes: &[u8],
+    starts: &[u8],
+    lines: &[u8; 16],
+    table: &[u8; 96],
+    v: Reach,
+) -> bool
+    requires { ⌜ Tabled v (now lines) (now table) × Spares (v .spared) (now parents) (now marks) ⌝ }
+    requires { ⌜ Ready v (now parents) (now codes) ⌝ }
+    ensures { λ r. ⌜ (r ≡ true → Quiet v (now (parents .entry)) (now (starts .entry)) (now (codes .entry))) ⌝ }
+{
+    let mut path = v.node;
+    let mut n = parents.len();
+    while 0 < n {
+        n -= 1;
+        if check_swept(marks, parents, codes, starts, lines, table, v, n, path) != 0 {
+            return false;
+        }
+        if n == path {
+            path = wide(parents[n]);
+        }
+    }
+    true
+}
+
+// The first refusal of a visit, or 0.
+fn check(
+    marks: &[u8],
+    parents: &[u16],
+    codes: &[u8],
+    starts: &[u8],
+    lines: &[u8; 16],
+    table: &[u8; 96],
+    v: Reach,
+) -> u8
+    requires { ⌜ Tabled v (now lines) (now table) × Spares (v .spared) (now parents) (now marks) ⌝ }
+    requires { ⌜ Ready v (now parents) (now codes) × (0 < v .spared) ⌝ }
+    ensures { λ r. ⌜ r ≡ walkRefusal v (now (parents .entry)) (now (starts .entry)) (now (codes .entry)) (subtree (v .spared) 0 (now (parents .entry))) ⌝ }
+{
+    if is_quiet(marks, parents, codes, starts, lines, table, v) {
+        return 0;
+    }
+    check_in_order(parents, codes, starts, lines, table, v)
 }
 
 // The change of a visit.
-fn apply(parents: &[u16], codes: &mut [u8], starts: &[u8], v: Reach)
+fn apply(
+    marks: &[u8],
+    parents: &[u16],
+    codes: &mut [u8],
+    starts: &[u8],
+    lines: &[u8; 16],
+    table: &[u8; 96],
+    v: Reach,
+)
+    requires { ⌜ Tabled v (now lines) (now table) × Spares (v .spared) (now parents) (now marks) ⌝ }
     requires { ⌜ Ready v (now parents) (now codes) ⌝ }
-    ensures { λ _. ⌜ now (codes .exit) ≡ walkAfter v (now (parents .entry)) (now (starts .entry)) (subtree (v .spared) 0 (now (parents .entry))) (now (codes .entry)) ⌝ }
+    ensures { λ _. ⌜ now (codes .exit) ≡ swept v (now (parents .entry)) (now (starts .entry)) (length (now (parents .entry))) (now (codes .entry)) ⌝ }
 {
-    if parents.len() <= 16 {
-        let mut scratch = [0u16; 48];
-        apply_with(&mut scratch, parents, codes, starts, v);
-    } else {
-        let mut scratch = [0u16; 3072];
-        apply_with(&mut scratch, parents, codes, starts, v);
+    let mut path = v.node;
+    let mut n = parents.len();
+    while 0 < n {
+        n -= 1;
+        apply_swept(marks, parents, codes, starts, lines, table, v, n, path);
+        if n == path {
+            path = wide(parents[n]);
+        }
     }
 }
 
-// Both, by one plan.
-fn visit(parents: &[u16], codes: &mut [u8], starts: &[u8], v: Reach) -> u8
+// ---- the same for one access at all its bytes, which spares no node: the visit of a load or a store
+
+// No node is refused.
+fn is_quiet_each(
+    parents: &[u16],
+    codes: &[u8],
+    table: &[u8; 96],
+    v: Reach,
+    kind: AccessKind,
+) -> bool
+    requires { ⌜ (now table ≡ outcomeTable) × EachOf v kind (now parents) ⌝ }
     requires { ⌜ Ready v (now parents) (now codes) ⌝ }
-    ensures { λ r. ⌜ Made v (now (parents .entry)) (now (starts .entry)) (now (codes .entry)) r (now (codes .exit)) ⌝ }
+    ensures { λ r. ⌜ (r ≡ true → (starts : List ℕ) → Quiet v (now (parents .entry)) starts (now (codes .entry))) ⌝ }
 {
-    if parents.len() <= 16 {
-        let mut scratch = [0u16; 48];
-        return visit_with(&mut scratch, parents, codes, starts, v);
+    let mut path = v.node;
+    let mut n = parents.len();
+    while 0 < n {
+        n -= 1;
+        if check_each_at(codes, table, v, kind, n, relation_on(path, n)) != 0 {
+            return false;
+        }
+        if n == path {
+            path = wide(parents[n]);
+        }
     }
-    let mut scratch = [0u16; 3072];
-    visit_with(&mut scratch, parents, codes, starts, v)
+    true
+}
+
+// Every row as the visit leaves it.
+fn apply_each_node(parents: &[u16], codes: &mut [u8], table: &[u8; 96], v: Reach, kind: AccessKind)
+    requires { ⌜ (now table ≡ outcomeTable) × EachOf v kind (now parents) ⌝ }
+    requires { ⌜ Ready v (now parents) (now codes) ⌝ }
+    ensures { λ _. ⌜ ((starts : List ℕ) → now (codes .exit) ≡ swept v (now (parents .entry)) starts (length (now (parents .entry))) (now (codes .entry))) ⌝ }
+{
+    let mut path = v.node;
+    let mut n = parents.len();
+    while 0 < n {
+        n -= 1;
+        apply_each_at(codes, table, v, kind, n, relation_on(path, n));
+        if n == path {
+            path = wide(parents[n]);
+        }
+    }
 }
 
 // ---- load, store
@@ -633,7 +852,12 @@ fn access_refusal(
         len,
         what: Accesses::Each(kind),
     };
-    check(parents, codes, codes, v)
+    let table = permission::outcomes();
+    if is_quiet_each(parents, codes, &table, v, kind) {
+        return 0;
+    }
+    let lines = [0u8; 16];
+    check_in_order(parents, codes, codes, &lines, &table, v)
 }
 
 // The access made.
@@ -650,7 +874,6 @@ fn apply_access(
     requires { ⌜ (node < length (now parents)) × (from + len ≤ width) ⌝ }
     ensures { λ _. ⌜ Each (λ nodes. Holds nodes width (now (parents .entry)) (now (codes .entry))) (λ nodes. now (codes .exit) ≡ rowsOf (visited (accessVisit (accessKind kind) node from len) nodes)) ⌝ }
 {
-    let unused = [0; 1];
     let v = Reach {
         node,
         spared: parents.len(),
@@ -659,7 +882,8 @@ fn apply_access(
         len,
         what: Accesses::Each(kind),
     };
-    apply(parents, codes, &unused, v);
+    let table = permission::outcomes();
+    apply_each_node(parents, codes, &table, v, kind);
 }
 
 // A load's or a store's access: the first refusal in visiting order, with the table as it was; or 0, with every visited code as the access leaves it.
@@ -676,16 +900,11 @@ pub fn access(
     requires { ⌜ (node < length (now parents)) × (from + len ≤ width) ⌝ }
     ensures { λ r. ⌜ Each (λ nodes. Holds nodes width (now (parents .entry)) (now (codes .entry))) (λ nodes. Visited (accessVisit (accessKind kind) node from len) nodes r (now (codes .exit))) ⌝ }
 {
-    let unused = [0; 1];
-    let v = Reach {
-        node,
-        spared: parents.len(),
-        width,
-        from,
-        len,
-        what: Accesses::Each(kind),
-    };
-    visit(parents, codes, &unused, v)
+    let refused = access_refusal(parents, codes, width, node, kind, from, len);
+    if refused == 0 {
+        apply_access(parents, codes, width, node, kind, from, len);
+    }
+    refused
 }
 
 // ---- deallocate
@@ -795,6 +1014,66 @@ fn first_refused_read(
     0
 }
 
+// Every code makes a retag read its byte: none is a cell's.
+fn reads_all(inside: &[u8]) -> bool
+    ensures { λ r. ⌜ (r ≡ true → readsAt (now (inside .entry)) ≡ replicate (length (now (inside .entry))) (some Read)) ⌝ }
+{
+    let mut k = 0;
+    while k < inside.len() {
+        match permission::init_access(inside[k]) {
+            MaybeAccess::Nothing => {
+                return false;
+            }
+            MaybeAccess::Access(kind) => match kind {
+                AccessKind::Read => {}
+                AccessKind::Write => {
+                    return false;
+                }
+            },
+        }
+        k += 1;
+    }
+    true
+}
+
+// No read of a retag is refused. Reads of all bytes are one access.
+fn reads_quiet(
+    parents: &[u16],
+    codes: &[u8],
+    inside: &[u8],
+    width: usize,
+    node: usize,
+    from: usize,
+) -> bool
+    requires { ⌜ Some (λ nodes. Holds nodes width (now parents) (now codes)) ⌝ }
+    requires { ⌜ (node < length (now parents)) × (from + length (now inside) ≤ width) ⌝ }
+    ensures { λ r. ⌜ (r ≡ true → Each (λ nodes. Holds nodes width (now (parents .entry)) (now (codes .entry))) (λ nodes. visitRefusal (readsVisit node from (map permission (now (inside .entry)))) nodes ≡ 0)) ⌝ }
+{
+    let table = permission::outcomes();
+    if reads_all(inside) {
+        let all = Reach {
+            node,
+            spared: parents.len(),
+            width,
+            from,
+            len: inside.len(),
+            what: Accesses::Each(AccessKind::Read),
+        };
+        return is_quiet_each(parents, codes, &table, all, AccessKind::Read);
+    }
+    let v = Reach {
+        node,
+        spared: parents.len(),
+        width,
+        from,
+        len: inside.len(),
+        what: Accesses::AtInit,
+    };
+    let unmarked = [0u8; 1];
+    let lines = permission::init_lines();
+    is_quiet(&unmarked, parents, codes, inside, &lines, &table, v)
+}
+
 // A retag's reads through a node, of the bytes from `from` on whose start codes are `inside`, but for Cell: the first refusal, byte by byte over the
 // whole tree, or 0. One visit of all bytes tells whether there is any; where there is, which comes first is looked for.
 pub fn reads_refusal(
@@ -809,15 +1088,7 @@ pub fn reads_refusal(
     requires { ⌜ (node < length (now parents)) × (from + length (now inside) ≤ width) ⌝ }
     ensures { λ r. ⌜ Each (λ nodes. Holds nodes width (now (parents .entry)) (now (codes .entry))) (λ nodes. r ≡ readsRefusal node from (map permission (now (inside .entry))) nodes) ⌝ }
 {
-    let v = Reach {
-        node,
-        spared: parents.len(),
-        width,
-        from,
-        len: inside.len(),
-        what: Accesses::AtInit,
-    };
-    if check(parents, codes, inside, v) == 0 {
+    if reads_quiet(parents, codes, inside, width, node, from) {
         return 0;
     }
     first_refused_read(parents, codes, inside, width, node, from)
@@ -836,15 +1107,30 @@ pub fn apply_reads(
     requires { ⌜ (node < length (now parents)) × (from + length (now inside) ≤ width) ⌝ }
     ensures { λ _. ⌜ Each (λ nodes. Holds nodes width (now (parents .entry)) (now (codes .entry))) (λ nodes. now (codes .exit) ≡ rowsOf (visited (readsVisit node from (map permission (now (inside .entry)))) nodes)) ⌝ }
 {
-    let v = Reach {
-        node,
-        spared: parents.len(),
-        width,
-        from,
-        len: inside.len(),
-        what: Accesses::AtInit,
-    };
-    apply(parents, codes, inside, v);
+    let table = permission::outcomes();
+    if reads_all(inside) {
+        let all = Reach {
+            node,
+            spared: parents.len(),
+            width,
+            from,
+            len: inside.len(),
+            what: Accesses::Each(AccessKind::Read),
+        };
+        apply_each_node(parents, codes, &table, all, AccessKind::Read);
+    } else {
+        let v = Reach {
+            node,
+            spared: parents.len(),
+            width,
+            from,
+            len: inside.len(),
+            what: Accesses::AtInit,
+        };
+        let unmarked = [0u8; 1];
+        let lines = permission::init_lines();
+        apply(&unmarked, parents, codes, inside, &lines, &table, v);
+    }
 }
 
 // ---- the release of a protected node
@@ -899,6 +1185,7 @@ fn lacks_protector(protectors: &[u8], codes: &[u8], width: usize, node: usize) -
 
 // On a live allocation, 16 to 23. The node's row is left in the lent row, for the change.
 fn release_refusal(
+    marks: &[u8],
     parents: &[u16],
     protectors: &[u8],
     codes: &[u8],
@@ -906,7 +1193,7 @@ fn release_refusal(
     width: usize,
     node: usize,
 ) -> u8
-    requires { ⌜ Some (λ nodes. HoldsAll nodes width (now parents) (now protectors) (now codes)) ⌝ }
+    requires { ⌜ Some (λ nodes. HoldsAll nodes width (now parents) (now protectors) (now codes)) × Spares node (now parents) (now marks) ⌝ }
     requires { ⌜ (node < length (now parents)) × (width ≤ length (now lent)) ⌝ }
     ensures { λ _. ⌜ now (lent .exit) ≡ rowAt width node (now (codes .entry)) ++ drop width (now (lent .entry)) ⌝ }
     ensures { λ r. ⌜ Each (λ nodes. HoldsAll nodes width (now (parents .entry)) (now (protectors .entry)) (now (codes .entry))) (λ nodes. r ≡ releaseRefusal Live node nodes) ⌝ }
@@ -925,12 +1212,21 @@ fn release_refusal(
         len: width,
         what: Accesses::AtEnd,
     };
-    check(parents, codes, lent, v)
+    let lines = permission::end_lines();
+    let table = permission::outcomes();
+    check(marks, parents, codes, lent, &lines, &table, v)
 }
 
 // The node's row, of which the lent row has a copy, unprotected, and the accesses of its protector's end made.
-fn apply_release(parents: &[u16], codes: &mut [u8], lent: &[u8], width: usize, node: usize)
-    requires { ⌜ Some (λ nodes. Holds nodes width (now parents) (now codes)) ⌝ }
+fn apply_release(
+    marks: &[u8],
+    parents: &[u16],
+    codes: &mut [u8],
+    lent: &[u8],
+    width: usize,
+    node: usize,
+)
+    requires { ⌜ Some (λ nodes. Holds nodes width (now parents) (now codes)) × Spares node (now parents) (now marks) ⌝ }
     requires { ⌜ (node < length (now parents)) × (0 < node) × (take width (now lent) ≡ rowAt width node (now codes)) ⌝ }
     ensures { λ _. ⌜ Each (λ nodes. Holds nodes width (now (parents .entry)) (now (codes .entry))) (λ nodes. now (codes .exit) ≡ rowsOf (releasedNodes Live node nodes)) ⌝ }
 {
@@ -945,7 +1241,70 @@ fn apply_release(parents: &[u16], codes: &mut [u8], lent: &[u8], width: usize, n
         len: width,
         what: Accesses::AtEnd,
     };
-    apply(parents, codes, lent, v);
+    let lines = permission::end_lines();
+    let table = permission::outcomes();
+    apply(marks, parents, codes, lent, &lines, &table, v);
+}
+
+// The release by marks of the node and its descendants.
+fn release_marked(
+    marks: &[u8],
+    parents: &[u16],
+    protectors: &mut [u8],
+    codes: &mut [u8],
+    lent: &mut [u8],
+    width: usize,
+    node: usize,
+) -> u8
+    requires { ⌜ Some (λ nodes. HoldsAll nodes width (now parents) (now protectors) (now codes)) × Spares node (now parents) (now marks) ⌝ }
+    requires { ⌜ (node < length (now parents)) × (width ≤ length (now lent)) ⌝ }
+    ensures { λ _. ⌜ now (lent .exit) ≡ rowAt width node (now (codes .entry)) ++ drop width (now (lent .entry)) ⌝ }
+    ensures { λ r. ⌜ Each (λ nodes. HoldsAll nodes width (now (parents .entry)) (now (protectors .entry)) (now (codes .entry))) (λ nodes. Released Live node nodes r (now (protectors .exit)) (now (codes .exit))) ⌝ }
+{
+    let refused = release_refusal(marks, parents, protectors, codes, lent, width, node);
+    if refused == 0 {
+        apply_release(marks, parents, codes, lent, width, node);
+        protectors[node] = 0;
+    }
+    refused
+}
+
+// How many marks are made: one for each node, or none where there is no room.
+fn marks_size(nodes: usize, room: usize) -> usize
+    ensures { λ r. ⌜ (r ≤ room) × (r ≤ nodes) ⌝ }
+{
+    if room < nodes {
+        return 0;
+    }
+    nodes
+}
+
+// The scratch, all zeros, is for the marks.
+fn release_with(
+    scratch: &mut [u8],
+    parents: &[u16],
+    protectors: &mut [u8],
+    codes: &mut [u8],
+    lent: &mut [u8],
+    width: usize,
+    node: usize,
+) -> u8
+    requires { ⌜ Zeros (now scratch) × Some (λ nodes. HoldsAll nodes width (now parents) (now protectors) (now codes)) ⌝ }
+    requires { ⌜ (node < length (now parents)) × (width ≤ length (now lent)) ⌝ }
+    ensures { λ _. ⌜ now (lent .exit) ≡ rowAt width node (now (codes .entry)) ++ drop width (now (lent .entry)) ⌝ }
+    ensures { λ r. ⌜ Each (λ nodes. HoldsAll nodes width (now (parents .entry)) (now (protectors .entry)) (now (codes .entry))) (λ nodes. Released Live node nodes r (now (protectors .exit)) (now (codes .exit))) ⌝ }
+{
+    let size = marks_size(parents.len(), scratch.len());
+    mark_spared(parents, &mut scratch[..size], node);
+    release_marked(
+        &scratch[..size],
+        parents,
+        protectors,
+        codes,
+        lent,
+        width,
+        node,
+    )
 }
 
 // The release of a node of a live allocation: the first refusal, 16 to 23, with marks and codes as they were; or 0, with the node unprotected and the
@@ -963,12 +1322,12 @@ pub fn release(
     ensures { λ _. ⌜ now (lent .exit) ≡ rowAt width node (now (codes .entry)) ++ drop width (now (lent .entry)) ⌝ }
     ensures { λ r. ⌜ Each (λ nodes. HoldsAll nodes width (now (parents .entry)) (now (protectors .entry)) (now (codes .entry))) (λ nodes. Released Live node nodes r (now (protectors .exit)) (now (codes .exit))) ⌝ }
 {
-    let refused = release_refusal(parents, protectors, codes, lent, width, node);
-    if refused == 0 {
-        apply_release(parents, codes, lent, width, node);
-        protectors[node] = 0;
+    if parents.len() <= 16 {
+        let mut scratch = [0u8; 16];
+        return release_with(&mut scratch, parents, protectors, codes, lent, width, node);
     }
-    refused
+    let mut scratch = [0u8; 1024];
+    release_with(&mut scratch, parents, protectors, codes, lent, width, node)
 }
 
 // The release of a node of a dead allocation: 16 with the codes as they were; or 0 with its row unprotected. Its mark stays.

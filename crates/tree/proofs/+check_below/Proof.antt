@@ -18,24 +18,24 @@ use Rattle.tree.proofs.next_sibling.Reads as next-sibling-reads
 use Rattle.tree.proofs.+check_below.{statement}
 use Rattle.tree.proofs.+check_below.Tie.{close}
 
-abbrev μ-check-below : Measures 5 check-below-kinds.ps ℕ
-μ-check-below κs a = length (a .1 .0 .now) - a .1 .1 .1 .1 .1 .1 .0
+abbrev μ-check-below : Measures 6 check-below-kinds.ps ℕ
+μ-check-below κs a = length (a .1 .0 .now) - a .1 .1 .1 .1 .1 .1 .1 .0
 
-abbrev check-below-at : ℕ → In 5 check-below-kinds.ps
+abbrev check-below-at : ℕ → In 6 check-below-kinds.ps
 check-below-at t =
-    and 5 check-below-kinds.ps (is 5 check-below-kinds.ps μ-check-below t) check-below.Pre
+    and 6 check-below-kinds.ps (is 6 check-below-kinds.ps μ-check-below t) check-below.Pre
 
-abbrev check-below-below : ℕ → In 5 check-below-kinds.ps
+abbrev check-below-below : ℕ → In 6 check-below-kinds.ps
 check-below-below t =
-    and 5 check-below-kinds.ps (falls 5 check-below-kinds.ps _<_ μ-check-below t) check-below.Pre
+    and 6 check-below-kinds.ps (falls 6 check-below-kinds.ps _<_ μ-check-below t) check-below.Pre
 
 abbrev check-below-Inv-loop : check-below-lts.InvT-loop
-check-below-Inv-loop plan parents codes starts table v n spared m₀ m =
+check-below-Inv-loop plan parents codes starts lines table v n spared m₀ m =
     (0 < m → (n < m) × (m < length parents) × (m ≡ v .spared → ⊥))
     × (walkRefusal v parents starts codes (left (v .spared) parents m) ≡ walkRefusal v parents starts codes (below (v .spared) n parents))
 
 abbrev check-below-μ-loop : check-below-lts.MeasureT-loop
-check-below-μ-loop plan parents codes starts table v n spared m₀ m = remaining (length parents) m
+check-below-μ-loop plan parents codes starts lines table v n spared m₀ m = remaining (length parents) m
 
 check-below-first-child-requires : (t : ℕ) → check-below-lts.Need-first-child-requires (
   first-child-reads.Asked,
@@ -47,7 +47,7 @@ check-below-first-child-requires : (t : ℕ) → check-below-lts.Need-first-chil
   check-below-below t,
   check-below.Post,
 ) (check-below-at t) check-below.Post check-below-Inv-loop check-below-μ-loop
-check-below-first-child-requires t c κs = (c .before .before .before .before .pre .1 .0 .links, c .before .before .before .before .pre .1 .1 .1)
+check-below-first-child-requires t c κs = (c .before .before .before .before .pre .1 .0 .0 .links, c .before .before .before .before .pre .1 .1 .1)
 
 check-below-loop-holds : (t : ℕ) → check-below-lts.Need-loop-holds (
   first-child-reads.Asked,
@@ -109,7 +109,7 @@ check-below-first-child-requires-2 : (t : ℕ) → check-below-lts.Need-first-ch
   check-below-below t,
   check-below.Post,
 ) (check-below-at t) check-below.Post check-below-Inv-loop check-below-μ-loop
-check-below-first-child-requires-2 t c κs = (c .before .before .before .before .before .before .before .before .before .pre .1 .0 .links, c .before .before .before .loop .inv .0 (omega arith) .1)
+check-below-first-child-requires-2 t c κs = (c .before .before .before .before .before .before .before .before .before .pre .1 .0 .0 .links, c .before .before .before .loop .inv .0 (omega arith) .1)
 
 check-below-next-sibling-requires : (t : ℕ) → check-below-lts.Need-next-sibling-requires (
   first-child-reads.Asked,
@@ -121,7 +121,7 @@ check-below-next-sibling-requires : (t : ℕ) → check-below-lts.Need-next-sibl
   check-below-below t,
   check-below.Post,
 ) (check-below-at t) check-below.Post check-below-Inv-loop check-below-μ-loop
-check-below-next-sibling-requires t c κs = (c .before .before .before .before .before .before .before .before .before .before .pre .1 .0 .links, (omega arith, c .before .before .before .before .loop .inv .0 (omega arith) .1))
+check-below-next-sibling-requires t c κs = (c .before .before .before .before .before .before .before .before .before .before .pre .1 .0 .0 .links, (omega arith, c .before .before .before .before .loop .inv .0 (omega arith) .1))
 
 check-below-loop-less : (t : ℕ) → check-below-lts.Need-loop-less (
   first-child-reads.Asked,

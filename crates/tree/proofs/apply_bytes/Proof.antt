@@ -15,10 +15,10 @@ use Rattle.tree.proofs.apply_bytes.Statement.{statement}
 use Rattle.tree.proofs.apply_bytes.Tie as tie
 
 abbrev Inv-loop : tie.InvT-loop
-Inv-loop row₀ starts table relation what from len k₀ row k = (k ≤ len) × (length row ≡ length row₀) × (row ≡ changedTo what len from starts (nodeRelation relation) k row₀)
+Inv-loop row₀ starts lines table relation what from len k₀ row k = (k ≤ len) × (length row ≡ length row₀) × (row ≡ changedTo what len from starts (nodeRelation relation) k row₀)
 
 abbrev μ-loop : tie.MeasureT-loop
-μ-loop row₀ starts table relation what from len k₀ row k = len - k
+μ-loop row₀ starts lines table relation what from len k₀ row k = len - k
 
 loop-holds : tie.Need-loop-holds Inv-loop μ-loop
 loop-holds c =
@@ -31,20 +31,21 @@ add-code c = search needs
 slice-read-code : tie.Need-slice-read-code Inv-loop μ-loop
 slice-read-code c = search needs
 
-access-at-requires : tie.Need-access-at-requires Inv-loop μ-loop
-access-at-requires c κs = search needs
-
-line-of-requires : tie.Need-line-of-requires Inv-loop μ-loop
-line-of-requires c κs = search needs
+line-at-requires : tie.Need-line-at-requires Inv-loop μ-loop
+line-at-requires c κs = c .before .before .before .before .before .before .pre .0 .1
 
 index-requires : tie.Need-index-requires Inv-loop μ-loop
 index-requires c κs = search needs
 
 add-outcome : tie.Need-add-outcome Inv-loop μ-loop
-add-outcome c = omega (arith, c .before .line-of .ensures, line-end (maybeAccess (c .before .before .access-at .result)) (nodeRelation (c .before .before .before .before .before .before .before .before .before .args .relation)))
+add-outcome c =
+    let s = c .before .before .before .before .before .before .before .before in
+    omega (arith, c .before .line-at .ensures, line-end (accessAt (s .args .v .what) (s .args .starts .now) (c .before .before .before .before .before .loop .k)) (nodeRelation (s .args .relation)))
 
 element-copy-out-outcome : tie.Need-element-copy-out-outcome Inv-loop μ-loop
-element-copy-out-outcome c = omega (arith, c .before .line-of .ensures, line-end (maybeAccess (c .before .before .access-at .result)) (nodeRelation (c .before .before .before .before .before .before .before .before .before .args .relation)))
+element-copy-out-outcome c =
+    let s = c .before .before .before .before .before .before .before .before in
+    omega (arith, c .before .line-at .ensures, line-end (accessAt (s .args .v .what) (s .args .starts .now) (c .before .before .before .before .before .loop .k)) (nodeRelation (s .args .relation)))
 
 add-row : tie.Need-add-row Inv-loop μ-loop
 add-row c = search needs
@@ -74,13 +75,13 @@ loop-again c =
     ⊎-elim
     (λ w.
     turn-next what len from starts r row (s .pre .1) (l .k) (omega arith) (l .row) (c .if1 .row) (l .inv .2) _
-    (look-next access r (s .args .table .now) (s .pre .0) code (w .2 .result) (w .3 .result) _
-    (w .2 .ensures ∙ ap (λ (x : Option AccessKind). lineOf x r) (w .1 .ensures)) (w .0 .taken) (w .3 .ensures) refl (omega (arith, w .5 .taken))) (w .6))
+    (look-next access r (s .args .table .now) (s .pre .0 .0) code (w .1 .result) (w .2 .result) _
+    (w .1 .ensures) (w .0 .taken) (w .2 .ensures) refl (omega (arith, w .4 .taken))) (w .5))
     (⊎-elim
     (λ w.
     turn-stays what len from starts r row (s .pre .1) (l .k) (omega arith) (l .row) (c .if1 .row) (l .inv .2)
-    (look-stays access r (s .args .table .now) (s .pre .0) code (w .2 .result) (w .3 .result) _
-    (w .2 .ensures ∙ ap (λ (x : Option AccessKind). lineOf x r) (w .1 .ensures)) (w .0 .taken) (w .3 .ensures) refl (omega (arith, w .5 .left))) (w .6))
+    (look-stays access r (s .args .table .now) (s .pre .0 .0) code (w .1 .result) (w .2 .result) _
+    (w .1 .ensures) (w .0 .taken) (w .2 .ensures) refl (omega (arith, w .4 .left))) (w .5))
     (λ w. turn-stays what len from starts r row (s .pre .1) (l .k) (omega arith) (l .row) (c .if1 .row) (l .inv .2) (sym (past-next access r code (omega (arith, w .0 .left)))) (w .1)))
     (c .if1 .came) in
     (omega arith, ap length e ∙ changed-to-length what len from starts r row (s .pre .1) (l .k + 1) (omega arith), e)
@@ -109,8 +110,7 @@ apply-bytes-spec =
     loop-holds
     add-code
     slice-read-code
-    access-at-requires
-    line-of-requires
+    line-at-requires
     index-requires
     add-outcome
     element-copy-out-outcome

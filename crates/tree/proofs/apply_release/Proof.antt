@@ -1,33 +1,29 @@
 -- The table with the row unprotected holds the nodes with that node unprotected; the visit then leaves the definition's.
-use Prim.Native.Nat.{_+_, _*_, _≤_}
 use mathlib.Core.List.{map}
 use mathlib.Core.Path.{_∙_}
-use native.Mathlib.Omega.{arith}
-use borrow.Author.Needs.{needs}
-use lib.ListN.{length}
 use Rattle.definition.specs.Memory.Liveness.{Live}
 use Rattle.permission.specs.Codes.{unprotectedCode}
 use Rattle.tree.proofs.Meaning.{means-after}
 use Rattle.tree.proofs.Visits.{held-ready, means-release}
 use Rattle.tree.proofs.Releases.{held-row, unprotected-table, unprotected-holds}
 use Rattle.tree.proofs.Places.{put-back}
-use Rattle.tree.proofs.Held.{held-fits, held-count}
+use Rattle.tree.proofs.Held.{node-fits, held-count}
+use native.Mathlib.Omega.{arith}
+use borrow.Author.Needs.{needs}
 use Rattle.tree.proofs.apply_release.Statement.{statement}
 use Rattle.tree.proofs.apply_release.Tie as tie
 use Rattle.tree.proofs.apply_release.Reads as reads
 use Rattle.tree.proofs.apply_release.Lts as lts
+use Rattle.permission.proofs.end_lines.Reads as end-lines-reads
+use Rattle.permission.proofs.outcomes.Reads as outcomes-reads
 use Rattle.tree.proofs.apply.Reads as apply-reads
 use Rattle.tree.proofs.unprotect_row.Reads as unprotect-row-reads
 
--- the node's row ends within the table
-ends : (s : lts.Start (unprotect-row-reads.Asked, unprotect-row-reads.Learnt, apply-reads.Asked, apply-reads.Learnt) reads.Pre reads.Post) → s .args .node * s .args .width + s .args .width ≤ length (s .args .codes .now)
-ends s = held-fits (s .pre .0 .0) (s .args .width) (s .args .codes .now) (s .pre .0 .1 .table) (s .args .node) (omega (arith, held-count (s .pre .0 .1)))
-
 mul-start : tie.Need-mul-start
-mul-start c = omega (arith, ends (c .before .before .before))
+mul-start c = let s = c .before .before .before .before in omega (arith, node-fits (s .pre .0 .0 .1) (s .args .node) (s .pre .1 .0))
 
 add-end : tie.Need-add-end
-add-end c = omega (arith, ends (c .before .before .before))
+add-end c = let s = c .before .before .before .before in omega (arith, node-fits (s .pre .0 .0 .1) (s .args .node) (s .pre .1 .0))
 
 sub-unprotect-row : tie.Need-sub-unprotect-row
 sub-unprotect-row c = search needs
@@ -36,31 +32,36 @@ part-unprotect-row-start : tie.Need-part-unprotect-row-start
 part-unprotect-row-start c = search needs
 
 part-unprotect-row-end : tie.Need-part-unprotect-row-end
-part-unprotect-row-end c = ends (c .before .before .before)
+part-unprotect-row-end c = let s = c .before .before .before .before in node-fits (s .pre .0 .0 .1) (s .args .node) (s .pre .1 .0)
 
 unprotect-row-requires : tie.Need-unprotect-row-requires
 unprotect-row-requires c κs = search needs
 
+end-lines-requires : tie.Need-end-lines-requires
+end-lines-requires c κs = search needs
+
+outcomes-requires : tie.Need-outcomes-requires
+outcomes-requires c κs = search needs
+
 apply-requires : tie.Need-apply-requires
 apply-requires c κs =
-    let s = c .before .before .before .before .before .before .before .before in
+    let s = c .before .before .before .before .before .before .before .before .before .before .before .before .before in
     let n = s .args .node in
     let width = s .args .width in
     let codes = s .args .codes .now in
-    let nodes = s .pre .0 .0 in
-    let held = s .pre .0 .1 in
-    let l = held-count held in
-    held-ready _ _ _ _
-    (unprotected-holds Live nodes width codes (held .table) n (omega arith) (s .args .parents .now) _ held
-    (put-back (map unprotectedCode) width n codes _ (c .before .before .before .unprotect-row .ensures) ∙ unprotected-table Live nodes width codes (held .table) n (omega arith)))
-    (s .pre .1 .0) (omega arith)
+    let nodes = s .pre .0 .0 .0 in
+    let held = s .pre .0 .0 .1 in
+    let l = held-count held in (
+      (record { accesses = c .before .before .before .before .end-lines .ensures; outcomes = c .before .before .before .outcomes .ensures }, s .pre .0 .1),
+      held-ready _ _ _ _ (unprotected-holds Live nodes width codes (held .table) n (omega arith) (s .args .parents .now) _ held (put-back (map unprotectedCode) width n codes _ (c .before .before .before .before .before .before .before .unprotect-row .ensures) ∙ unprotected-table Live nodes width codes (held .table) n (omega arith))) (s .pre .1 .0) (omega arith),
+    )
 
 same-length : tie.Need-same-length
 same-length c = search needs
 
 returns : tie.Need-returns
 returns c =
-    let s = c .before .before .before .before .before .before .before .before .before .before .before in
+    let s = c .before .before .before .before .before .before .before .before .before .before .before .before .before .before .before .before in
     let n = s .args .node in
     let width = s .args .width in
     let codes = s .args .codes .now in
@@ -68,9 +69,8 @@ returns c =
     let l = held-count held in
     c .before .before .apply .ensures
     ∙ means-after _ _ _ _
-    (means-release (s .args .parents .now) (held .root) width (held .earlier) n (s .pre .1 .1) nodes (s .args .lent .now) (s .pre .1 .2 ∙ held-row nodes width codes (held .table) n (omega arith))) _ _
-    (unprotected-holds Live nodes width codes (held .table) n (omega arith) (s .args .parents .now) _ held
-    (put-back (map unprotectedCode) width n codes _ (c .before .before .before .before .before .before .unprotect-row .ensures) ∙ unprotected-table Live nodes width codes (held .table) n (omega arith)))
+    (means-release (s .args .parents .now) (held .earlier) (held .root) width n (s .pre .1 .1) nodes (s .args .lent .now) (s .pre .1 .2 ∙ held-row nodes width codes (held .table) n (omega arith))) _ _
+    (unprotected-holds Live nodes width codes (held .table) n (omega arith) (s .args .parents .now) _ held (put-back (map unprotectedCode) width n codes _ (c .before .before .before .before .before .before .before .before .before .before .unprotect-row .ensures) ∙ unprotected-table Live nodes width codes (held .table) n (omega arith)))
 
 pub apply-release-spec : {M : Type 1} → statement M
 apply-release-spec =
@@ -82,6 +82,8 @@ apply-release-spec =
     part-unprotect-row-start
     part-unprotect-row-end
     unprotect-row-requires
+    end-lines-requires
+    outcomes-requires
     apply-requires
     same-length
     returns)

@@ -1,7 +1,13 @@
 -- The same access at each byte is looked up in its line; else each byte is asked for its own.
+use Rattle.tree.proofs.Rows.{looked-end, looked-init}
+use native.Mathlib.Omega.{arith}
 use borrow.Author.Needs.{needs}
 use Rattle.tree.proofs.apply_row.Statement.{statement}
 use Rattle.tree.proofs.apply_row.Tie as tie
+use Rattle.tree.proofs.apply_row.Reads as reads
+use Rattle.tree.proofs.apply_row.Lts as lts
+use Rattle.tree.proofs.apply_bytes.Reads as apply-bytes-reads
+use Rattle.tree.proofs.apply_each.Reads as apply-each-reads
 
 enum-known-what : tie.Need-enum-known-what
 enum-known-what c = search needs
@@ -13,13 +19,13 @@ enum-told : tie.Need-enum-told
 enum-told c = search needs
 
 apply-bytes-requires : tie.Need-apply-bytes-requires
-apply-bytes-requires c κs = search needs
+apply-bytes-requires c κs = let s = c .before .before .before .before .before in ((s .pre .0 .outcomes, looked-end (s .args .v .what) (s .args .lines .now) (s .pre .0 .accesses) (c .before .enum-told .given .1)), s .pre .1)
 
 enum-told-2 : tie.Need-enum-told-2
 enum-told-2 c = search needs
 
 apply-bytes-requires-2 : tie.Need-apply-bytes-requires-2
-apply-bytes-requires-2 c κs = search needs
+apply-bytes-requires-2 c κs = let s = c .before .before .before .before .before in ((s .pre .0 .outcomes, looked-init (s .args .v .what) (s .args .lines .now) (s .pre .0 .accesses) (c .before .enum-told2 .given .1)), s .pre .1)
 
 same-length : tie.Need-same-length
 same-length c = search needs

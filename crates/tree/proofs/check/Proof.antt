@@ -1,34 +1,26 @@
--- A scratch of zeros.
+-- Nothing is refused, or the order tells what is.
+use mathlib.Core.Path.{sym}
+use Rattle.tree.proofs.Sweeps.{quiet-none}
+use native.Mathlib.Omega.{arith}
 use borrow.Author.Needs.{needs}
-use Rattle.tree.proofs.Plans.{zeros}
 use Rattle.tree.proofs.check.Statement.{statement}
 use Rattle.tree.proofs.check.Tie as tie
+use Rattle.tree.proofs.check.Reads as reads
+use Rattle.tree.proofs.check.Lts as lts
+use Rattle.tree.proofs.check_in_order.Reads as check-in-order-reads
+use Rattle.tree.proofs.is_quiet.Reads as is-quiet-reads
 
-slice-aggregate-check-with : tie.Need-slice-aggregate-check-with
-slice-aggregate-check-with c = search needs
-
-check-with-requires : tie.Need-check-with-requires
-check-with-requires c κs = (zeros 48, c .before .before .before .before .before .pre)
+is-quiet-requires : tie.Need-is-quiet-requires
+is-quiet-requires c κs = search needs
 
 returns : tie.Need-returns
-returns c = search needs
+returns c = let s = c .before .before .before .before .before .before in sym (quiet-none (s .args .v) (s .args .parents .now) (s .args .starts .now) (s .args .codes .now) (s .pre .1 .0) (s .pre .1 .1) (c .before .is-quiet .ensures (c .if1 .taken)))
 
-slice-aggregate-check-with-2 : tie.Need-slice-aggregate-check-with-2
-slice-aggregate-check-with-2 c = search needs
-
-check-with-requires-2 : tie.Need-check-with-requires-2
-check-with-requires-2 c κs = (zeros 3072, c .before .before .before .before .before .pre)
+check-in-order-requires : tie.Need-check-in-order-requires
+check-in-order-requires c κs = search needs
 
 returns-2 : tie.Need-returns-2
 returns-2 c = search needs
 
 pub check-spec : {M : Type 1} → statement M
-check-spec =
-    tie.close
-    (tie.spec
-    slice-aggregate-check-with
-    check-with-requires
-    returns
-    slice-aggregate-check-with-2
-    check-with-requires-2
-    returns-2)
+check-spec = tie.close (tie.spec is-quiet-requires returns check-in-order-requires returns-2)

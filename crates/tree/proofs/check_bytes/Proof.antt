@@ -15,10 +15,10 @@ use Rattle.tree.proofs.check_bytes.Statement.{statement}
 use Rattle.tree.proofs.check_bytes.Tie as tie
 
 abbrev Inv-loop : tie.InvT-loop
-Inv-loop row starts table relation what from len k₀ k = (k ≤ len) × (refusalLeft what len from starts (nodeRelation relation) k row ≡ refusalLeft what len from starts (nodeRelation relation) k₀ row)
+Inv-loop row starts lines table relation what from len k₀ k = (k ≤ len) × (refusalLeft what len from starts (nodeRelation relation) k row ≡ refusalLeft what len from starts (nodeRelation relation) k₀ row)
 
 abbrev μ-loop : tie.MeasureT-loop
-μ-loop row starts table relation what from len k₀ k = len - k
+μ-loop row starts lines table relation what from len k₀ k = len - k
 
 loop-holds : tie.Need-loop-holds Inv-loop μ-loop
 loop-holds c = search needs
@@ -29,34 +29,35 @@ add-code c = search needs
 shared-slice-read-code : tie.Need-shared-slice-read-code Inv-loop μ-loop
 shared-slice-read-code c = search needs
 
-access-at-requires : tie.Need-access-at-requires Inv-loop μ-loop
-access-at-requires c κs = search needs
-
-line-of-requires : tie.Need-line-of-requires Inv-loop μ-loop
-line-of-requires c κs = search needs
+line-at-requires : tie.Need-line-at-requires Inv-loop μ-loop
+line-at-requires c κs = c .before .before .before .before .before .before .pre .0 .1
 
 index-requires : tie.Need-index-requires Inv-loop μ-loop
 index-requires c κs = search needs
 
 add-outcome : tie.Need-add-outcome Inv-loop μ-loop
-add-outcome c = omega (arith, c .before .line-of .ensures, line-end (maybeAccess (c .before .before .access-at .result)) (nodeRelation (c .before .before .before .before .before .before .before .before .before .args .relation)))
+add-outcome c =
+    let s = c .before .before .before .before .before .before .before .before in
+    omega (arith, c .before .line-at .ensures, line-end (accessAt (s .args .v .what) (s .args .starts .now) (c .before .before .before .before .before .loop .k)) (nodeRelation (s .args .relation)))
 
 element-copy-out-outcome : tie.Need-element-copy-out-outcome Inv-loop μ-loop
-element-copy-out-outcome c = omega (arith, c .before .line-of .ensures, line-end (maybeAccess (c .before .before .access-at .result)) (nodeRelation (c .before .before .before .before .before .before .before .before .before .args .relation)))
+element-copy-out-outcome c =
+    let s = c .before .before .before .before .before .before .before .before in
+    omega (arith, c .before .line-at .ensures, line-end (accessAt (s .args .v .what) (s .args .starts .now) (c .before .before .before .before .before .loop .k)) (nodeRelation (s .args .relation)))
 
 returns : tie.Need-returns Inv-loop μ-loop
 returns c =
-    let s = c .before .before .before .before .before .before .before .before .before .before .before in
-    let l = c .before .before .before .before .before .before .before .before .loop in
+    let s = c .before .before .before .before .before .before .before .before .before .before in
+    let l = c .before .before .before .before .before .before .before .loop in
     let what = s .args .v .what in
     let from = s .args .v .from in
     let starts = s .args .starts .now in
     let row = s .args .row .now in
     let r = nodeRelation (s .args .relation) in
-    let line = c .before .before .before .line-of in
+    let line = c .before .before .before .line-at in
     check-here what (s .args .v .len) from starts r row (s .pre .1) (l .k) _ (omega arith)
-    (look-refused (accessAt what starts (l .k)) r (s .args .table .now) (s .pre .0) (getD row (from + l .k) 0) (line .result) (c .before .before .index .result) _
-    (line .ensures ∙ ap (λ (x : Option AccessKind). lineOf x r) (c .before .before .before .before .access-at .ensures)) (c .before .before .before .before .before .if1 .taken) (c .before .before .index .ensures) refl (c .if2 .taken)) (omega arith)
+    (look-refused (accessAt what starts (l .k)) r (s .args .table .now) (s .pre .0 .0) (getD row (from + l .k) 0) (line .result) (c .before .before .index .result) _
+    (line .ensures) (c .before .before .before .before .if1 .taken) (c .before .before .index .ensures) refl (c .if2 .taken)) (omega arith)
     ∙ l .inv .1
 
 add-k : tie.Need-add-k Inv-loop μ-loop
@@ -79,8 +80,8 @@ loop-again c =
       ⊎-elim
           (λ w.
           check-next what (s .args .v .len) from starts r row (s .pre .1) (l .k) 0 (omega arith)
-          (look-passes (accessAt what starts (l .k)) r (s .args .table .now) (s .pre .0) code (w .2 .result) (w .3 .result) _
-          (w .2 .ensures ∙ ap (λ (x : Option AccessKind). lineOf x r) (w .1 .ensures)) (w .0 .taken) (w .3 .ensures) refl (omega (arith, w .5 .left))) refl)
+          (look-passes (accessAt what starts (l .k)) r (s .args .table .now) (s .pre .0 .0) code (w .1 .result) (w .2 .result) _
+          (w .1 .ensures) (w .0 .taken) (w .2 .ensures) refl (omega (arith, w .4 .left))) refl)
           (λ w. check-next what (s .args .v .len) from starts r row (s .pre .1) (l .k) 0 (omega arith) (sym (past-refusal (accessAt what starts (l .k)) r code (omega arith))) refl)
           (c .if1 .came)
           ∙ l .inv .1,
@@ -107,8 +108,7 @@ check-bytes-spec =
     loop-holds
     add-code
     shared-slice-read-code
-    access-at-requires
-    line-of-requires
+    line-at-requires
     index-requires
     add-outcome
     element-copy-out-outcome

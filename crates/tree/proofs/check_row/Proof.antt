@@ -1,7 +1,13 @@
 -- The same access at each byte is looked up in its line; else each byte is asked for its own.
+use Rattle.tree.proofs.Rows.{looked-end, looked-init}
+use native.Mathlib.Omega.{arith}
 use borrow.Author.Needs.{needs}
 use Rattle.tree.proofs.check_row.Statement.{statement}
 use Rattle.tree.proofs.check_row.Tie as tie
+use Rattle.tree.proofs.check_row.Reads as reads
+use Rattle.tree.proofs.check_row.Lts as lts
+use Rattle.tree.proofs.check_bytes.Reads as check-bytes-reads
+use Rattle.tree.proofs.check_each.Reads as check-each-reads
 
 enum-known-what : tie.Need-enum-known-what
 enum-known-what c = search needs
@@ -13,13 +19,13 @@ enum-told : tie.Need-enum-told
 enum-told c = search needs
 
 check-bytes-requires : tie.Need-check-bytes-requires
-check-bytes-requires c κs = search needs
+check-bytes-requires c κs = let s = c .before .before .before .before in ((s .pre .0 .outcomes, looked-end (s .args .v .what) (s .args .lines .now) (s .pre .0 .accesses) (c .enum-told .given .1)), s .pre .1)
 
 enum-told-2 : tie.Need-enum-told-2
 enum-told-2 c = search needs
 
 check-bytes-requires-2 : tie.Need-check-bytes-requires-2
-check-bytes-requires-2 c κs = search needs
+check-bytes-requires-2 c κs = let s = c .before .before .before .before in ((s .pre .0 .outcomes, looked-init (s .args .v .what) (s .args .lines .now) (s .pre .0 .accesses) (c .enum-told2 .given .1)), s .pre .1)
 
 returns : tie.Need-returns
 returns c = rw (c .before .before .what .given .1) (c .check-each .ensures)

@@ -1,25 +1,22 @@
 -- Where the visit of all bytes is not refused, no read is.
-use mathlib.Core.Path.{sym, _∙_}
-use borrow.Author.Needs.{needs}
+use mathlib.Core.Path.{sym}
 use Rattle.tree.proofs.Inits.{reads-none}
-use Rattle.tree.proofs.Meaning.{means-refusal}
-use Rattle.tree.proofs.Visits.{held-ready, means-reads}
+use native.Mathlib.Omega.{arith}
+use borrow.Author.Needs.{needs}
 use Rattle.tree.proofs.reads_refusal.Statement.{statement}
 use Rattle.tree.proofs.reads_refusal.Tie as tie
+use Rattle.tree.proofs.reads_refusal.Reads as reads
+use Rattle.tree.proofs.reads_refusal.Lts as lts
+use Rattle.tree.proofs.first_refused_read.Reads as first-refused-read-reads
+use Rattle.tree.proofs.reads_quiet.Reads as reads-quiet-reads
 
-check-requires : tie.Need-check-requires
-check-requires c κs =
-    let s = c .before .before .before in
-    held-ready _ (s .pre .0 .0) _ _ (s .pre .0 .1) (s .pre .1 .0) (s .pre .1 .1)
+reads-quiet-requires : tie.Need-reads-quiet-requires
+reads-quiet-requires c κs = search needs
 
 returns : tie.Need-returns
 returns c =
     let s = c .before .before .before .before .before in
-    λ nodes holds.
-    sym
-    (reads-none (s .args .node) (s .args .from) (s .args .inside .now) nodes
-    (sym (means-refusal _ _ _ _ (means-reads (s .args .parents .now) (holds .root) (s .args .width) (s .args .node) (s .args .from) (s .args .inside .now)) nodes (s .args .codes .now) holds)
-    ∙ sym (c .before .check .ensures) ∙ c .if1 .taken))
+    λ nodes holds. sym (reads-none (s .args .node) (s .args .from) (s .args .inside .now) nodes (c .before .reads-quiet .ensures (c .if1 .taken) nodes holds))
 
 first-refused-read-requires : tie.Need-first-refused-read-requires
 first-refused-read-requires c κs = search needs
@@ -28,4 +25,5 @@ returns-2 : tie.Need-returns-2
 returns-2 c = search needs
 
 pub reads-refusal-spec : {M : Type 1} → statement M
-reads-refusal-spec = tie.close (tie.spec check-requires returns first-refused-read-requires returns-2)
+reads-refusal-spec =
+    tie.close (tie.spec reads-quiet-requires returns first-refused-read-requires returns-2)

@@ -1,33 +1,29 @@
 -- 16, or the first refusal of the visit, which does not read the released node: its row need not be unprotected yet.
-use Prim.Native.Nat.{_+_, _*_, _-_, _≤_}
 use mathlib.Core.Path.{refl, sym, _∙_}
-use native.Mathlib.Omega.{arith}
-use borrow.Author.Needs.{needs}
-use lib.ListN.{length}
 use Rattle.definition.specs.Frame.{releaseVisit, unprotectNode}
 use Rattle.definition.specs.Memory.Liveness.{Live}
 use Rattle.tree.proofs.Places.{copied-row, lent-row}
 use Rattle.tree.proofs.Meaning.{means-refusal}
 use Rattle.tree.proofs.Visits.{held-ready, means-release}
 use Rattle.tree.proofs.Releases.{held-row, root-lacks, spared-unread, release-16, release-visits}
-use Rattle.tree.proofs.Held.{held-fits, held-count, marks-count, held-marks}
+use Rattle.tree.proofs.Held.{node-fits, held-count, marks-count, held-marks}
+use native.Mathlib.Omega.{arith}
+use borrow.Author.Needs.{needs}
 use Rattle.tree.proofs.release_refusal.Statement.{statement}
 use Rattle.tree.proofs.release_refusal.Tie as tie
 use Rattle.tree.proofs.release_refusal.Reads as reads
 use Rattle.tree.proofs.release_refusal.Lts as lts
+use Rattle.permission.proofs.end_lines.Reads as end-lines-reads
+use Rattle.permission.proofs.outcomes.Reads as outcomes-reads
 use Rattle.tree.proofs.check.Reads as check-reads
 use Rattle.tree.proofs.copy_row.Reads as copy-row-reads
 use Rattle.tree.proofs.lacks_protector.Reads as lacks-protector-reads
 
--- the node's row ends within the table
-ends : (s : lts.Start (copy-row-reads.Asked, copy-row-reads.Learnt, lacks-protector-reads.Asked, lacks-protector-reads.Learnt, check-reads.Asked, check-reads.Learnt) reads.Pre reads.Post) → s .args .node * s .args .width + s .args .width ≤ length (s .args .codes .now)
-ends s = held-fits (s .pre .0 .0) (s .args .width) (s .args .codes .now) (s .pre .0 .1 .holds .table) (s .args .node) (omega (arith, held-count (s .pre .0 .1 .holds)))
-
 mul-start : tie.Need-mul-start
-mul-start c = omega (arith, ends (c .before .before .before .before))
+mul-start c = let s = c .before .before .before .before .before in omega (arith, node-fits (s .pre .0 .0 .1 .holds) (s .args .node) (s .pre .1 .0))
 
 add-end : tie.Need-add-end
-add-end c = omega (arith, ends (c .before .before .before .before))
+add-end c = let s = c .before .before .before .before .before in omega (arith, node-fits (s .pre .0 .0 .1 .holds) (s .args .node) (s .pre .1 .0))
 
 sub-copy-row : tie.Need-sub-copy-row
 sub-copy-row c = search needs
@@ -36,49 +32,60 @@ part-copy-row-start : tie.Need-part-copy-row-start
 part-copy-row-start c = search needs
 
 part-copy-row-end : tie.Need-part-copy-row-end
-part-copy-row-end c = ends (c .before .before .before .before)
+part-copy-row-end c = let s = c .before .before .before .before .before in node-fits (s .pre .0 .0 .1 .holds) (s .args .node) (s .pre .1 .0)
 
 copy-row-requires : tie.Need-copy-row-requires
 copy-row-requires c κs = search needs
 
 lacks-protector-requires : tie.Need-lacks-protector-requires
 lacks-protector-requires c κs =
-    let s = c .before .before .before .before .before .before .before .before .before in
-    ((s .pre .0 .0, held-marks (s .pre .0 .1)), omega (arith, held-count (s .pre .0 .1 .holds), marks-count (s .pre .0 .0) (s .args .protectors .now) (s .pre .0 .1 .marked)))
+    let s = c .before .before .before .before .before .before .before .before .before .before in
+    let held = s .pre .0 .0 in
+    ((held .0, held-marks (held .1)), omega (arith, held-count (held .1 .holds), marks-count (held .0) (s .args .protectors .now) (held .1 .marked)))
 
 same-length : tie.Need-same-length
 same-length c = search needs
 
 returns : tie.Need-returns
 returns c =
-    let s = c .before .before .before .before .before .before .before .before .before .before .before in (
-      copied-row (s .args .width) (s .args .node) (s .args .codes .now) (s .args .lent .now) _ (ends s) (c .before .before .before .before .copy-row .ensures),
+    let s = c .before .before .before .before .before .before .before .before .before .before .before .before in (
+      copied-row (s .args .width) (s .args .node) (s .args .codes .now) (s .args .lent .now) _ (node-fits (s .pre .0 .0 .1 .holds) (s .args .node) (s .pre .1 .0)) (c .before .before .before .before .copy-row .ensures),
       λ nodes held. release-16 Live nodes (s .args .node) (sym (c .before .lacks-protector .ensures nodes (held-marks held)) ∙ c .if1 .taken),
     )
 
+end-lines-requires : tie.Need-end-lines-requires
+end-lines-requires c κs = search needs
+
+outcomes-requires : tie.Need-outcomes-requires
+outcomes-requires c κs = search needs
+
 check-requires : tie.Need-check-requires
 check-requires c κs =
-    let s = c .before .before .before .before .before .before .before .before .before .before .before .before in
-    held-ready _ (s .pre .0 .0) _ _ (s .pre .0 .1 .holds) (s .pre .1 .0) (omega arith)
+    let s = c .before .before .before .before .before .before .before .before .before .before .before .before .before .before .before .before .before in
+    let held = s .pre .0 .0 in
+    let protected = sym (c .before .before .before .before .before .before .lacks-protector .ensures (held .0) (held-marks (held .1))) ∙ c .before .before .before .before .before .if1 .left in (
+      (record { accesses = c .before .before .before .before .end-lines .ensures; outcomes = c .before .before .before .outcomes .ensures }, s .pre .0 .1),
+      (held-ready _ (held .0) _ _ (held .1 .holds) (s .pre .1 .0) (omega arith), root-lacks (held .0) (held .1 .rootFree) (s .args .node) protected),
+    )
 
 same-length-2 : tie.Need-same-length-2
 same-length-2 c = search needs
 
 returns-2 : tie.Need-returns-2
 returns-2 c =
-    let s = c .before .before .before .before .before .before .before .before .before .before .before .before .before in
+    let s = c .before .before .before .before .before .before .before .before .before .before .before .before .before .before .before .before .before .before in
     let n = s .args .node in
     let width = s .args .width in
     let codes = s .args .codes .now in
-    let copied = copied-row (s .args .width) (s .args .node) (s .args .codes .now) (s .args .lent .now) _ (ends s) (c .before .before .before .before .before .before .copy-row .ensures) in (
+    let copied = copied-row width n codes (s .args .lent .now) _ (node-fits (s .pre .0 .0 .1 .holds) (s .args .node) (s .pre .1 .0)) (c .before .before .before .before .before .before .before .before .before .before .copy-row .ensures) in (
       copied,
       λ nodes held.
           let l = held-count (held .holds) in
-          let protected = sym (c .before .before .before .lacks-protector .ensures nodes (held-marks held)) ∙ c .before .before .if1 .left in
+          let protected = sym (c .before .before .before .before .before .before .before .lacks-protector .ensures nodes (held-marks held)) ∙ c .before .before .before .before .before .before .if1 .left in
           c .check .ensures
           ∙ means-refusal _ _ _ _
-          (means-release (s .args .parents .now) (held .holds .root) width (held .holds .earlier) n (root-lacks nodes (held .rootFree) n protected) nodes _
-          (lent-row width n codes (s .args .lent .now) _ (ends s) copied ∙ held-row nodes width codes (held .holds .table) n (omega arith))) nodes codes (held .holds)
+          (means-release (s .args .parents .now) (held .holds .earlier) (held .holds .root) width n (root-lacks nodes (held .rootFree) n protected) nodes _
+          (lent-row width n codes (s .args .lent .now) _ (node-fits (s .pre .0 .0 .1 .holds) (s .args .node) (s .pre .1 .0)) copied ∙ held-row nodes width codes (held .holds .table) n (omega arith))) nodes codes (held .holds)
           ∙ sym (spared-unread (releaseVisit n nodes) n refl (unprotectNode Live) (λ x. refl) nodes)
           ∙ release-visits Live nodes n protected,
     )
@@ -96,6 +103,8 @@ release-refusal-spec =
     lacks-protector-requires
     same-length
     returns
+    end-lines-requires
+    outcomes-requires
     check-requires
     same-length-2
     returns-2)
