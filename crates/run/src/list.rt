@@ -53,7 +53,8 @@ fn turn(
     transcript::put_answer(answers, w, answer, words)
 }
 
-// The whole list, on buffers that hold the empty state.
+// The whole list, on buffers that hold the empty state. The parts of `Written` are carried apart: a struct of both has bytes that belong to neither,
+// and to carry those around the loop costs more than the rest of it.
 fn run_cleared(
     allocs: &mut [u64],
     parents: &mut [u16],
@@ -69,13 +70,15 @@ fn run_cleared(
     ensures { λ r. ⌜ Ran (requestsIn (now (requests .entry)) (now (ends .entry))) (now (answers .entry)) r
         (buffers (now (allocs .exit)) (now (parents .exit)) (now (protectors .exit)) (now (words .exit)) (now (codes .exit))) (now (frames .exit)) (now (answers .exit)) ⌝ }
 {
-    let mut w = transcript::nothing_written();
+    let start = transcript::nothing_written();
+    let mut at = start.at;
+    let mut whole = start.whole;
     let mut from = 0;
     let mut i = 0;
     while i < ends.len() {
         let end = wide(ends[i]);
         let request = part(requests, from, end);
-        w = turn(
+        let w = turn(
             allocs,
             parents,
             protectors,
@@ -84,12 +87,14 @@ fn run_cleared(
             frames,
             request,
             answers,
-            w,
+            Written { at, whole },
         );
+        at = w.at;
+        whole = w.whole;
         from = end;
         i += 1;
     }
-    w
+    Written { at, whole }
 }
 
 // The requests' words, and where each ends. Memory and frames are emptied first; each answer is written to the lent buffer.

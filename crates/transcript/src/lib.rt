@@ -3,7 +3,7 @@ use answer::Answer;
 use pointer::Provenance;
 ghost use mathlib.Core.Path.{_≡_};
 ghost use mathlib.Core.List.{List, [], _∷_, _++_};
-ghost use Prim.Native.Nat.{ℕ, _<_, _^_, min};
+ghost use Prim.Native.Nat.{ℕ, _+_, _≤_, _<_, _^_, min};
 ghost use lib.ListN.{length, take, drop};
 ghost use Rattle.pointer.specs.Pointer.{provenanceOf};
 ghost use Rattle.answer.specs.Answer.{answerOf};
@@ -35,7 +35,27 @@ fn put(out: &mut [u32], w: Written, word: u32) -> Written
     Written { at, whole: false }
 }
 
-fn put_words(out: &mut [u32], w: Written, words: &[u32]) -> Written
+// All words of a text for which there is room. The place and the flag are carried apart: a struct of both has bytes that belong to neither.
+fn put_all(out: &mut [u32], w: Written, words: &[u32]) -> Written
+    requires { ⌜ w .at + length (now words) ≤ length (now out) ⌝ }
+    ensures { λ r. ⌜ ((text before : List ℕ) → WrittenTo text before (now (out .entry)) w
+        → WrittenTo (text ++ now (words .entry)) before (now (out .exit)) r) ⌝ }
+{
+    let start = w.at;
+    let whole = w.whole;
+    let mut i: usize = 0;
+    while i < words.len() {
+        out[start + i] = words[i];
+        i += 1;
+    }
+    Written {
+        at: start + words.len(),
+        whole,
+    }
+}
+
+// The words of a text that may be too long, each by itself.
+fn put_each(out: &mut [u32], w: Written, words: &[u32]) -> Written
     ensures { λ r. ⌜ ((text before : List ℕ) → WrittenTo text before (now (out .entry)) w
         → WrittenTo (text ++ now (words .entry)) before (now (out .exit)) r) ⌝ }
 {
@@ -46,6 +66,19 @@ fn put_words(out: &mut [u32], w: Written, words: &[u32]) -> Written
         i += 1;
     }
     next
+}
+
+fn put_words(out: &mut [u32], w: Written, words: &[u32]) -> Written
+    ensures { λ r. ⌜ ((text before : List ℕ) → WrittenTo text before (now (out .entry)) w
+        → WrittenTo (text ++ now (words .entry)) before (now (out .exit)) r) ⌝ }
+{
+    let at = w.at;
+    if at <= out.len() {
+        if words.len() <= out.len() - at {
+            return put_all(out, w, words);
+        }
+    }
+    put_each(out, w, words)
 }
 
 fn smaller(a: usize, b: usize) -> usize

@@ -11,11 +11,11 @@ use Rattle.run.proofs.list.run_cleared.Statement.{statement}
 use Rattle.run.proofs.list.run_cleared.Tie as tie
 
 abbrev Inv-loop : tie.InvT-loop
-Inv-loop allocs₀ parents₀ protectors₀ words₀ codes₀ frames₀ requests ends answers₀ w₀ from₀ i₀ allocs parents protectors words codes frames answers w from i =
-    (i ≤ length ends) × Going requests ends answers₀ i from w (buffers allocs parents protectors words codes) frames answers
+Inv-loop allocs₀ parents₀ protectors₀ words₀ codes₀ frames₀ requests ends answers₀ at₀ whole₀ from₀ i₀ allocs parents protectors words codes frames answers at whole from i =
+    (i ≤ length ends) × Going requests ends answers₀ i from (record { at = at; whole = whole }) (buffers allocs parents protectors words codes) frames answers
 
 abbrev μ-loop : tie.MeasureT-loop
-μ-loop allocs₀ parents₀ protectors₀ words₀ codes₀ frames₀ requests ends answers₀ w₀ from₀ i₀ allocs parents protectors words codes frames answers w from i =
+μ-loop allocs₀ parents₀ protectors₀ words₀ codes₀ frames₀ requests ends answers₀ at₀ whole₀ from₀ i₀ allocs parents protectors words codes frames answers at whole from i =
     length ends - i
 
 nothing-written-requires : tie.Need-nothing-written-requires Inv-loop μ-loop

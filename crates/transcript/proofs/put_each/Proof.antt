@@ -8,8 +8,8 @@ use lib.Seq.{take-length}
 use lib.ListN.{length, take}
 use Rattle.transcript.specs.Transcript.{WrittenTo}
 use Rattle.transcript.proofs.Writing.{taken-more}
-use Rattle.transcript.proofs.put_words.Statement.{statement}
-use Rattle.transcript.proofs.put_words.Tie as tie
+use Rattle.transcript.proofs.put_each.Statement.{statement}
+use Rattle.transcript.proofs.put_each.Tie as tie
 
 abbrev Inv-loop : tie.InvT-loop
 Inv-loop out₀ words next₀ i₀ out next i =
@@ -59,8 +59,8 @@ returns c =
     let e : c .before .loop .i ≡ length words = omega arith in
     λ text before h. rw (e, take-length words) at (c .before .loop .inv .2 text before h)
 
-pub put-words-spec : {M : Type 1} → statement M
-put-words-spec =
+pub put-each-spec : {M : Type 1} → statement M
+put-each-spec =
     tie.close
     (tie.spec
     Inv-loop
