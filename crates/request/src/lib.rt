@@ -3,7 +3,7 @@
 ghost use mathlib.Core.Path.{_≡_};
 ghost use mathlib.Core.List.{List};
 ghost use Prim.Native.Nat.{ℕ, _<_, _*_, _+_, _%_, _^_};
-ghost use lib.ListN.{getD, drop};
+ghost use lib.ListN.{length, getD, drop};
 ghost use Rattle.definition.specs.Notation.{any};
 ghost use Rattle.definition.specs.Frame.{State};
 ghost use Rattle.definition.specs.Request.{requestKinds, request, pointer, bit, functionEntry, unpin, freeze, frameNumber, layoutLength};
@@ -287,14 +287,15 @@ impl Request {
 }
 
 // "Input that ends inside a request falls under 2; so does, in the program, a store or retag with more than 4,096 words after its fourth."
-pub fn is_miscounted(words: &[u32]) -> bool
-    ensures { λ r. ⌜ r ≡ isMiscounted (now (words .entry)) ⌝ }
+// Of the request that `count` words are.
+pub fn is_miscounted(q: Request, count: usize) -> bool
+    ensures { λ r. ⌜ ((ws : List ℕ) → requestOf q (drop 4 ws) ≡ request ws → count ≡ length ws → r ≡ isMiscounted ws) ⌝ }
 {
-    let n = Request::of(words).following_length();
+    let n = q.following_length();
     if 4096 < n {
         return true;
     }
-    words.len() != 4 + n
+    count != 4 + n
 }
 
 // ---- 2, field by field. Tests are joined by `|` and `&`, which evaluate both sides: a function then has one way through.

@@ -1,15 +1,18 @@
 -- One request: its fields and its words are the definition's, and each way to answer it is the definition's `step`.
-use Prim.Native.Nat.{ℕ, suc, _^_, _<_}
+use Prim.Native.Nat.{ℕ, suc, _+_, _^_, _<_}
+use native.Mathlib.Omega.{arith}
+use borrow.Author.Tests.{ne-eqb}
 use mathlib.Core.Path.{_≡_, refl, sym, ap, subst, _∙_}
 use mathlib.Core.Bool.{Bool, true, false, _||_}
 use mathlib.Core.List.{List, [], _∷_}
-use lib.ListN.{getD, drop}
+use lib.Dec.{eqb}
+use lib.ListN.{length, getD, drop}
 use Rattle.definition.specs.Notation.{if_then_else_}
 use Rattle.definition.specs.Refusal.{malformed}
 use Rattle.definition.specs.Memory as definition
 use Rattle.definition.specs.Memory.{refusedWith}
 use Rattle.definition.specs.Frame.{State}
-use Rattle.definition.specs.Request.{Request, request, isMiscounted, isMalformed}
+use Rattle.definition.specs.Request.{Request, request, followingLength, isMiscounted, isMalformed}
 use Rattle.definition.specs.Run.{IsWord, perform, step}
 use Rattle.definition.specs.Valid.{All, ValidState}
 use Rattle.definition.proofs.Alls.{all-drop}
@@ -35,6 +38,14 @@ pub refused-by : (s : State) (ws : List ℕ) {a b : Bool} → a ≡ isMiscounted
     → {following : List ℕ} → following ≡ drop 4 ws → b ≡ isMalformed (kindOf (q .kind)) s (requestOf q following) → a || b ≡ isRefused s ws
 refused-by s ws e q same is f i =
     e i || (f ∙ ap (λ (l : List ℕ). isMalformed (kindOf (q .kind)) s (requestOf q l)) is ∙ ap (λ (x : Request). isMalformed (x .kind) s x) same) i
+
+-- too few words even for the fields
+pub short-refused : (s : State) (ws : List ℕ) → length ws < 4 → isRefused s ws ≡ true
+unfolding isMiscounted
+short-refused s ws h =
+    let n = 4 + followingLength (request ws) in
+    let other : eqb (length ws) n ≡ false = ne-eqb (length ws) n (λ e. omega arith) in
+    rw other
 
 module _ {s : State} {b : Buffers} {F : List ℕ} (h : HoldsState s b F) where
   pub frames-held : HoldsFrames (s .frames) F

@@ -2,22 +2,25 @@
 use answer::Answer;
 use request::Request;
 ghost use mathlib.Core.Path.{_≡_};
+ghost use lib.ListN.{drop};
 ghost use Rattle.definition.specs.Frame.{State};
+ghost use Rattle.definition.specs.Request.{request};
 ghost use Rattle.tables.specs.Held.{buffers};
 ghost use Rattle.entries.specs.Buffer.{HoldsFrames};
+ghost use Rattle.request.specs.Fields.{requestOf};
 ghost use Rattle.perform.specs.Performed.{HoldsState};
 ghost use Rattle.run.specs.Steps.{isRefused, Stepped};
 
-// The request falls under 2.
-fn is_refused(frames: &[u32], request: &[u32]) -> bool
+// The request, of these fields, falls under 2.
+fn is_refused(frames: &[u32], q: Request, words: &[u32]) -> bool
     requires { ⌜ ((s : State) × HoldsFrames (s .frames) (now frames)) ⌝ }
-    ensures { λ r. ⌜ ((s : State) → HoldsFrames (s .frames) (now (frames .entry)) → r ≡ isRefused s (now (request .entry))) ⌝ }
+    ensures { λ r. ⌜ ((s : State) → HoldsFrames (s .frames) (now (frames .entry)) → requestOf q (drop 4 (now (words .entry))) ≡ request (now (words .entry))
+        → r ≡ isRefused s (now (words .entry))) ⌝ }
 {
-    let q = Request::of(request);
     let f = q.frame_used();
     let opened = entries::is_open(frames, f);
-    let following = request::following(request);
-    request::is_miscounted(request) | request::is_malformed(q, following, opened)
+    let following = request::following(words);
+    request::is_miscounted(q, words.len()) | request::is_malformed(q, following, opened)
 }
 
 pub fn step(
@@ -33,10 +36,14 @@ pub fn step(
     ensures { λ r. ⌜ ((s : State) → HoldsState s (buffers (now (allocs .entry)) (now (parents .entry)) (now (protectors .entry)) (now (words .entry)) (now (codes .entry))) (now (frames .entry))
         → Stepped s (now (request .entry)) r (buffers (now (allocs .exit)) (now (parents .exit)) (now (protectors .exit)) (now (words .exit)) (now (codes .exit))) (now (frames .exit))) ⌝ }
 {
-    if is_refused(frames, request) {
+    // too few words even for the fields; from here on each of them is there to be read
+    if request.len() < 4 {
         return Answer::Refused(2);
     }
     let q = Request::of(request);
+    if is_refused(frames, q, request) {
+        return Answer::Refused(2);
+    }
     let following = request::following(request);
     perform::perform(
         allocs,

@@ -8,18 +8,14 @@ use Rattle.definition.specs.Request.{request, followingLength, isMiscounted}
 use Rattle.request.proofs.is_miscounted.Statement.{statement}
 use Rattle.request.proofs.is_miscounted.Tie as tie
 
-of-requires : tie.Need-of-requires
-of-requires c κs = search needs
-
 following-length-requires : tie.Need-following-length-requires
 following-length-requires c κs = search needs
 
 returns : tie.Need-returns
 unfolding isMiscounted
-returns c =
-    let ws = c .before .before .before .before .args .words .now in
+returns c = λ ws same count.
     let n : c .before .following-length .result ≡ followingLength (request ws) =
-    c .before .following-length .ensures (drop 4 ws) ∙ ap followingLength (c .before .before .of .ensures) in
+    c .before .following-length .ensures (drop 4 ws) ∙ ap followingLength same in
     rw (← n, lt-ltb _ _ (c .if1 .taken), or-true)
 
 add-result : tie.Need-add-result
@@ -27,12 +23,10 @@ add-result c = search needs
 
 returns-2 : tie.Need-returns-2
 unfolding isMiscounted
-returns-2 c =
-    let ws = c .before .before .before .before .args .words .now in
+returns-2 c = λ ws same count.
     let n : c .before .following-length .result ≡ followingLength (request ws) =
-    c .before .following-length .ensures (drop 4 ws) ∙ ap followingLength (c .before .before .of .ensures) in
-    rw (← n, le-ltb _ _ (c .if1 .left), or-false)
+    c .before .following-length .ensures (drop 4 ws) ∙ ap followingLength same in
+    rw (← n, ← count, le-ltb _ _ (c .if1 .left), or-false)
 
 pub is-miscounted-spec : {M : Type 1} → statement M
-is-miscounted-spec =
-    tie.close (tie.spec of-requires following-length-requires returns add-result returns-2)
+is-miscounted-spec = tie.close (tie.spec following-length-requires returns add-result returns-2)

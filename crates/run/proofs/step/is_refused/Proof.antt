@@ -1,14 +1,11 @@
 -- The fields, the words that follow and the frame are the request's.
 use Prim.Native.Nat.{ℕ}
-use mathlib.Core.Path.{ap, sym, _∙_}
+use mathlib.Core.Path.{refl, ap, sym, _∙_}
 use borrow.Author.Needs.{needs}
 use Rattle.definition.specs.Frame.{isOpen, frameAt}
 use Rattle.run.proofs.Steps.{refused-by}
 use Rattle.run.proofs.step.is_refused.Statement.{statement}
 use Rattle.run.proofs.step.is_refused.Tie as tie
-
-of-requires : tie.Need-of-requires
-of-requires c κs = search needs
 
 frame-used-requires : tie.Need-frame-used-requires
 frame-used-requires c κs = search needs
@@ -26,13 +23,16 @@ is-malformed-requires : tie.Need-is-malformed-requires
 is-malformed-requires c κs = search needs
 
 returns : tie.Need-returns
-returns c = λ s h. let a = c .before .before .before .before .before .before .before .before in let q = c .before .before .before .before .before .of in refused-by s (a .args .request .now) (c .before .is-miscounted .ensures) (q .result) (q .ensures) (c .before .before .following .ensures) (c .is-malformed .ensures s (ap (λ (n : ℕ). isOpen (frameAt s n)) (sym (c .before .before .before .before .frame-used .ensures .0)) ∙ sym (c .before .before .before .is-open .ensures (s .frames) h)))
+returns c = λ s h same.
+    let a = c .before .before .before .before .before .before .before in
+    let ws = a .args .words .now in
+    let opened = ap (λ (n : ℕ). isOpen (frameAt s n)) (sym (c .before .before .before .before .frame-used .ensures .0)) ∙ sym (c .before .before .before .is-open .ensures (s .frames) h) in
+    refused-by s ws (c .before .is-miscounted .ensures ws same refl) (a .args .q) same (c .before .before .following .ensures) (c .is-malformed .ensures s opened)
 
 pub is-refused-spec : {M : Type 1} → statement M
 is-refused-spec =
     tie.close
     (tie.spec
-    of-requires
     frame-used-requires
     is-open-requires
     following-requires

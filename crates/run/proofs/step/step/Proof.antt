@@ -1,28 +1,40 @@
 -- 2, or the request by its kind; the lent words are 32-bit words, so the next state is valid (Steps).
 use mathlib.Core.Path.{sym, _∙_}
+use Rattle.run.proofs.Steps.{all-words, short-refused, frames-held, stepped-refused, formed, stepped}
 use native.Mathlib.Omega.{arith}
 use borrow.Author.Needs.{needs}
-use Rattle.run.proofs.Steps.{all-words, frames-held, stepped-refused, formed, stepped}
 use Rattle.run.proofs.step.step.Statement.{statement}
 use Rattle.run.proofs.step.step.Tie as tie
 
+returns : tie.Need-returns
+returns c =
+    λ s h. let ws = c .before .before .before .before .before .before .before .before .args .request .now in
+    stepped-refused h ws (short-refused s ws (c .if1 .taken))
+
+of-requires : tie.Need-of-requires
+of-requires c κs = search needs
+
 is-refused-requires : tie.Need-is-refused-requires
-is-refused-requires c κs = let s = c .before .before .before .before .before .before .before .before in (s .pre .0, frames-held (s .pre .1))
+is-refused-requires c κs = let s = c .before .before .before .before .before .before .before .before .before .before in (s .pre .0, frames-held (s .pre .1))
 
 same-length : tie.Need-same-length
 same-length c = search needs
 
-returns : tie.Need-returns
-returns c = λ s h. let a = c .before .before .before .before .before .before .before .before .before .before in stepped-refused h (a .args .request .now) (sym (c .before .is-refused .ensures s (frames-held h)) ∙ c .if1 .taken)
-
-of-requires : tie.Need-of-requires
-of-requires c κs = search needs
+returns-2 : tie.Need-returns-2
+returns-2 c =
+    λ s h. stepped-refused h (c .before .before .before .before .before .before .before .before .before .before .before .before .args .request .now) (sym (c .before .is-refused .ensures s (frames-held h) (c .before .before .before .of .ensures)) ∙ c .if2 .taken)
 
 following-requires : tie.Need-following-requires
 following-requires c κs = search needs
 
 perform-requires : tie.Need-perform-requires
-perform-requires c κs = let s = c .before .before .before .before .before .before .before .before .before .before .before .before .before .before .before .before .before .before in let ws = s .args .request .now in (s .pre .0, (s .pre .1, formed (s .pre .1) ws (all-words ws (λ i. omega (arith, c .before .before .before .before .before .before .before .before .before .before .before .shared-slice-known .given i))) (sym (c .before .before .before .before .before .before .before .before .before .is-refused .ensures (s .pre .0) (frames-held (s .pre .1))) ∙ c .before .before .before .before .before .before .before .before .if1 .left) (c .before .before .before .before .before .before .before .of .result) (c .before .before .before .before .before .before .before .of .ensures) (c .before .before .before .before .before .before .following .ensures)))
+perform-requires c κs =
+    let s = c .before .before .before .before .before .before .before .before .before .before .before .before .before .before .before .before .before .before .before in
+    let h = s .pre .1 in
+    let ws = s .args .request .now in
+    let q = c .before .before .before .before .before .before .before .before .before .before .of in
+    let passed = sym (c .before .before .before .before .before .before .before .before .is-refused .ensures (s .pre .0) (frames-held h) (q .ensures)) ∙ c .before .before .before .before .before .before .before .if2 .left in
+    (s .pre .0, (h, formed h ws (all-words ws (λ i. omega (arith, c .before .before .before .before .before .before .before .before .before .before .before .before .shared-slice-known .given i))) passed (q .result) (q .ensures) (c .before .before .before .before .before .before .following .ensures)))
 
 same-length-2 : tie.Need-same-length-2
 same-length-2 c = search needs
@@ -42,17 +54,25 @@ same-length-6 c = search needs
 same-length-7 : tie.Need-same-length-7
 same-length-7 c = search needs
 
-returns-2 : tie.Need-returns-2
-returns-2 c = λ s h. let a = c .before .before .before .before .before .before .before .before .before .before .before .before .before .before .before .before .before .before .before .before .before .before .before .before .before .before .before .before .before .before .before in let ws = a .args .request .now in stepped h ws (all-words ws (λ i. omega (arith, c .before .before .before .before .before .before .before .before .before .before .before .before .before .before .before .before .before .before .before .before .before .before .before .before .shared-slice-known .given i))) (sym (c .before .before .before .before .before .before .before .before .before .before .before .before .before .before .before .before .before .before .before .before .before .before .is-refused .ensures s (frames-held h)) ∙ c .before .before .before .before .before .before .before .before .before .before .before .before .before .before .before .before .before .before .before .before .before .if1 .left) (c .before .before .before .before .before .before .before .before .before .before .before .before .before .before .before .before .before .before .before .before .of .result) (c .before .before .before .before .before .before .before .before .before .before .before .before .before .before .before .before .before .before .before .before .of .ensures) (c .before .before .before .before .before .before .before .before .before .before .before .before .before .before .before .before .before .before .before .following .ensures) (c .before .before .before .before .before .before .before .before .before .before .before .before .perform .ensures s h (formed h ws (all-words ws (λ i. omega (arith, c .before .before .before .before .before .before .before .before .before .before .before .before .before .before .before .before .before .before .before .before .before .before .before .before .shared-slice-known .given i))) (sym (c .before .before .before .before .before .before .before .before .before .before .before .before .before .before .before .before .before .before .before .before .before .before .is-refused .ensures s (frames-held h)) ∙ c .before .before .before .before .before .before .before .before .before .before .before .before .before .before .before .before .before .before .before .before .before .if1 .left) (c .before .before .before .before .before .before .before .before .before .before .before .before .before .before .before .before .before .before .before .before .of .result) (c .before .before .before .before .before .before .before .before .before .before .before .before .before .before .before .before .before .before .before .before .of .ensures) (c .before .before .before .before .before .before .before .before .before .before .before .before .before .before .before .before .before .before .before .following .ensures)))
+returns-3 : tie.Need-returns-3
+returns-3 c =
+    λ s h. let ws = c .before .before .before .before .before .before .before .before .before .before .before .before .before .before .before .before .before .before .before .before .before .before .before .before .before .before .before .before .before .before .before .before .args .request .now in
+    let words = (all-words ws (λ i. omega (arith, c .before .before .before .before .before .before .before .before .before .before .before .before .before .before .before .before .before .before .before .before .before .before .before .before .before .shared-slice-known .given i))) in
+    let q = c .before .before .before .before .before .before .before .before .before .before .before .before .before .before .before .before .before .before .before .before .before .before .before .of in
+    let following = c .before .before .before .before .before .before .before .before .before .before .before .before .before .before .before .before .before .before .before .following .ensures in
+    let passed = sym (c .before .before .before .before .before .before .before .before .before .before .before .before .before .before .before .before .before .before .before .before .before .is-refused .ensures s (frames-held h) (q .ensures)) ∙ c .before .before .before .before .before .before .before .before .before .before .before .before .before .before .before .before .before .before .before .before .if2 .left in
+    stepped h ws words passed (q .result) (q .ensures) following
+    (c .before .before .before .before .before .before .before .before .before .before .before .before .perform .ensures s h (formed h ws words passed (q .result) (q .ensures) following))
 
 pub step-spec : {M : Type 1} → statement M
 step-spec =
     tie.close
     (tie.spec
-    is-refused-requires
-    same-length
     returns
     of-requires
+    is-refused-requires
+    same-length
+    returns-2
     following-requires
     perform-requires
     same-length-2
@@ -61,4 +81,4 @@ step-spec =
     same-length-5
     same-length-6
     same-length-7
-    returns-2)
+    returns-3)
