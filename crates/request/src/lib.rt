@@ -317,17 +317,17 @@ fn any_field(q: Request) -> bool
     any_name(q) | (q.exponent != 0) | (q.extra != 0) | (q.address != 0)
 }
 
+// Every byte is looked at, with no way out of the loop: several are tested at a time.
 pub fn any_bad_byte(bytes: &[u32]) -> bool
     ensures { λ r. ⌜ r ≡ any badByte (now (bytes .entry)) ⌝ }
 {
+    let mut bad = false;
     let mut i = 0;
     while i < bytes.len() {
-        if pointer::bad_byte(bytes[i]) {
-            return true;
-        }
+        bad = bad | pointer::bad_byte(bytes[i]);
         i += 1;
     }
-    false
+    bad
 }
 
 fn bad_settings(q: Request, opened: bool) -> bool
@@ -378,13 +378,13 @@ fn malformed_deallocate(q: Request) -> bool
     stray_name(q) | (q.exponent > 29) | (q.extra > 4)
 }
 
-fn malformed_load(q: Request) -> bool
+pub fn malformed_load(q: Request) -> bool
     ensures { λ r. ⌜ ((s : State) (ws : List ℕ) → r ≡ isMalformed Load s (requestOf q ws)) ⌝ }
 {
     stray_name(q) | (q.exponent > 29) | (q.extra != 0)
 }
 
-fn malformed_store(q: Request, following: &[u32]) -> bool
+pub fn malformed_store(q: Request, following: &[u32]) -> bool
     ensures { λ r. ⌜ ((s : State) → r ≡ isMalformed Store s (requestOf q (now (following .entry)))) ⌝ }
 {
     malformed_load(q) | any_bad_byte(following)

@@ -21,14 +21,14 @@ fn part<'a>(words: &'a [u32], from: usize, end: usize) -> &'a [u32]
     ensures { λ r. ⌜ now r ≡ take (end - from) (drop from (now (words .entry))) ⌝ }
 {
     let total = words.len();
-    if total < from {
-        return &words[total..];
+    if total < end {
+        if total < from {
+            return &words[total..];
+        }
+        return &words[from..];
     }
     if end < from {
         return &words[total..];
-    }
-    if total < end {
-        return &words[from..];
     }
     &words[from..end]
 }

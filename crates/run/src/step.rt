@@ -1,26 +1,118 @@
-// One request: 2, and then its kind (`perform`). The buffers are not tested again: they hold a state, and hold the next one afterwards.
+// One request: 2, and then its kind. The buffers are not tested again: they hold a state, and hold the next one afterwards.
+// Loads and stores, of which a run has the most, go straight to the memory: the kind is looked at once.
 use answer::Answer;
+use request::Kind;
 use request::Request;
 ghost use mathlib.Core.Path.{_≡_};
+ghost use mathlib.Core.List.{List};
+ghost use Prim.Native.Nat.{ℕ};
 ghost use lib.ListN.{drop};
 ghost use Rattle.definition.specs.Frame.{State};
-ghost use Rattle.definition.specs.Request.{request};
+ghost use Rattle.definition.specs.Request as definition;
 ghost use Rattle.tables.specs.Held.{buffers};
 ghost use Rattle.entries.specs.Buffer.{HoldsFrames};
 ghost use Rattle.request.specs.Fields.{requestOf};
+ghost use Rattle.request.specs.declared.Kind.the-variants.{Load, Store};
 ghost use Rattle.perform.specs.Performed.{HoldsState};
 ghost use Rattle.run.specs.Steps.{isRefused, Stepped};
 
 // The request, of these fields, falls under 2.
-fn is_refused(frames: &[u32], q: Request, words: &[u32]) -> bool
+fn is_refused(frames: &[u32], q: Request, request: &[u32]) -> bool
     requires { ⌜ ((s : State) × HoldsFrames (s .frames) (now frames)) ⌝ }
-    ensures { λ r. ⌜ ((s : State) → HoldsFrames (s .frames) (now (frames .entry)) → requestOf q (drop 4 (now (words .entry))) ≡ request (now (words .entry))
-        → r ≡ isRefused s (now (words .entry))) ⌝ }
+    ensures { λ r. ⌜ ((s : State) → HoldsFrames (s .frames) (now (frames .entry)) → requestOf q (drop 4 (now (request .entry))) ≡ definition.request (now (request .entry))
+        → r ≡ isRefused s (now (request .entry))) ⌝ }
 {
     let f = q.frame_used();
     let opened = entries::is_open(frames, f);
-    let following = request::following(words);
-    request::is_miscounted(q, words.len()) | request::is_malformed(q, following, opened)
+    let following = request::following(request);
+    request::is_miscounted(q, request.len()) | request::is_malformed(q, following, opened)
+}
+
+fn wide(x: u32) -> u64
+    ensures { λ r. ⌜ r ≡ x ⌝ }
+{
+    x as u64
+}
+
+// A load, whatever the buffers that it does not see hold.
+fn load(allocs: &[u64], parents: &[u16], codes: &mut [u8], q: Request, request: &[u32]) -> Answer
+    requires { ⌜ ((s : State) × ((R : List ℕ) × ((W : List ℕ) × ((F : List ℕ) × HoldsState s (buffers (now allocs) (now parents) R W (now codes)) F)))) ⌝ }
+    requires { ⌜ (q .kind ≡ Load) × (requestOf q (drop 4 (now request)) ≡ definition.request (now request)) ⌝ }
+    ensures { λ r. ⌜ ((s : State) (R W F : List ℕ) → HoldsState s (buffers (now (allocs .entry)) (now (parents .entry)) R W (now (codes .entry))) F
+        → Stepped s (now (request .entry)) r (buffers (now (allocs .entry)) (now (parents .entry)) R W (now (codes .exit))) F) ⌝ }
+{
+    if request::is_miscounted(q, request.len()) | request::malformed_load(q) {
+        return Answer::Refused(2);
+    }
+    memory::access::load(
+        allocs,
+        parents,
+        codes,
+        q.pointer(),
+        wide(q.fourth),
+        wide(q.exponent),
+    )
+}
+
+// A store, likewise.
+fn store(
+    allocs: &[u64],
+    parents: &[u16],
+    words: &mut [u32],
+    codes: &mut [u8],
+    q: Request,
+    request: &[u32],
+) -> Answer
+    requires { ⌜ ((s : State) × ((R : List ℕ) × ((F : List ℕ) × HoldsState s (buffers (now allocs) (now parents) R (now words) (now codes)) F))) ⌝ }
+    requires { ⌜ (q .kind ≡ Store) × (requestOf q (drop 4 (now request)) ≡ definition.request (now request)) ⌝ }
+    ensures { λ r. ⌜ ((s : State) (R F : List ℕ) → HoldsState s (buffers (now (allocs .entry)) (now (parents .entry)) R (now (words .entry)) (now (codes .entry))) F
+        → Stepped s (now (request .entry)) r (buffers (now (allocs .entry)) (now (parents .entry)) R (now (words .exit)) (now (codes .exit))) F) ⌝ }
+{
+    let following = request::following(request);
+    if request::is_miscounted(q, request.len()) | request::malformed_store(q, following) {
+        return Answer::Refused(2);
+    }
+    memory::access::store(
+        allocs,
+        parents,
+        words,
+        codes,
+        q.pointer(),
+        following,
+        wide(q.exponent),
+    )
+}
+
+// A request of any kind.
+fn by_kind(
+    allocs: &mut [u64],
+    parents: &mut [u16],
+    protectors: &mut [u8],
+    words: &mut [u32],
+    codes: &mut [u8],
+    frames: &mut [u32],
+    q: Request,
+    request: &[u32],
+) -> Answer
+    requires { ⌜ ((s : State) × HoldsState s (buffers (now allocs) (now parents) (now protectors) (now words) (now codes)) (now frames)) ⌝ }
+    requires { ⌜ requestOf q (drop 4 (now request)) ≡ definition.request (now request) ⌝ }
+    ensures { λ r. ⌜ ((s : State) → HoldsState s (buffers (now (allocs .entry)) (now (parents .entry)) (now (protectors .entry)) (now (words .entry)) (now (codes .entry))) (now (frames .entry))
+        → Stepped s (now (request .entry)) r (buffers (now (allocs .exit)) (now (parents .exit)) (now (protectors .exit)) (now (words .exit)) (now (codes .exit))) (now (frames .exit))) ⌝ }
+{
+    if is_refused(frames, q, request) {
+        return Answer::Refused(2);
+    }
+    let following = request::following(request);
+    perform::perform(
+        allocs,
+        parents,
+        protectors,
+        words,
+        codes,
+        frames,
+        q,
+        following,
+    )
 }
 
 pub fn step(
@@ -41,18 +133,19 @@ pub fn step(
         return Answer::Refused(2);
     }
     let q = Request::of(request);
-    if is_refused(frames, q, request) {
-        return Answer::Refused(2);
+    let kind = q.kind;
+    match kind {
+        Kind::Load => load(allocs, parents, codes, q, request),
+        Kind::Store => store(allocs, parents, words, codes, q, request),
+        _ => by_kind(
+            allocs,
+            parents,
+            protectors,
+            words,
+            codes,
+            frames,
+            q,
+            request,
+        ),
     }
-    let following = request::following(request);
-    perform::perform(
-        allocs,
-        parents,
-        protectors,
-        words,
-        codes,
-        frames,
-        q,
-        following,
-    )
 }

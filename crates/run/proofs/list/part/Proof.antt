@@ -1,7 +1,7 @@
--- Four cases: nothing behind the words, nothing before the start, up to their end, and a part inside.
+-- Four cases: nothing behind the words, up to their end, nothing before the start, and a part inside.
+use Rattle.run.proofs.Turns.{part-behind, part-before, part-rest}
 use native.Mathlib.Omega.{arith}
 use borrow.Author.Needs.{needs}
-use Rattle.run.proofs.Turns.{part-behind, part-before, part-rest}
 use Rattle.run.proofs.list.part.Statement.{statement}
 use Rattle.run.proofs.list.part.Tie as tie
 
@@ -18,7 +18,7 @@ part-result-end : tie.Need-part-result-end
 part-result-end c = search needs
 
 returns : tie.Need-returns
-returns c = let s = c .before .before in part-behind (s .args .words .now) (s .args .from) (s .args .end) (omega arith)
+returns c = let s = c .before .before .before in part-behind (s .args .words .now) (s .args .from) (s .args .end) (omega arith)
 
 mul-result-2 : tie.Need-mul-result-2
 mul-result-2 c = search needs
@@ -33,7 +33,7 @@ part-result-end-2 : tie.Need-part-result-end-2
 part-result-end-2 c = search needs
 
 returns-2 : tie.Need-returns-2
-returns-2 c = let s = c .before .before .before in part-before (s .args .words .now) (s .args .from) (s .args .end) (omega arith)
+returns-2 c = let s = c .before .before .before in part-rest (s .args .words .now) (s .args .from) (s .args .end) (omega arith)
 
 mul-result-3 : tie.Need-mul-result-3
 mul-result-3 c = search needs
@@ -48,7 +48,7 @@ part-result-end-3 : tie.Need-part-result-end-3
 part-result-end-3 c = search needs
 
 returns-3 : tie.Need-returns-3
-returns-3 c = let s = c .before .before .before .before in part-rest (s .args .words .now) (s .args .from) (s .args .end) (omega arith)
+returns-3 c = let s = c .before .before .before in part-before (s .args .words .now) (s .args .from) (s .args .end) (omega arith)
 
 mul-result-4 : tie.Need-mul-result-4
 mul-result-4 c = search needs
