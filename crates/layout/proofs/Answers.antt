@@ -1,32 +1,54 @@
--- What a caller of `freeze_mask` learns from its answer, if it lends a buffer of 4,096 bytes.
+-- What a caller learns from the answer of `freeze_mask_within`, and of `freeze_mask`, if it lends a buffer of 4,096 bytes.
 use Prim.Native.Nat.{ℕ, _≤_}
-use mathlib.Core.Path.{_≡_, refl, sym, _∙_}
+use mathlib.Core.Path.{_≡_, refl, sym, ap, _∙_}
 use mathlib.Core.Bool.{false}
 use mathlib.Core.Option.{Option, none, some}
-use mathlib.Core.List.{List, _++_}
+use mathlib.Core.List.{List}
 use native.Mathlib.Omega.{arith}
-use lib.ListN.{length, getD, drop, List·getD-map}
+use lib.ListN.{length, getD, take, drop, List·getD-map}
+use lib.Seq.{take-at}
 use borrow.Author.Tests.{eq-eqb}
 use Rattle.definition.specs.Layout.{FreezeMask, freezeMask}
 use Rattle.layout.specs.declared.Mask.the-variants.{Of, None, WrongLength}
-use Rattle.layout.specs.Filled.{maskByte, maskBytes, lengthOf, filled, answered, afterwards}
-use Rattle.layout.proofs.Fill.{written}
-use Rattle.layout.proofs.Bounded.{mask-bound}
+use Rattle.layout.specs.Filled.{maskByte, maskBytes, fitting, lengthOf, filled, Fills, answered, afterwards}
+use Rattle.layout.proofs.Fill.{bytes-length, written, fitting-some}
+use Rattle.layout.proofs.Bounded.{mask-bounded}
 
 -- byte b of a mask
 pub mask-byte : (mask : FreezeMask) (b : ℕ) → getD (maskBytes mask) b 0 ≡ maskByte (getD mask b false)
 unfolding maskBytes
 mask-byte mask b = List·getD-map maskByte mask b false
 
--- a mask that the words have, of the answered length, at the buffer's start
-pub record HasMask (ws buffer : List ℕ) (n : ℕ) : Type 0 where
+-- a mask that the words have, of the answered length, in the front of the filled buffer
+pub record HasMask (ws before after : List ℕ) (n : ℕ) : Type 0 where
   pub mask : FreezeMask
   pub defined : freezeMask ws ≡ some mask
-  pub len : length mask ≡ n
-  pub bound : n ≤ 4096
-  pub contents : afterwards ws buffer ≡ maskBytes mask ++ drop n buffer
+  pub bound : n ≤ length before
+  pub front : take n after ≡ maskBytes mask
+
+module _ {ws before after : List ℕ} {n : ℕ} (f : Fills (freezeMask ws) before (Of n) after) where
+  pub fills-of : HasMask ws before after n
+  fills-of = go (fitting (length before) (freezeMask ws)) refl
+    where
+      go : (x : Option FreezeMask) → fitting (length before) (freezeMask ws) ≡ x → HasMask ws before after n
+      go none e = let s : Of n ≡ None = f .answer ∙ ap lengthOf e in let z : _≡_ {A = ℕ} 0 1 = cc in absurd (omega arith)
+      go (some m) e =
+          let s : Of n ≡ Of (length m) = f .answer ∙ ap lengthOf e in
+          let l : length m ≡ n = cc in
+          let fits = fitting-some (length before) (freezeMask ws) m e in
+          record {
+            mask = m;
+            defined = fits .0;
+            bound = omega (arith, fits .1);
+            front =
+                ap (take n) (f .contents ∙ ap (λ (o : Option FreezeMask). filled o before) e ∙ sym (written m before (fits .1)))
+                ∙ take-at (maskBytes m) (drop (length m) before) n (bytes-length m ∙ l);
+          }
 
 module _ (ws buffer : List ℕ) (whole : length buffer ≡ 4096) where
+  all-fit : fitting (length buffer) (freezeMask ws) ≡ freezeMask ws
+  all-fit = rw whole (mask-bounded ws)
+
   asks : answered ws buffer ≡ lengthOf (freezeMask ws)
   unfolding answered
   asks = rw (eq-eqb (length buffer) 4096 whole)
@@ -35,23 +57,13 @@ module _ (ws buffer : List ℕ) (whole : length buffer ≡ 4096) where
   unfolding afterwards
   holds = rw (eq-eqb (length buffer) 4096 whole)
 
-  pub answers-of : (n : ℕ) → Of n ≡ answered ws buffer → HasMask ws buffer n
-  answers-of n e = go (freezeMask ws) refl
-    where
-      go : (x : Option FreezeMask) → freezeMask ws ≡ x → HasMask ws buffer n
-      go none d = let r : Of n ≡ lengthOf (freezeMask ws) = e ∙ asks in let s : Of n ≡ None = rw d at r in let z : _≡_ {A = ℕ} 0 1 = cc in absurd (omega arith)
-      go (some m) d =
-          let r : Of n ≡ lengthOf (freezeMask ws) = e ∙ asks in
-          let s : Of n ≡ Of (length m) = rw d at r in
-          let l : length m ≡ n = cc in
-          let k : length m ≤ 4096 = mask-bound ws m d in
-          record {
-            mask = m;
-            defined = d;
-            len = l;
-            bound = omega arith;
-            contents = holds ∙ rw (d, ← l) (sym (written m buffer (omega arith)));
-          }
+  pub answers-of : (n : ℕ) → Of n ≡ answered ws buffer → HasMask ws buffer (afterwards ws buffer) n
+  answers-of n e =
+      fills-of
+      (record {
+        answer = e ∙ asks ∙ sym (ap lengthOf all-fit);
+        contents = holds ∙ sym (ap (λ (o : Option FreezeMask). filled o buffer) all-fit);
+      })
 
   pub answers-none : None ≡ answered ws buffer → freezeMask ws ≡ none
   answers-none e = go (freezeMask ws) refl

@@ -16,7 +16,6 @@ use Rattle.layout.specs.declared.Mask.{Mask}
 use Rattle.layout.specs.declared.Mask.the-variants.{WrongLength}
 use Rattle.layout.specs.Filled.{fitting, Fills, answered, afterwards}
 use Rattle.layout.proofs.Words.{nested}
-use Rattle.layout.proofs.Fill.{fitting-some}
 
 -- a mask for which 4,096 bytes are enough
 abbrev Bounded : Option FreezeMask → Type 0
@@ -70,13 +69,10 @@ header-bounded meta tail (w ∷ ws) =
     if-bounded (ltb (length ws) (h .cells) || not (cellsFit 0 (h .size) cells)) (layoutMask meta tail h cells (drop (h .cells) ws))
     (layout-bounded meta tail (h .layout) (h .cells) (h .size) cells (drop (h .cells) ws))
 
-mask-bounded : (ws : List ℕ) → Bounded (freezeMask ws)
+pub mask-bounded : (ws : List ℕ) → Bounded (freezeMask ws)
 unfolding freezeMask
 mask-bounded [] = refl
 mask-bounded (w ∷ ws) = rw (nested 8 _ ws) (header-bounded _ _ ws)
-
-pub mask-bound : (ws : List ℕ) (mask : FreezeMask) → freezeMask ws ≡ some mask → length mask ≤ 4096
-mask-bound ws mask e = fitting-some 4096 (freezeMask ws) mask (mask-bounded ws ∙ e) .1
 
 -- ---- what the public function promises: of a buffer of another length, and of one of 4,096 bytes
 module _ (ws buffer : List ℕ) where

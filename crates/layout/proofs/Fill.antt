@@ -45,7 +45,7 @@ pub nothing : (before : List ℕ) → Fills none before None before
 nothing before = record { answer = refl; contents = refl }
 
 -- ---- masks written at the start of a buffer
-bytes-length : (m : FreezeMask) → length (maskBytes m) ≡ length m
+pub bytes-length : (m : FreezeMask) → length (maskBytes m) ≡ length m
 unfolding maskBytes
 bytes-length [] = refl
 bytes-length (b ∷ m) = ap suc (bytes-length m)

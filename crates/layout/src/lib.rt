@@ -5,7 +5,7 @@ ghost use mathlib.Core.List.{map};
 ghost use Prim.Native.Nat.{_-_, _%_, _≤_, _<_};
 ghost use lib.ListN.{length, getD, replicate};
 ghost use Rattle.definition.specs.Notation.{table, writeAt};
-ghost use Rattle.definition.specs.Layout.{unsafeCell, cellsFit, isFreeze, header, pointerMeta, sizedMask, sliceMask, traitObjectMask, tupleMask, nestedMask};
+ghost use Rattle.definition.specs.Layout.{unsafeCell, cellsFit, isFreeze, header, pointerMeta, sizedMask, sliceMask, traitObjectMask, tupleMask, nestedMask, freezeMask};
 ghost use Rattle.definition.specs.Request.{badMetadata};
 ghost use Rattle.layout.specs.Filled.{headerOf, metaOf, layoutOf, isTuple, hasCells, maskBytes, Fills, elementsMask, lastMask, tailMask, answered, afterwards};
 
@@ -317,17 +317,25 @@ fn fill_layout(words: &[u32], metadata: PointerMeta, tuples: usize, mask: &mut [
     fill_last(head, metadata, rest, mask)
 }
 
-// The mask of all the layout words, the metadata word first. It stands at the buffer's start; behind it, and without a mask, the buffer
-// is as before.
+// The mask of all the layout words, the metadata word first, if `mask` has room for it. It stands at the buffer's start; behind it, and
+// without a mask, the buffer is as before.
+pub fn freeze_mask_within(words: &[u32], mask: &mut [u8]) -> Mask
+    requires { ⌜ length (now mask) ≤ 4096 ⌝ }
+    ensures { λ r. ⌜ Fills (freezeMask (now (words .entry))) (now (mask .entry)) r (now (mask .exit)) ⌝ }
+{
+    if words.len() == 0 {
+        return Mask::None;
+    }
+    let metadata = pointer_meta(words[0]);
+    fill_layout(&words[1..], metadata, 8, mask)
+}
+
+// In a buffer that has room for every mask.
 pub fn freeze_mask(words: &[u32], mask: &mut [u8]) -> Mask
     ensures { λ r. ⌜ (r ≡ answered (now (words .entry)) (now (mask .entry))) × (now (mask .exit) ≡ afterwards (now (words .entry)) (now (mask .entry))) ⌝ }
 {
     if mask.len() != 4096 {
         return Mask::WrongLength;
     }
-    if words.len() == 0 {
-        return Mask::None;
-    }
-    let metadata = pointer_meta(words[0]);
-    fill_layout(&words[1..], metadata, 8, mask)
+    freeze_mask_within(words, mask)
 }

@@ -5,8 +5,8 @@ use mathlib.Core.Bool.{Bool, true, false}
 use mathlib.Core.Option.{Option, none, some}
 use mathlib.Core.List.{List, [], _∷_, _++_}
 use native.Mathlib.Omega.{arith}
-use lib.ListN.{length, getD, take, drop, set, length-append, length-map}
-use lib.Seq.{getD-set-same, take-at}
+use lib.ListN.{length, getD, take, set, length-append}
+use lib.Seq.{getD-set-same}
 use Rattle.definition.specs.Notation.{if_then_else_}
 use Rattle.definition.specs.Permission.{Protected, isYes}
 use Rattle.definition.specs.Layout.{FreezeMask, freezeMask}
@@ -27,7 +27,7 @@ use Rattle.answer.specs.Answer.{answerOf}
 use Rattle.answer.specs.declared.Answer.{Answer}
 use Rattle.answer.specs.declared.Answer.the-variants.{Refused}
 use Rattle.tables.specs.Held.{Trees}
-use Rattle.layout.specs.Filled.{maskByte, maskBytes, afterwards}
+use Rattle.layout.specs.Filled.{maskByte, maskBytes}
 use Rattle.layout.proofs.Answers.{HasMask}
 use Rattle.entries.specs.Buffer.{entriesAt, framesHeld, FitsEntry}
 use Rattle.entries.proofs.FromValid.{made-fits}
@@ -106,11 +106,9 @@ module _ {s : State} {A P R C F : List ℕ} (h : HoldsTrees s A P R C F) (settin
     }
 
 -- ---- the mask
-pub mask-read : {ws buffer : List ℕ} {n : ℕ} (has : HasMask ws buffer n) → maskOf (take n (afterwards ws buffer)) ≡ has .mask
+pub mask-read : {ws before after : List ℕ} {n : ℕ} (has : HasMask ws before after n) → maskOf (take n after) ≡ has .mask
 unfolding maskBytes
-mask-read {ws} {buffer} {n} has =
-    ap maskOf (ap (take n) (has .contents) ∙ take-at (maskBytes (has .mask)) (drop n buffer) n (length-map (has .mask) maskByte ∙ has .len))
-    ∙ mask-back maskByte refl (λ e. omega (arith, e)) (has .mask)
+mask-read has = ap maskOf (has .front) ∙ mask-back maskByte refl (λ e. omega (arith, e)) (has .mask)
 
 -- ---- the cases
 module _ {s : State} {A P R C F : List ℕ} (h : HoldsTrees s A P R C F) where

@@ -109,8 +109,8 @@ fn reborrow_entered(
     answer
 }
 
-// A retag that adds a node, if its layout has a mask.
-fn retag_with_mask(
+// A retag that adds a node, if its layout has a mask, of whatever length.
+fn retag_with_any_mask(
     allocs: &mut [u64],
     parents: &mut [u16],
     protectors: &mut [u8],
@@ -139,6 +139,47 @@ fn retag_with_mask(
         ),
         Mask::None => Answer::Refused(3),
         Mask::WrongLength => Answer::Refused(3), // the buffer has its length
+    }
+}
+
+// The same; a short mask, as most are, does without the long buffer.
+fn retag_with_mask(
+    allocs: &mut [u64],
+    parents: &mut [u16],
+    protectors: &mut [u8],
+    codes: &mut [u8],
+    frames: &mut [u32],
+    q: Request,
+    following: &[u32],
+) -> Answer
+    requires { ⌜ ((s : State) × HoldsTrees s (now allocs) (now parents) (now protectors) (now codes) (now frames)) ⌝ }
+    ensures { λ r. ⌜ ((s : State) → HoldsTrees s (now (allocs .entry)) (now (parents .entry)) (now (protectors .entry)) (now (codes .entry)) (now (frames .entry))
+        → LeftTrees (retagWithMask (freezeMask (now (following .entry))) s (requestOf q (now (following .entry))))
+        r (now (allocs .exit)) (now (parents .exit)) (now (protectors .exit)) (now (codes .exit)) (now (frames .exit))) ⌝ }
+{
+    let mut mask = [0u8; 64];
+    let made = layout::freeze_mask_within(following, &mut mask);
+    match made {
+        Mask::Of(len) => reborrow_entered(
+            allocs,
+            parents,
+            protectors,
+            codes,
+            frames,
+            &mut mask,
+            len,
+            q,
+        ),
+        Mask::None => retag_with_any_mask(allocs, parents, protectors, codes, frames, q, following),
+        Mask::WrongLength => retag_with_any_mask(
+            allocs,
+            parents,
+            protectors,
+            codes,
+            frames,
+            q,
+            following,
+        ),
     }
 }
 

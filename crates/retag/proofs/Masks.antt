@@ -5,8 +5,7 @@ use mathlib.Core.Bool.{true, false}
 use mathlib.Core.Option.{none}
 use mathlib.Core.List.{List}
 use native.Mathlib.Omega.{arith}
-use lib.ListN.{length, take, drop, replicate, length-map, length-replicate}
-use lib.Seq.{take-at}
+use lib.ListN.{length, take, replicate, length-replicate}
 use Rattle.definition.specs.Layout.{FreezeMask, freezeMask}
 use Rattle.definition.specs.Memory.{ThinPointer, Memory}
 use Rattle.definition.specs.Memory as definition
@@ -41,21 +40,18 @@ pub blank-length : length blank ≡ 4096
 blank-length = length-replicate {A = ℕ} 4096 0
 
 -- the front of the buffer is read as the mask
-mask-read : (ws buffer : List ℕ) (n : ℕ) (h : HasMask ws buffer n) → maskOf (take n (afterwards ws buffer)) ≡ h .mask
+mask-read : {ws before after : List ℕ} {n : ℕ} (h : HasMask ws before after n) → maskOf (take n after) ≡ h .mask
 unfolding maskBytes
-mask-read ws buffer n h =
-    ap (λ (l : List ℕ). maskOf (take n l)) (h .contents)
-    ∙ ap maskOf (take-at (maskBytes (h .mask)) (drop n buffer) n (length-map (h .mask) maskByte ∙ h .len))
-    ∙ mask-back maskByte refl (λ z. omega arith) (h .mask)
+mask-read h = ap maskOf (h .front) ∙ mask-back maskByte refl (λ z. omega arith) (h .mask)
 
 module _ (settings : RetagSettings) (p : ThinPointer) (layout : List ℕ) (s : State) {A P R C : List ℕ} where
   -- ---- with a mask, and without
   pub performed-mask : {r : Answer} (w : code.ReborrowSettings) → ((mask : FreezeMask) → settingsOf w mask ≡ request.settingsOf (fieldsOf settings) mask)
-      → (buffer : List ℕ) (n : ℕ) → HasMask layout buffer n → (filled : List ℕ) → filled ≡ afterwards layout buffer
+      → (buffer : List ℕ) (n : ℕ) → HasMask layout buffer (afterwards layout buffer) n → (filled : List ℕ) → filled ≡ afterwards layout buffer
       → Retagged (settingsOf w (maskOf (take n filled))) 0 p s r A P R C → Performed (retagWithMask (freezeMask layout) s (requestOf settings p layout)) r A P R C
   performed-mask {r} w same buffer n h filled f k =
       let e : settingsOf w (maskOf (take n filled)) ≡ request.settingsOf (fieldsOf settings) (h .mask) =
-      ap (λ (l : List ℕ). settingsOf w (maskOf (take n l))) f ∙ ap (settingsOf w) (mask-read layout buffer n h) ∙ same (h .mask) in
+      ap (λ (l : List ℕ). settingsOf w (maskOf (take n l))) f ∙ ap (settingsOf w) (mask-read h) ∙ same (h .mask) in
       subst (λ (o : definition.Answer × State). Performed o r A P R C) (ap (λ (x : ReborrowSettings). retag x 0 p s) e ∙ sym (masked settings p layout s (h .mask) (h .defined)))
       (record { answers = k .answers; trees = k .trees })
 
