@@ -4,7 +4,7 @@ use mathlib.Core.Path.{_≡_, refl, sym, ap, ap₂, subst, _∙_}
 use mathlib.Core.List.{List, [], _∷_, _++_, map}
 use native.Mathlib.Nat.{one-mul}
 use native.Mathlib.Omega.{arith}
-use lib.ListN.{length, take, replicate, length-append}
+use lib.ListN.{length, replicate, length-append}
 use Rattle.definition.specs.Notation.{_or_, mutateAt, writeAt}
 use Rattle.definition.specs.Permission.{Permission, permission, isYes}
 use Rattle.definition.specs.Permission as permissions
@@ -29,10 +29,11 @@ use Rattle.tables.specs.Held.{withNode, Trees, NodeFits}
 use Rattle.tables.proofs.Parts.{mutate-twice}
 use Rattle.reborrow.specs.declared.ReborrowSettings as code
 use Rattle.reborrow.specs.Settings.{settingsOf, startCodes, placeIn, childAt}
-use Rattle.reborrow.specs.Retag.{HoldsTrees, HoldsNodes, boundsRefusal, Reached, afterVisit, Fits, Passed, Added, Asked}
+use Rattle.reborrow.specs.declared.TreePart.{TreePart}
+use Rattle.reborrow.specs.Retag.{HoldsNodes, PartOf, TreeAt, boundsRefusal, Reached, afterVisit, Fits, Passed, Added, Asked}
 use Rattle.reborrow.proofs.Codes.{inside-length, inside-permissions, row-of-child, row-long}
 use Rattle.reborrow.proofs.Tests.{pointerAt, points-at, placed, refusal-split, or-first, passed-at}
-use Rattle.reborrow.proofs.Parts.{trees-of, valid-at, size-small, visited-trees}
+use Rattle.reborrow.proofs.Parts.{trees-of, tree-at, valid-at, visited-trees}
 
 module _ (settings : code.ReborrowSettings) (mask : FreezeMask) {codes : List ℕ} (e : codes ≡ startCodes settings mask) (addr n node : ℕ) (m : Memory) (valid : Valid m)
     (h : Passed m n node addr (length codes)) where
@@ -97,8 +98,8 @@ module _ (settings : code.ReborrowSettings) (mask : FreezeMask) {codes : List �
       there : allocationAt grown n ≡ withNode child a
       there = mutate-here (withNode child) noAllocation m n (h .fits .reached .made)
 
-      pub grown-holds : {A P R C : List ℕ} → Trees grown A P R C → HoldsTrees grown A P C
-      grown-holds t = trees-of (record { valid = grown-valid; trees = t })
+      pub grown-at : {A P R C : List ℕ} {r : TreePart} → Trees grown A P R C → PartOf grown n r → TreeAt grown n P C r
+      grown-at t part = tree-at (trees-of (record { valid = grown-valid; trees = t })) part
 
       module _ {number : ℕ} (last : number ≡ nodeCount a) where
         pub grown-reached : Reached grown n number from (length codes)
@@ -145,14 +146,12 @@ added settings mask e q {n} {node} at m valid h place long last {A} {P} {R} {C} 
     }
 
 -- ---- what the tables ask of the child
-pub child-fits : (settings : code.ReborrowSettings) (mask : FreezeMask) {m : Memory} {n node from bytes : ℕ} {A P R C codes row : List ℕ} {outside number : ℕ}
+pub child-fits : (settings : code.ReborrowSettings) (mask : FreezeMask) {m : Memory} {n node from bytes : ℕ} {A P R C codes : List ℕ} {outside number : ℕ}
     → HoldsNodes m A P R C → Fits m n node from (length codes) → bytes ≡ size (allocationAt m n) → codes ≡ startCodes settings mask
-    → outside ≡ permissions.code (settingsOf settings mask .outside) → number ≡ protectorNumber (protector (settings .protected)) → row ≡ writeAt from codes (replicate 4096 outside)
-    → NodeFits m n (childAt (settingsOf settings mask) node from bytes) A P R C node number (take bytes row)
-child-fits settings mask {m} {n} {node} {from} {bytes} h f long e o k r =
-    let small : bytes ≤ 4096 = omega (arith, long, size-small m (h .valid) n (f .reached .made)) in
-    let w = settingsOf settings mask in
-    let row-is = row-of-child settings mask node from bytes 4096 small e o r in
+    → outside ≡ permissions.code (settingsOf settings mask .outside) → number ≡ protectorNumber (protector (settings .protected))
+    → NodeFits m n (childAt (settingsOf settings mask) node from bytes) A P R C node number (writeAt from codes (replicate bytes outside))
+child-fits settings mask {m} {n} {node} {from} {bytes} h f long e o k =
+    let row-is = row-of-child settings mask node from bytes e o in
     record {
       valid = h .valid;
       trees = h .trees;
@@ -160,7 +159,7 @@ child-fits settings mask {m} {n} {node} {from} {bytes} h f long e o k r =
       is-parent = refl;
       is-protector = k;
       is-row = row-is;
-      wide = ap length row-is ∙ row-long w node from bytes ∙ long;
+      wide = ap length row-is ∙ row-long (settingsOf settings mask) node from bytes ∙ long;
       room = f .room;
     }
 

@@ -1,12 +1,13 @@
 -- The codes of a retag's bytes stand for its permissions, and a byte's code depends on that byte of the mask alone.
 use Prim.Native.Nat.{ℕ, zero, suc, _+_, _≤_, _<_}
 use mathlib.Core.Path.{_≡_, refl, sym, ap, ap₂, _∙_}
-use mathlib.Core.Bool.{Bool}
+use mathlib.Core.Bool.{Bool, true, false, not}
 use mathlib.Core.List.{List, [], _∷_, _++_, map, append-nil}
 use native.Mathlib.Omega.{arith}
 use lib.ListN.{length, getD, set, take, drop, replicate, length-map, length-replicate, drop-of-length-le, List·getD-map}
 use lib.Seq.{take-all}
-use Rattle.definition.specs.Notation.{writeAt}
+use lib.Dec.{eqb}
+use Rattle.definition.specs.Notation.{if_then_else_, writeAt}
 use Rattle.definition.specs.Permission.{Permission, code, permission}
 use Rattle.definition.specs.Layout.{FreezeMask}
 use Rattle.definition.specs.Retag as definition
@@ -19,7 +20,7 @@ use Rattle.permission.specs.Codes.{protector, safePointer}
 use Rattle.tables.specs.Encoding.{rowOf}
 use Rattle.tables.proofs.Parts.{map-replicate}
 use Rattle.reborrow.specs.declared.ReborrowSettings.{ReborrowSettings}
-use Rattle.reborrow.specs.Settings.{isFreeze, maskOf, settingsOf, codesFor, startCodes, childAt}
+use Rattle.reborrow.specs.Settings.{maskOf, settingsOf, chosenCode, codesFor, startCodes, childAt}
 
 permissions-back : (l : List Permission) → map permission (map code l) ≡ l
 permissions-back [] = refl
@@ -35,36 +36,24 @@ module _ (settings : ReborrowSettings) (mask : FreezeMask) {codes : List ℕ} (e
   inside-permissions = ap (map permission) e ∙ permissions-back (settingsOf settings mask .inside)
 
 -- ---- the loop over a mask
-module _ (pointer : SafePointer) (protected : Protected) (bytes : List ℕ) where
-  abbrev startPermOf : Bool → Permission
-  startPermOf = startPerm (safePointer pointer) (protector protected)
-
-  abbrev startCodeOf : ℕ → ℕ
-  startCodeOf b = code (startPermOf (isFreeze b))
-
+module _ (freeze cell : ℕ) (bytes : List ℕ) where
   abbrev new : List ℕ
-  new = codesFor pointer protected (maskOf bytes)
+  new = map (chosenCode freeze cell) bytes
 
   new-long : length new ≡ length bytes
-  unfolding codesFor
-  new-long = length-map (map startPermOf (maskOf bytes)) code ∙ length-map (maskOf bytes) startPermOf ∙ length-map bytes isFreeze
-
-  code-at : (i : ℕ) → getD new i (startCodeOf 0) ≡ startCodeOf (getD bytes i 0)
-  unfolding codesFor
-  code-at i =
-      List·getD-map code (map startPermOf (maskOf bytes)) i (startPermOf (isFreeze 0))
-      ∙ ap code (List·getD-map startPermOf (maskOf bytes) i (isFreeze 0) ∙ ap startPermOf (List·getD-map isFreeze bytes i 0))
+  new-long = length-map bytes (chosenCode freeze cell)
 
   -- the codes before place i are made
   abbrev pub madeTo : ℕ → List ℕ
   madeTo i = take i new ++ drop i bytes
 
-  pub next-made : (i c : ℕ) (row : List ℕ) → i < length bytes → row ≡ madeTo i → c ≡ startCodeOf (getD row i 0) → set row i c ≡ madeTo (i + 1)
+  pub next-made : (i c : ℕ) (row : List ℕ) → i < length bytes → row ≡ madeTo i → c ≡ chosenCode freeze cell (getD row i 0) → set row i c ≡ madeTo (i + 1)
   next-made i c row l e f =
       let next : suc i ≡ i + 1 = omega arith in
       ap₂ (λ (r : List ℕ) (k : ℕ). set r i k) e
-      (f ∙ ap (λ (r : List ℕ). startCodeOf (getD r i 0)) e ∙ ap startCodeOf (loop-get new bytes 0 i new-long l) ∙ sym (code-at i))
-      ∙ loop-set new bytes (startCodeOf 0) i new-long l
+      (f ∙ ap (λ (r : List ℕ). chosenCode freeze cell (getD r i 0)) e ∙ ap (chosenCode freeze cell) (loop-get new bytes 0 i new-long l)
+      ∙ sym (List·getD-map (chosenCode freeze cell) bytes i 0))
+      ∙ loop-set new bytes (chosenCode freeze cell 0) i new-long l
       ∙ ap madeTo next
 
   pub all-made : (i : ℕ) → length bytes ≤ i → madeTo i ≡ new
@@ -72,10 +61,17 @@ module _ (pointer : SafePointer) (protected : Protected) (bytes : List ℕ) wher
       let k : length new ≤ i = omega (arith, new-long) in
       ap₂ (λ (xs ys : List ℕ). xs ++ ys) (take-all i new k) (drop-of-length-le bytes l) ∙ append-nil new
 
--- ---- a child's row
-pub fill-all : (row : List ℕ) (x : ℕ) → replicate (length row) x ++ drop (length row) row ≡ replicate (length row) x
-fill-all row x = let l : length row ≤ length row = omega arith in ap (λ (ys : List ℕ). replicate (length row) x ++ ys) (drop-of-length-le row l) ∙ append-nil _
+pub codes-chosen : (pointer : SafePointer) (protected : Protected) {freeze cell : ℕ} → freeze ≡ code (startPerm (safePointer pointer) (protector protected) true)
+    → cell ≡ code (startPerm (safePointer pointer) (protector protected) false) → (bytes : List ℕ) → map (chosenCode freeze cell) bytes ≡ codesFor pointer protected (maskOf bytes)
+unfolding codesFor
+codes-chosen pointer protected f e [] = refl
+codes-chosen pointer protected {freeze} {cell} f e (b ∷ bytes) = ap₂ _∷_ (go (eqb b 0)) (codes-chosen pointer protected f e bytes)
+  where
+    go : (isZero : Bool) → (if isZero then cell else freeze) ≡ code (startPerm (safePointer pointer) (protector protected) (not isZero))
+    go true = e
+    go false = f
 
+-- ---- a child's row
 map-write : {X : Type 0} (f : X → ℕ) (n : ℕ) (ys xs : List X) → map f (writeAt n ys xs) ≡ writeAt n (map f ys) (map f xs)
 unfolding writeAt
 map-write f n ys [] = refl
@@ -83,31 +79,18 @@ map-write f zero [] (x ∷ xs) = refl
 map-write f zero (y ∷ ys) (x ∷ xs) = ap (λ (l : List ℕ). f y ∷ l) (map-write f zero ys xs)
 map-write f (suc n) ys (x ∷ xs) = ap (λ (l : List ℕ). f x ∷ l) (map-write f n ys xs)
 
-take-write : (k n : ℕ) (ys xs : List ℕ) → take k (writeAt n ys xs) ≡ writeAt n ys (take k xs)
-unfolding writeAt
-take-write zero n ys xs = refl
-take-write (suc k) n ys [] = refl
-take-write (suc k) zero [] (x ∷ xs) = refl
-take-write (suc k) zero (y ∷ ys) (x ∷ xs) = ap (λ (l : List ℕ). y ∷ l) (take-write k zero ys xs)
-take-write (suc k) (suc n) ys (x ∷ xs) = ap (λ (l : List ℕ). x ∷ l) (take-write k n ys xs)
-
-take-replicate : (k n x : ℕ) → k ≤ n → take k (replicate n x) ≡ replicate k x
-take-replicate zero n x l = refl
-take-replicate (suc k) zero x l = absurd (omega arith)
-take-replicate (suc k) (suc n) x l = ap (λ (xs : List ℕ). x ∷ xs) (take-replicate k n x (omega arith))
-
--- its first bytes, of a wider one, are the child's codes
-pub row-of-child : (settings : ReborrowSettings) (mask : FreezeMask) (node from bytes wide : ℕ) {codes row : List ℕ} {outside : ℕ} → bytes ≤ wide → codes ≡ startCodes settings mask
-    → outside ≡ code (settingsOf settings mask .outside) → row ≡ writeAt from codes (replicate wide outside) → take bytes row ≡ rowOf (childAt (settingsOf settings mask) node from bytes)
+-- it is the codes of the child's permissions
+pub row-of-child : (settings : ReborrowSettings) (mask : FreezeMask) (node from bytes : ℕ) {codes : List ℕ} {outside : ℕ} → codes ≡ startCodes settings mask
+    → outside ≡ code (settingsOf settings mask .outside) → writeAt from codes (replicate bytes outside) ≡ rowOf (childAt (settingsOf settings mask) node from bytes)
 unfolding codesFor
-row-of-child settings mask node from bytes wide {codes} {row} {outside} l e o r =
+row-of-child settings mask node from bytes {codes} {outside} e o =
     let w = settingsOf settings mask in
-    ap (take bytes) r ∙ take-write bytes from codes (replicate wide outside)
-    ∙ ap (writeAt from codes) (take-replicate bytes wide outside l)
-    ∙ ap₂ (λ (ys : List ℕ) (x : ℕ). writeAt from ys (replicate bytes x)) e o
+    ap₂ (λ (ys : List ℕ) (x : ℕ). writeAt from ys (replicate bytes x)) e o
     ∙ ap (writeAt from (map code (w .inside))) (sym (map-replicate code bytes (w .outside)))
     ∙ sym (map-write code from (w .inside) (replicate bytes (w .outside)))
 
+pub permissions-long : (w : definition.ReborrowSettings) (node from bytes : ℕ) → length (childAt w node from bytes .permissions) ≡ bytes
+permissions-long w node from bytes = write-length from (w .inside) (replicate bytes (w .outside)) ∙ length-replicate bytes (w .outside)
+
 pub row-long : (w : definition.ReborrowSettings) (node from bytes : ℕ) → length (rowOf (childAt w node from bytes)) ≡ bytes
-row-long w node from bytes =
-    length-map (childAt w node from bytes .permissions) code ∙ write-length from (w .inside) (replicate bytes (w .outside)) ∙ length-replicate bytes (w .outside)
+row-long w node from bytes = length-map (childAt w node from bytes .permissions) code ∙ permissions-long w node from bytes

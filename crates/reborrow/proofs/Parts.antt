@@ -2,32 +2,37 @@
 use Prim.Native.Nat.{ℕ, suc, _+_, _-_, _*_, _≤_, _<_}
 use mathlib.Core.Path.{_≡_, refl, sym, ap, ap₂, _∙_}
 use mathlib.Core.Bool.{Bool}
-use mathlib.Core.List.{List, [], _∷_, _++_}
+use mathlib.Core.List.{List, [], _∷_, _++_, append-nil}
 use native.Mathlib.Omega.{arith}
 use borrow.Rule.Slice.PartMut.{putMid}
-use lib.ListN.{length, take, drop}
-use Rattle.definition.specs.Notation.{mutateAt}
+use lib.ListN.{length, take, drop, length-append, length-map}
+use Rattle.definition.specs.Notation.{sumOf, mutateAt}
+use Rattle.definition.specs.Permission.{code}
 use Rattle.definition.specs.Tree.{Node, parents, Visit, nodeAfter, visited}
 use Rattle.definition.specs.Memory.{Allocation, Memory, noAllocation, allocationAt, size, nodeCount, kindNumber, isLive}
 use Rattle.definition.specs.Valid.{All, AllFrom, ValidNode, ValidAllocation, Valid}
 use Rattle.definition.proofs.Lists.{each-map}
+use Rattle.definition.proofs.Places.{mutate-here}
 use Rattle.definition.proofs.Trees.{valid-tree}
 use Rattle.definition.proofs.Visits.{visited-length, visited-parents}
 use Rattle.definition.proofs.ValidTrees.{visited-valid}
 use Rattle.tables.specs.Encoding.{protectorNumber, stateNumber, recordOf, parentsOf, protectorsOf, wordsOf, rowOf, codesOf, concatMap, held}
-use Rattle.tables.specs.declared.Allocation as code
-use Rattle.tables.specs.Held.{Records, StartsAt, Trees}
-use Rattle.tables.proofs.Parts.{all-at}
-use Rattle.tables.proofs.Focus.{focus-used, focus-room, focus-part, focus-same, focus-mutate}
-use Rattle.tables.proofs.Sizes.{length-parents, length-rows, length-codes, parents-fit, words-fit, codes-fit, codes-at}
-use Rattle.tables.proofs.Lookup.{nodes-at}
+use Rattle.tables.specs.declared.Allocation as record-read
+use Rattle.tables.specs.Held.{startOf, Records, StartsAt, Used, withNode, Trees, PlaceFor}
+use Rattle.tables.proofs.Parts.{all-at, take-mutate}
+use Rattle.tables.proofs.Focus.{concat-append, focus-used, focus-room, focus-part, focus-same, focus-mutate}
+use Rattle.tables.proofs.Sizes.{length-parents, length-rows, length-codes, parents-used, protectors-used, parents-fit, words-fit, codes-fit, codes-at}
+use Rattle.tables.proofs.Lookup.{nodes-at, start-more}
 use Rattle.bounds.proofs.Points.{recordAt, read-size}
 use Rattle.tree.specs.Table.{rowsOf, Holds}
 use Rattle.reborrow.specs.declared.TreePart.{TreePart}
-use Rattle.reborrow.specs.Retag.{HoldsTrees, HoldsNodes, PartOf, Reached, afterVisit}
+use Rattle.reborrow.specs.Retag.{HoldsTrees, HoldsNodes, PartOf, TreeAt, Reached, afterVisit}
 
 pub trees-of : {m : Memory} {A P R C : List ℕ} → HoldsNodes m A P R C → HoldsTrees m A P C
 trees-of h = record { records = record { valid = h .valid; allocs = h .trees .allocs }; parents = h .trees .parents; codes = h .trees .codes }
+
+pub tree-at : {m : Memory} {n : ℕ} {A P C : List ℕ} {r : TreePart} → HoldsTrees m A P C → PartOf m n r → TreeAt m n P C r
+tree-at h t = record { valid = h .records .valid; parents = h .parents; codes = h .codes; part = t }
 
 -- ---- rows: two ways to say the same
 rows-same : (nodes : List Node) → concatMap rowOf nodes ≡ rowsOf nodes
@@ -75,14 +80,14 @@ module _ (m : Memory) (v : Valid m) (n : ℕ) (made : n < length m) where
   size-small = omega (arith, focus-used 4096 wordsOf m n made, words-fit m v)
 
 -- ---- where its parts lie
-module _ {m : Memory} {A : List ℕ} (h : Records m A) {n : ℕ} (made : n < length m) {r : code.Allocation} (q : r ≡ recordAt A n) where
+module _ {m : Memory} {A : List ℕ} (h : Records m A) {n : ℕ} (made : n < length m) {r : record-read.Allocation} (q : r ≡ recordAt A n) where
   pub read-nodes : r .nodes ≡ nodeCount (allocationAt m n)
-  read-nodes = ap (λ (x : code.Allocation). x .nodes) q ∙ nodes-at h n made
+  read-nodes = ap (λ (x : record-read.Allocation). x .nodes) q ∙ nodes-at h n made
 
   read-codes : r .nodes * r .size ≡ length (codesOf (allocationAt m n))
   read-codes = ap₂ _*_ read-nodes (read-size h made q) ∙ sym (codes-at m (h .valid) n made)
 
-module _ {m : Memory} {A : List ℕ} (h : Records m A) {n : ℕ} (made : n < length m) {r : code.Allocation} (q : r ≡ recordAt A n) {w b c : ℕ} (s : StartsAt m n w b c) where
+module _ {m : Memory} {A : List ℕ} (h : Records m A) {n : ℕ} (made : n < length m) {r : record-read.Allocation} (q : r ≡ recordAt A n) {w b c : ℕ} (s : StartsAt m n w b c) where
   pub nodes-small : b + r .nodes ≤ 1024
   nodes-small = omega (arith, read-nodes h made q, s .parents, length-parents (allocationAt m n), focus-used 1024 parentsOf m n made, parents-fit m (h .valid))
 
@@ -93,48 +98,95 @@ module _ {m : Memory} {A : List ℕ} (h : Records m A) {n : ℕ} (made : n < len
   part-of = record { first = s .parents; behind = ap₂ _+_ (s .parents) (read-nodes h made q); start = s .codes; end = ap₂ _+_ (s .codes) (read-codes h made q); width = read-size h made q }
 
 -- ---- its parts of the tables
-module _ {m : Memory} {A P C : List ℕ} (h : HoldsTrees m A P C) {n : ℕ} (made : n < length m) {r : TreePart} (t : PartOf m n r) where
+module _ {m : Memory} {n : ℕ} {P C : List ℕ} {r : TreePart} (h : TreeAt m n P C r) (made : n < length m) where
   pub behind-in : r .behind ≤ length P
-  behind-in = omega (arith, t .behind, length-parents (allocationAt m n), focus-room 1024 parentsOf m n made, ap length (h .parents))
+  behind-in = omega (arith, h .part .behind, length-parents (allocationAt m n), focus-room 1024 parentsOf m n made, ap length (h .parents))
 
   pub end-in : r .end ≤ length C
-  end-in = omega (arith, t .end, focus-room 32768 codesOf m n made, ap length (h .codes))
+  end-in = omega (arith, h .part .end, focus-room 32768 codesOf m n made, ap length (h .codes))
 
   pub first-small : r .first ≤ 1024
-  first-small = omega (arith, t .first, focus-used 1024 parentsOf m n made, parents-fit m (h .records .valid))
+  first-small = omega (arith, h .part .first, focus-used 1024 parentsOf m n made, parents-fit m (h .valid))
 
   pub first-behind : r .first ≤ r .behind
-  first-behind = omega (arith, t .first, t .behind)
+  first-behind = omega (arith, h .part .first, h .part .behind)
 
   pub start-end : r .start ≤ r .end
-  start-end = omega (arith, t .start, t .end)
+  start-end = omega (arith, h .part .start, h .part .end)
 
   nodes-long : r .behind - r .first ≡ length (parentsOf (allocationAt m n))
-  nodes-long = omega (arith, t .first, t .behind, length-parents (allocationAt m n))
+  nodes-long = omega (arith, h .part .first, h .part .behind, length-parents (allocationAt m n))
 
   codes-long : r .end - r .start ≡ length (codesOf (allocationAt m n))
-  codes-long = omega (arith, t .start, t .end)
+  codes-long = omega (arith, h .part .start, h .part .end)
 
   parents-part : take (r .behind - r .first) (drop (r .first) P) ≡ parentsOf (allocationAt m n)
-  parents-part = rw (nodes-long, h .parents, t .first) (focus-part 1024 parentsOf m n made)
+  parents-part = rw (nodes-long, h .parents, h .part .first) (focus-part 1024 parentsOf m n made)
 
   codes-part : take (r .end - r .start) (drop (r .start) C) ≡ codesOf (allocationAt m n)
-  codes-part = rw (codes-long, h .codes, t .start) (focus-part 32768 codesOf m n made)
+  codes-part = rw (codes-long, h .codes, h .part .start) (focus-part 32768 codesOf m n made)
 
   -- what the tree's functions ask
   pub tree-held : Holds (allocationAt m n .nodes) (r .width) (take (r .behind - r .first) (drop (r .first) P)) (take (r .end - r .start) (drop (r .start) C))
-  tree-held = rw (parents-part, codes-part, t .width) (holds-tree (allocationAt m n) (valid-at m n (h .records .valid) made))
+  tree-held = rw (parents-part, codes-part, h .part .width) (holds-tree (allocationAt m n) (valid-at m n (h .valid) made))
 
   pub node-in : {node from len : ℕ} → Reached m n node from len → (node < length (take (r .behind - r .first) (drop (r .first) P))) × (from + len ≤ r .width)
-  node-in k = (omega (arith, k .inTree, ap length parents-part, length-parents (allocationAt m n)), omega (arith, k .within, t .width))
+  node-in k = (omega (arith, k .inTree, ap length parents-part, length-parents (allocationAt m n)), omega (arith, k .within, h .part .width))
 
   -- and what they leave
   pub tree-visited : (v : Visit) (last : List ℕ) → last ≡ rowsOf (visited v (allocationAt m n .nodes))
       → putMid (r .start) (r .end - r .start) C last ≡ held 32768 codesOf (mutateAt n (afterVisit v) m)
   tree-visited v last e =
-      rw (codes-long, h .codes, t .start, e)
+      rw (codes-long, h .codes, h .part .start, e)
       (focus-mutate 32768 codesOf m n made (afterVisit v) (rowsOf (visited v (allocationAt m n .nodes)))
-      (visited-codes (allocationAt m n) (valid-at m n (h .records .valid) made) v) (codes-rows (afterVisit v (allocationAt m n))))
+      (visited-codes (allocationAt m n) (valid-at m n (h .valid) made) v) (codes-rows (afterVisit v (allocationAt m n))))
+
+-- ---- a node more
+module _ {m : Memory} {n : ℕ} (made : n < length m) {r : TreePart} (t : PartOf m n r) where
+  -- it goes behind the tree's others
+  pub place-for : {nodes codes : ℕ} → Used m (sumOf size m) nodes codes → PlaceFor m n nodes codes (r .behind) (r .end)
+  place-for u =
+      let parents : r .behind ≡ startOf parentsOf m (n + 1) = omega (arith, t .behind, start-more parentsOf m n made, length-parents (allocationAt m n)) in
+      record {
+        used = u;
+        behind =
+            record {
+              words = refl;
+              parents = parents;
+              protectors = parents ∙ parents-used (take (n + 1) m) ∙ sym (protectors-used (take (n + 1) m));
+              codes = t .end ∙ sym (start-more codesOf m n made);
+            };
+      }
+
+  pub behind-small : Valid m → r .behind ≤ 1024
+  behind-small v = omega (arith, t .behind, length-parents (allocationAt m n), focus-used 1024 parentsOf m n made, parents-fit m v)
+
+  pub end-small : Valid m → r .end + r .width ≤ 36864
+  end-small v = omega (arith, t .end, t .width, focus-used 32768 codesOf m n made, codes-fit m v, size-small m v n made)
+
+  -- and the tree with it
+  module _ (x : Node) (wide : length (x .permissions) ≡ size (allocationAt m n)) where
+    start-same : (f : Allocation → List ℕ) → startOf f (mutateAt n (withNode x) m) n ≡ startOf f m n
+    start-same f = ap (λ (l : Memory). length (concatMap f l)) (take-mutate n (withNode x) m)
+
+    there : allocationAt (mutateAt n (withNode x) m) n ≡ withNode x (allocationAt m n)
+    there = mutate-here (withNode x) noAllocation m n made
+
+    codes-more : length (codesOf (withNode x (allocationAt m n))) ≡ length (codesOf (allocationAt m n)) + size (allocationAt m n)
+    unfolding codesOf concatMap
+    codes-more =
+        ap length (concat-append rowOf (allocationAt m n .nodes) (x ∷ []) ∙ ap (λ (l : List ℕ). codesOf (allocationAt m n) ++ l) (append-nil (rowOf x)))
+        ∙ length-append (codesOf (allocationAt m n)) (rowOf x) ∙ ap (λ (k : ℕ). length (codesOf (allocationAt m n)) + k) (length-map (x .permissions) code ∙ wide)
+
+    pub grown-part : PartOf (mutateAt n (withNode x) m) n (record { first = r .first; behind = r .behind + 1; start = r .start; end = r .end + r .width; width = r .width })
+    grown-part =
+        record {
+          first = t .first ∙ sym (start-same parentsOf);
+          behind = omega (arith, t .behind, start-same parentsOf, ap nodeCount there, length-append (allocationAt m n .nodes) (x ∷ []));
+          start = t .start ∙ sym (start-same codesOf);
+          end = omega (arith, t .end, t .width, start-same codesOf, ap (λ (a : Allocation). length (codesOf a)) there, codes-more);
+          width = t .width ∙ sym (ap size there);
+        }
 
 -- ---- a visit leaves the records, the parents and the protectors
 module _ (v : Visit) (a : Allocation) where

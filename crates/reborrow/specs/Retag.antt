@@ -6,7 +6,7 @@ use mathlib.Core.Option.{Option, none, some}
 use mathlib.Core.List.{List}
 use lib.Dec.{eqb, ltb}
 use lib.ListN.{length}
-use Rattle.definition.specs.Notation.{_when_, _or_, mutateAt}
+use Rattle.definition.specs.Notation.{_when_, _or_, sumOf, mutateAt}
 use Rattle.definition.specs.Refusal.{neverMade, belowStart, sizeExceeded}
 use Rattle.definition.specs.Tree.{Visit, visited}
 use Rattle.definition.specs.Layout.{FreezeMask}
@@ -17,7 +17,8 @@ use Rattle.definition.specs.Valid.{Valid}
 use Rattle.answer.specs.Answer.{answerOf}
 use Rattle.answer.specs.declared.Answer.{Answer}
 use Rattle.tables.specs.Encoding.{parentsOf, codesOf, held}
-use Rattle.tables.specs.Held.{startOf, Records, Trees}
+use Rattle.tables.specs.Held.{startOf, Records, Used, Trees}
+use Rattle.tables.specs.declared.Starts.{Starts}
 use Rattle.reborrow.specs.declared.ReborrowSettings as code
 use Rattle.reborrow.specs.declared.TreePart.{TreePart}
 use Rattle.reborrow.specs.Settings.{startCodes, placeIn}
@@ -41,6 +42,19 @@ pub record PartOf (m : Memory) (n : ℕ) (r : TreePart) : Type 0 where
   pub start : r .start ≡ startOf codesOf m n
   pub end : r .end ≡ startOf codesOf m n + length (codesOf (allocationAt m n))
   pub width : r .width ≡ size (allocationAt m n)
+
+-- the parents and the codes are those of m, and allocation n's tree lies at r
+pub record TreeAt (m : Memory) (n : ℕ) (P C : List ℕ) (r : TreePart) : Type 0 where
+  pub valid : Valid m
+  pub parents : P ≡ held 1024 parentsOf m
+  pub codes : C ≡ held 32768 codesOf m
+  pub part : PartOf m n r
+
+-- an allocation and node that were made, how much m uses, and where the allocation's tree lies
+pub record Located (m : Memory) (provenance : Option Provenance) (n : ℕ) (u : Starts) (r : TreePart) : Type 0 where
+  pub made : namesNeverMade m provenance ≡ false
+  pub used : Used m (sumOf size m) (u .nodes) (u .codes)
+  pub part : PartOf m n r
 
 -- ---- the tests before the tree is visited: 4, 7 to 9, 14, 15
 unfoldable pub boundsRefusal : Bool → ℕ → ℕ → ThinPointer → Memory → ℕ

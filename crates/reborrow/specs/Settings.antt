@@ -25,6 +25,10 @@ maskOf bytes = map isFreeze bytes
 abbrev pub settingsOf : ReborrowSettings → FreezeMask → definition.ReborrowSettings
 settingsOf settings mask = reborrowSettings (safePointer (settings .pointer)) (protector (settings .protected)) mask (settings .freeze)
 
+-- the code of a byte, by whether it is a cell byte
+abbrev pub chosenCode : ℕ → ℕ → ℕ → ℕ
+chosenCode freeze cell b = if eqb b 0 then cell else freeze
+
 -- the codes that the inside bytes start with
 unfoldable pub codesFor : SafePointer → Protected → FreezeMask → List ℕ
 codesFor pointer protected mask = map code (map (startPerm (safePointer pointer) (protector protected)) mask)

@@ -5,28 +5,33 @@ use permission::Protected;
 use permission::SafePointer;
 use pointer::Provenance;
 use pointer::ThinPointer;
+use tables::NodePlace;
+use tables::Starts;
 ghost use mathlib.Core.Path.{_≡_};
 ghost use mathlib.Core.Bool.{_&&_};
 ghost use mathlib.Core.List.{List, _++_, map};
 ghost use Prim.Native.Nat.{ℕ, _+_, _≤_, _<_};
 ghost use lib.Dec.{eqb, ltb};
-ghost use lib.ListN.{length, take, drop, replicate};
-ghost use Rattle.definition.specs.Notation.{mutateAt, writeAt};
+ghost use lib.ListN.{length, take, drop};
+ghost use Rattle.definition.specs.Notation.{sumOf, mutateAt};
 ghost use Rattle.definition.specs.Permission.{permission, isYes};
 ghost use Rattle.definition.specs.Layout.{FreezeMask};
-ghost use Rattle.definition.specs.Memory.{Memory, allocationAt, size};
+ghost use Rattle.definition.specs.Tree.{Node};
+ghost use Rattle.definition.specs.Memory.{Memory, allocationAt, size, exceedsBounds};
+ghost use Rattle.definition.specs.Valid.{Valid};
 ghost use Rattle.definition.specs.Frame.{State, frameAt};
 ghost use Rattle.definition.specs.Frame as frames;
 ghost use Rattle.definition.specs.Retag.{entryBound, reborrowRefusal, retagWithoutNode};
 ghost use Rattle.definition.proofs.Retags.{readsRefusal, readsVisit};
-ghost use Rattle.pointer.specs.Pointer.{thinPointerOf};
+ghost use Rattle.pointer.specs.Pointer.{provenanceOf, thinPointerOf};
 ghost use Rattle.pointer.specs.declared.Provenance.the-variants.{Of};
 ghost use Rattle.answer.specs.Answer.{answerOf};
 ghost use Rattle.permission.specs.Codes.{protector};
 ghost use Rattle.tables.specs.Encoding.{protectorNumber, codesOf, held};
-ghost use Rattle.tables.specs.Held.{Records, Trees, withNode};
-ghost use Rattle.reborrow.specs.Settings.{maskOf, settingsOf, codesFor, startCodes, placeIn, childAt};
-ghost use Rattle.reborrow.specs.Retag.{HoldsTrees, HoldsNodes, PartOf, boundsRefusal, Reached, afterVisit, Fits, Passed, Added, Asked, Retagged};
+ghost use Rattle.tables.specs.Held.{Records, Used, Trees, PlaceFor, withNode};
+ghost use Rattle.bounds.specs.Bounds.{Points};
+ghost use Rattle.reborrow.specs.Settings.{maskOf, settingsOf, chosenCode, codesFor, startCodes, placeIn, childAt};
+ghost use Rattle.reborrow.specs.Retag.{HoldsTrees, HoldsNodes, PartOf, TreeAt, Located, boundsRefusal, Reached, afterVisit, Fits, Passed, Added, Asked, Retagged};
 
 // The pointer that is made, the protector, and whether the bytes outside the pointee are freeze bytes.
 pub struct ReborrowSettings {
@@ -37,25 +42,27 @@ pub struct ReborrowSettings {
 
 // ---- rows of codes
 
-// Each byte of a mask, 0 for a cell byte, becomes the code that it starts with.
+// A byte of a mask, 0 for a cell byte, to one of two codes.
+fn chosen_code(byte: u8, freeze: u8, cell: u8) -> u8
+    ensures { λ r. ⌜ r ≡ chosenCode freeze cell byte ⌝ }
+{
+    if byte == 0 {
+        return cell;
+    }
+    freeze
+}
+
+// Each byte of a mask becomes the code that it starts with.
 fn start_codes(mask: &mut [u8], pointer: SafePointer, protected: Protected)
     ensures { λ _. ⌜ now (mask .exit) ≡ codesFor pointer protected (maskOf (now (mask .entry))) ⌝ }
 {
+    let freeze = permission::start_code(pointer, protected, true);
+    let cell = permission::start_code(pointer, protected, false);
     let mut i: usize = 0;
     while i < mask.len() {
-        mask[i] = permission::start_code(pointer, protected, mask[i] != 0);
+        mask[i] = chosen_code(mask[i], freeze, cell);
         i += 1;
     }
-}
-
-// A child's row: the inside codes from `from` on, the outside code at all other bytes.
-fn child_row(row: &mut [u8], inside: &[u8], outside: u8, from: usize)
-    requires { ⌜ from + length (now inside) ≤ length (now row) ⌝ }
-    ensures { λ _. ⌜ now (row .exit) ≡ writeAt from (now (inside .entry)) (replicate (length (now (row .entry))) outside) ⌝ }
-{
-    let size = row.len();
-    tables::fill(row, size, outside);
-    tables::copy_row(&mut row[from..], inside);
 }
 
 fn protector_number(protected: Protected) -> u8
@@ -102,7 +109,18 @@ fn exceeds_entries(protected: Protected, entries: usize) -> bool
     }
 }
 
-// 4, 7 to 9, 14 and 15, of a pointer into allocation n.
+// 15, of a memory that uses so many nodes and codes: there is no room for a node of so many bytes.
+fn exceeds_room(nodes: usize, codes: usize, bytes: usize) -> bool
+    requires { ⌜ ((m : Memory) × (Valid m × Used m (sumOf size m) nodes codes)) ⌝ }
+    ensures { λ r. ⌜ ((m : Memory) → Valid m → Used m (sumOf size m) nodes codes → r ≡ exceedsBounds m (record { allocations = 0; words = 0; nodes = 1; codes = bytes })) ⌝ }
+{
+    if 1024 - nodes < 1 {
+        return true;
+    }
+    32768 - codes < bytes
+}
+
+// 7 to 9, 14 and 15, of a pointer into allocation n, which was made.
 fn bounds_refusal(
     allocs: &[u64],
     p: ThinPointer,
@@ -111,15 +129,13 @@ fn bounds_refusal(
     len: usize,
     protected: Protected,
     entries: usize,
+    used: Starts,
 ) -> u8
-    requires { ⌜ ((m : Memory) × Records m (now allocs)) ⌝ }
+    requires { ⌜ ((m : Memory) × (Points m (now allocs) (provenanceOf (p .provenance)) × Used m (sumOf size m) (used .nodes) (used .codes))) ⌝ }
     requires { ⌜ p .provenance ≡ Of n node ⌝ }
-    ensures { λ r. ⌜ ((m : Memory) → Records m (now (allocs .entry)) → r ≡ boundsRefusal (isYes (protector protected)) entries len (thinPointerOf p) m) ⌝ }
+    ensures { λ r. ⌜ ((m : Memory) → Points m (now (allocs .entry)) (provenanceOf (p .provenance)) → Used m (sumOf size m) (used .nodes) (used .codes)
+        → r ≡ boundsRefusal (isYes (protector protected)) entries len (thinPointerOf p) m) ⌝ }
 {
-    let provenance = p.provenance;
-    if bounds::never_made(allocs, provenance) {
-        return 4;
-    }
     let refused = bounds::check_ptr(allocs, p, 0, len as u64);
     if refused != 0 {
         return refused;
@@ -128,7 +144,7 @@ fn bounds_refusal(
     if is_below_start(len, p.addr, a.address) {
         return 14;
     }
-    if bounds::exceeds_bounds(allocs, 0, 0, 1, a.size) {
+    if exceeds_room(used.nodes, used.codes, a.size) {
         return 15;
     }
     if exceeds_entries(protected, entries) {
@@ -165,21 +181,19 @@ fn tree_part(allocs: &[u64], n: usize) -> TreePart
     }
 }
 
-// The reads of the inside bytes through a node of allocation n, each on the tree as it stands: the first refusal, or 0.
+// The reads of the inside bytes through a node of the tree at t, each on the tree as it stands: the first refusal, or 0.
 fn reads_refusal(
-    allocs: &[u64],
     parents: &[u16],
     codes: &[u8],
     inside: &[u8],
-    n: usize,
+    t: TreePart,
     node: usize,
     from: usize,
 ) -> u8
-    requires { ⌜ ((m : Memory) × (HoldsTrees m (now allocs) (now parents) (now codes) × Reached m n node from (length (now inside)))) ⌝ }
-    ensures { λ r. ⌜ ((m : Memory) → HoldsTrees m (now (allocs .entry)) (now (parents .entry)) (now (codes .entry)) → Reached m n node from (length (now (inside .entry)))
+    requires { ⌜ ((m : Memory) × ((n : ℕ) × (TreeAt m n (now parents) (now codes) t × Reached m n node from (length (now inside))))) ⌝ }
+    ensures { λ r. ⌜ ((m : Memory) (n : ℕ) → TreeAt m n (now (parents .entry)) (now (codes .entry)) t → Reached m n node from (length (now (inside .entry)))
         → r ≡ readsRefusal node from (map permission (now (inside .entry))) (allocationAt m n .nodes)) ⌝ }
 {
-    let t = tree_part(allocs, n);
     let first = t.first;
     let behind = t.behind;
     let start = t.start;
@@ -194,7 +208,8 @@ fn reads_refusal(
     )
 }
 
-// All that a retag through a node of allocation n is refused for. The child's own reads are never refused: those through its parent are tested.
+// All that a retag through a node of allocation n, which was made, is refused for. The child's own reads are never refused: those through its parent are
+// tested.
 fn retag_refusal(
     allocs: &[u64],
     parents: &[u16],
@@ -205,41 +220,43 @@ fn retag_refusal(
     n: usize,
     node: usize,
     entries: usize,
+    used: Starts,
+    t: TreePart,
 ) -> u8
-    requires { ⌜ ((m : Memory) × HoldsTrees m (now allocs) (now parents) (now codes)) ⌝ }
+    requires { ⌜ ((m : Memory) × (HoldsTrees m (now allocs) (now parents) (now codes) × Located m (provenanceOf (p .provenance)) n used t)) ⌝ }
     requires { ⌜ p .provenance ≡ Of n node ⌝ }
     ensures { λ r. ⌜ ((s : State) (frame : ℕ) (mask : FreezeMask) → HoldsTrees (s .memory) (now (allocs .entry)) (now (parents .entry)) (now (codes .entry))
+        → Located (s .memory) (provenanceOf (p .provenance)) n used t
         → Asked s frame entries settings mask (now (inside .entry)) → r ≡ reborrowRefusal (settingsOf settings mask) frame (thinPointerOf p) s) ⌝ }
-    ensures { λ r. ⌜ ((m : Memory) → HoldsTrees m (now (allocs .entry)) (now (parents .entry)) (now (codes .entry)) → r ≡ 0 → Passed m n node (p .addr) (length (now (inside .entry)))) ⌝ }
+    ensures { λ r. ⌜ ((m : Memory) → HoldsTrees m (now (allocs .entry)) (now (parents .entry)) (now (codes .entry)) → Located m (provenanceOf (p .provenance)) n used t
+        → r ≡ 0 → Passed m n node (p .addr) (length (now (inside .entry)))) ⌝ }
 {
     let len = inside.len();
     let protected = settings.protected;
-    let refused = bounds_refusal(allocs, p, n, node, len, protected, entries);
+    let refused = bounds_refusal(allocs, p, n, node, len, protected, entries, used);
     if refused != 0 {
         return refused;
     }
     let a = tables::allocation_at(allocs, n);
     let from = place_in(a.address, p.addr, len);
-    reads_refusal(allocs, parents, codes, inside, n, node, from)
+    reads_refusal(parents, codes, inside, t, node, from)
 }
 
 // ---- the child
 
 // The reads made, all in one visit.
 fn apply_reads(
-    allocs: &[u64],
     parents: &[u16],
     codes: &mut [u8],
     inside: &[u8],
-    n: usize,
+    t: TreePart,
     node: usize,
     from: usize,
 )
-    requires { ⌜ ((m : Memory) × (HoldsTrees m (now allocs) (now parents) (now codes) × Reached m n node from (length (now inside)))) ⌝ }
-    ensures { λ _. ⌜ ((m : Memory) → HoldsTrees m (now (allocs .entry)) (now (parents .entry)) (now (codes .entry)) → Reached m n node from (length (now (inside .entry)))
+    requires { ⌜ ((m : Memory) × ((n : ℕ) × (TreeAt m n (now parents) (now codes) t × Reached m n node from (length (now inside))))) ⌝ }
+    ensures { λ _. ⌜ ((m : Memory) (n : ℕ) → TreeAt m n (now (parents .entry)) (now (codes .entry)) t → Reached m n node from (length (now (inside .entry)))
         → now (codes .exit) ≡ held 32768 codesOf (mutateAt n (afterVisit (readsVisit node from (map permission (now (inside .entry))))) m)) ⌝ }
 {
-    let t = tree_part(allocs, n);
     let first = t.first;
     let behind = t.behind;
     let start = t.start;
@@ -266,29 +283,62 @@ fn insert_child(
     node: usize,
     from: usize,
     bytes: usize,
+    place: NodePlace,
 )
-    requires { ⌜ ((m : Memory) × (HoldsNodes m (now allocs) (now parents) (now protectors) (now codes) × Fits m n node from (length (now inside)) × (bytes ≡ size (allocationAt m n)))) ⌝ }
+    requires { ⌜ ((m : Memory) × (HoldsNodes m (now allocs) (now parents) (now protectors) (now codes) × Fits m n node from (length (now inside)) × (bytes ≡ size (allocationAt m n))
+        × PlaceFor m n (place .nodes) (place .codes) (place .node) (place .code))) ⌝ }
     requires { ⌜ ((mask : FreezeMask) × (now inside ≡ startCodes settings mask)) ⌝ }
     ensures { λ _. ⌜ ((m : Memory) (mask : FreezeMask) → HoldsNodes m (now (allocs .entry)) (now (parents .entry)) (now (protectors .entry)) (now (codes .entry))
-        → Fits m n node from (length (now (inside .entry))) → bytes ≡ size (allocationAt m n) → now (inside .entry) ≡ startCodes settings mask
+        → Fits m n node from (length (now (inside .entry))) → bytes ≡ size (allocationAt m n) → PlaceFor m n (place .nodes) (place .codes) (place .node) (place .code)
+        → now (inside .entry) ≡ startCodes settings mask
         → Trees (mutateAt n (withNode (childAt (settingsOf settings mask) node from bytes)) m) (now (allocs .exit)) (now (parents .exit)) (now (protectors .exit)) (now (codes .exit))) ⌝ }
 {
     let pointer = settings.pointer;
     let protected = settings.protected;
     let outside = permission::start_code(pointer, protected, settings.freeze);
     let number = protector_number(protected);
-    let mut row = [0u8; 4096];
-    child_row(&mut row, inside, outside, from);
     tables::insert_node(
         allocs,
         parents,
         protectors,
         codes,
         n,
+        place,
         node as u16,
         number,
-        &row[..bytes],
+        bytes,
+        inside,
+        outside,
+        from,
     );
+}
+
+// Where a tree's next node goes.
+fn node_place(used: Starts, t: TreePart) -> NodePlace
+    ensures { λ r. ⌜ ((m : Memory) (n : ℕ) → n < length m → Used m (sumOf size m) (used .nodes) (used .codes) → PartOf m n t
+        → PlaceFor m n (r .nodes) (r .codes) (r .node) (r .code)) ⌝ }
+{
+    NodePlace {
+        nodes: used.nodes,
+        codes: used.codes,
+        node: t.behind,
+        code: t.end,
+    }
+}
+
+// Where a tree lies that has a node more.
+fn grown_part(t: TreePart) -> TreePart
+    requires { ⌜ ((m : Memory) × ((n : ℕ) × (Valid m × (n < length m) × PartOf m n t))) ⌝ }
+    ensures { λ r. ⌜ ((m : Memory) (n : ℕ) (x : Node) → n < length m → length (x .permissions) ≡ size (allocationAt m n) → PartOf m n t → PartOf (mutateAt n (withNode x) m) n r) ⌝ }
+{
+    let width = t.width;
+    TreePart {
+        first: t.first,
+        behind: t.behind + 1,
+        start: t.start,
+        end: t.end + width,
+        width,
+    }
 }
 
 // The child with its reads made. Returns its number.
@@ -302,11 +352,15 @@ fn add_child(
     p: ThinPointer,
     n: usize,
     node: usize,
+    used: Starts,
+    t: TreePart,
 ) -> usize
-    requires { ⌜ ((m : Memory) × (HoldsNodes m (now allocs) (now parents) (now protectors) (now codes) × Passed m n node (p .addr) (length (now inside)))) ⌝ }
+    requires { ⌜ ((m : Memory) × (HoldsNodes m (now allocs) (now parents) (now protectors) (now codes) × Located m (provenanceOf (p .provenance)) n used t
+        × Passed m n node (p .addr) (length (now inside)))) ⌝ }
     requires { ⌜ p .provenance ≡ Of n node ⌝ }
     requires { ⌜ ((mask : FreezeMask) × (now inside ≡ startCodes settings mask)) ⌝ }
     ensures { λ r. ⌜ ((m : Memory) (mask : FreezeMask) → HoldsNodes m (now (allocs .entry)) (now (parents .entry)) (now (protectors .entry)) (now (codes .entry))
+        → Located m (provenanceOf (p .provenance)) n used t
         → Passed m n node (p .addr) (length (now (inside .entry))) → now (inside .entry) ≡ startCodes settings mask
         → Added (settingsOf settings mask) (thinPointerOf p) m n r (now (allocs .exit)) (now (parents .exit)) (now (protectors .exit)) (now (codes .exit))) ⌝ }
 {
@@ -314,6 +368,8 @@ fn add_child(
     let child = a.nodes;
     let bytes = a.size;
     let from = place_in(a.address, p.addr, inside.len());
+    let place = node_place(used, t);
+    let grown = grown_part(t);
     insert_child(
         allocs,
         parents,
@@ -325,8 +381,9 @@ fn add_child(
         node,
         from,
         bytes,
+        place,
     );
-    apply_reads(allocs, parents, codes, inside, n, child, from);
+    apply_reads(parents, codes, inside, grown, child, from);
     child
 }
 
@@ -360,6 +417,11 @@ fn reborrow_inside(
         Provenance::Of { allocation, node } => {
             let n = allocation as usize;
             let parent = node as usize;
+            if bounds::never_made(allocs, provenance) {
+                return Answer::Refused(4);
+            }
+            let used = tables::used(allocs);
+            let t = tree_part(allocs, n);
             let refused = retag_refusal(
                 allocs,
                 parents,
@@ -370,6 +432,8 @@ fn reborrow_inside(
                 n,
                 parent,
                 entries,
+                used,
+                t,
             );
             if refused != 0 {
                 return Answer::Refused(refused);
@@ -384,6 +448,8 @@ fn reborrow_inside(
                 p,
                 n,
                 parent,
+                used,
+                t,
             );
             Answer::Pointer(Provenance::Of {
                 allocation,

@@ -6,7 +6,7 @@ use native.Mathlib.Nat.{zero-add, suc-add, sub-zero, zero-sub, suc-sub-suc}
 use native.Mathlib.Omega.{arith}
 use borrow.Rule.Slice.PartMut.{putMid, midOf}
 use lib.ListN.{length, take, drop, getD, set, replicate, length-append, length-drop, length-replicate, drop-of-length-le}
-use lib.Seq.{take-append-add, drop-append-add, take-append-le, drop-append-le, take-at, drop-at, take-all, take-length, drop-drop, paste}
+use lib.Seq.{take-append-add, drop-append-add, take-append-le, drop-append-le, take-at, drop-at, take-all, take-length, drop-drop, paste, length-take-le, take-take}
 use Rattle.definition.specs.Notation.{mutateAt, writeAt}
 use Rattle.definition.specs.Valid.{All}
 use Rattle.tables.specs.Held.{inserted}
@@ -24,6 +24,12 @@ module _ {X : Type 0} where
   mutate-twice n f g [] = refl
   mutate-twice zero f g (x ∷ l) = refl
   mutate-twice (suc n) f g (x ∷ l) = ap (λ (t : List X). x ∷ t) (mutate-twice n f g l)
+
+  pub take-mutate : (n : ℕ) (g : X → X) (l : List X) → take n (mutateAt n g l) ≡ take n l
+  unfolding mutateAt
+  take-mutate zero g l = refl
+  take-mutate (suc n) g [] = refl
+  take-mutate (suc n) g (x ∷ l) = ap (λ (t : List X). x ∷ t) (take-mutate n g l)
 
   pub mutate-get : (n : ℕ) (g : X → X) (l : List X) (d : X) → n < length l → getD (mutateAt n g l) n d ≡ g (getD l n d)
   unfolding mutateAt
@@ -116,3 +122,15 @@ insert-between l x r row z h =
       take-zeros (z - length row) z (omega arith),
     )
     (simp append-assoc)
+
+-- all of a row filled
+pub fill-all : (row : List ℕ) (x : ℕ) → replicate (length row) x ++ drop (length row) row ≡ replicate (length row) x
+fill-all row x = let l : length row ≤ length row = omega arith in ap (λ (ys : List ℕ). replicate (length row) x ++ ys) (drop-of-length-le row l) ∙ append-nil _
+
+-- a row put into the gap that a shift leaves
+pub put-gap : (c t row : List ℕ) (p w : ℕ) → length row ≡ w → p + w ≤ length c → putMid p w (take (p + w) c ++ t) row ≡ take p c ++ (row ++ t)
+put-gap c t row p w e h =
+    let l : length (take (p + w) c) ≡ p + w = length-take-le (p + w) c h in
+    let lp : p ≤ length (take (p + w) c) = omega arith in
+    let lq : p ≤ p + w = omega arith in
+    rw (take-append-le p (take (p + w) c) t lp, take-take p (p + w) c lq, drop-drop, drop-at (take (p + w) c) t (p + w) l)

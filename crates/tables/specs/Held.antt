@@ -87,3 +87,8 @@ pub record NodeFits (m : Memory) (a : ℕ) (x : Node) (A P R C : List ℕ) (pare
   pub is-row : row ≡ rowOf x
   pub wide : length row ≡ size (allocationAt m a)
   pub room : exceedsBounds m (ofNode (allocationAt m a)) ≡ false
+
+-- it goes where the next allocation's parts start, in tables of which so much is used
+pub record PlaceFor (m : Memory) (a nodes codes node code : ℕ) : Type 0 where
+  pub used : Used m (sumOf size m) nodes codes
+  pub behind : StartsAt m (a + 1) (startOf wordsOf m (a + 1)) node code

@@ -8,11 +8,11 @@ ghost use mathlib.Core.List.{_∷_, [], _++_};
 ghost use Prim.Native.Nat.{ℕ, _+_, _-_, _*_, _<_, _≤_};
 ghost use lib.ListN.{length, getD, take, drop, replicate};
 ghost use lib.Seq.{paste};
-ghost use Rattle.definition.specs.Notation.{mutateAt};
+ghost use Rattle.definition.specs.Notation.{mutateAt, writeAt};
 ghost use Rattle.definition.specs.Tree.{Node};
 ghost use Rattle.definition.specs.Memory.{Memory, AllocationKind, kindNumber, isMisaligned, rangesOverlap, newAllocation};
 ghost use Rattle.tables.specs.Decoding.{madeIn};
-ghost use Rattle.tables.specs.Held.{inserted, ZerosFrom, withNode, Records, StartsAt, Used, AllocationFits, Appended, NodeFits, Trees};
+ghost use Rattle.tables.specs.Held.{inserted, ZerosFrom, withNode, Records, StartsAt, Used, AllocationFits, Appended, NodeFits, PlaceFor, Trees};
 
 // An allocation's record.
 pub struct Allocation {
@@ -211,6 +211,52 @@ pub fn fill(d: &mut [u8], n: usize, x: u8)
     }
 }
 
+// A row: `inside` from `from` on, `outside` at all other places.
+pub fn make_row(row: &mut [u8], inside: &[u8], outside: u8, from: usize)
+    requires { ⌜ from + length (now inside) ≤ length (now row) ⌝ }
+    ensures { λ _. ⌜ now (row .exit) ≡ writeAt from (now (inside .entry)) (replicate (length (now (row .entry))) outside) ⌝ }
+{
+    let width = row.len();
+    fill(row, width, outside);
+    copy_row(&mut row[from..], inside);
+}
+
+// Puts such a row in at p, of `width`, and makes it there.
+pub fn insert_made_row(
+    c: &mut [u8],
+    p: usize,
+    width: usize,
+    inside: &[u8],
+    outside: u8,
+    from: usize,
+)
+    requires { ⌜ p + width ≤ length (now c) ⌝ }
+    requires { ⌜ from + length (now inside) ≤ width ⌝ }
+    ensures { λ _. ⌜ now (c .exit) ≡ inserted (now (c .entry)) p (writeAt from (now (inside .entry)) (replicate width outside)) ⌝ }
+{
+    shift_right(c, p, width);
+    let end = p + width;
+    make_row(&mut c[p..end], inside, outside, from);
+}
+
+pub fn insert_made_row_in_used(
+    c: &mut [u8],
+    used: usize,
+    p: usize,
+    width: usize,
+    inside: &[u8],
+    outside: u8,
+    from: usize,
+)
+    requires { ⌜ ZerosFrom used (now c) ⌝ }
+    requires { ⌜ (p ≤ used) × (used + width ≤ length (now c)) ⌝ }
+    requires { ⌜ from + length (now inside) ≤ width ⌝ }
+    ensures { λ _. ⌜ now (c .exit) ≡ inserted (now (c .entry)) p (writeAt from (now (inside .entry)) (replicate width outside)) ⌝ }
+{
+    let end = used + width;
+    insert_made_row(&mut c[..end], p, width, inside, outside, from);
+}
+
 // Writes the record of a live allocation with one node at p.
 pub fn put_record(allocs: &mut [u64], p: usize, kind: u64, exponent: u64, address: u64, size: usize)
     requires { ⌜ p + 6 ≤ length (now allocs) ⌝ }
@@ -247,32 +293,46 @@ pub fn append_allocation(
     n
 }
 
-// Gives allocation a a node behind its others, with its parent, its protector's number and its row of codes.
+// How many nodes and codes are used, and where among them a node goes, and its row.
+pub struct NodePlace {
+    pub nodes: usize,
+    pub codes: usize,
+    pub node: usize,
+    pub code: usize,
+}
+
+// Gives allocation a a node behind its others, with its parent, its protector's number and its row of `width` codes: `inside` from `from` on,
+// `outside` at all other places.
 pub fn insert_node(
     allocs: &mut [u64],
     parents: &mut [u16],
     protectors: &mut [u8],
     codes: &mut [u8],
     a: usize,
+    place: NodePlace,
     parent: u16,
     protector: u8,
-    row: &[u8],
+    width: usize,
+    inside: &[u8],
+    outside: u8,
+    from: usize,
 )
-    requires { ⌜ ((m : Memory) × ((x : Node) × NodeFits m a x (now allocs) (now parents) (now protectors) (now codes) parent protector (now row))) ⌝ }
+    requires { ⌜ ((m : Memory) × ((x : Node) × (
+        NodeFits m a x (now allocs) (now parents) (now protectors) (now codes) parent protector (writeAt from (now inside) (replicate width outside))
+        × PlaceFor m a (place .nodes) (place .codes) (place .node) (place .code)))) ⌝ }
+    requires { ⌜ from + length (now inside) ≤ width ⌝ }
     ensures { λ _. ⌜ ((m : Memory) (x : Node)
-        → NodeFits m a x (now (allocs .entry)) (now (parents .entry)) (now (protectors .entry)) (now (codes .entry)) parent protector (now (row .entry))
+        → NodeFits m a x (now (allocs .entry)) (now (parents .entry)) (now (protectors .entry)) (now (codes .entry)) parent protector
+        (writeAt from (now (inside .entry)) (replicate width outside))
+        → PlaceFor m a (place .nodes) (place .codes) (place .node) (place .code)
         → Trees (mutateAt a (withNode x) m) (now (allocs .exit)) (now (parents .exit)) (now (protectors .exit)) (now (codes .exit))) ⌝ }
 {
-    let all = used(allocs);
-    let nodes = all.nodes;
-    let size = all.codes;
-    let behind = starts_at(allocs, a + 1);
-    let node = behind.nodes;
-    let code = behind.codes;
+    let nodes = place.nodes;
+    let node = place.node;
     insert_one_in_used(parents, nodes, node, parent);
     let mark = [protector; 1];
     insert_row_in_used(protectors, nodes, node, &mark);
-    insert_row_in_used(codes, size, code, row);
+    insert_made_row_in_used(codes, place.codes, place.code, width, inside, outside, from);
     let p = a * 6 + 5;
     allocs[p] += 1;
 }

@@ -1,18 +1,38 @@
--- By cases: no provenance, with or without bytes; refused; a new node.
+-- By cases: no provenance, with or without bytes; never made; refused; a new node.
 use mathlib.Core.Option.{none}
 use mathlib.Core.Path.{refl, sym, ap, _∙_}
 use native.Mathlib.Omega.{arith}
 use borrow.Author.Needs.{needs}
-use Rattle.definition.specs.Memory.{refusedWith, givesPointer}
+use denote.Ref.{now}
+use Rattle.definition.specs.Memory.{Memory, namesNeverMade, refusedWith, givesPointer}
+use Rattle.pointer.specs.declared.Provenance.{Provenance}
 use Rattle.pointer.specs.declared.Provenance.the-variants.{None}
 use Rattle.pointer.specs.Pointer.{provenanceOf, thinPointerOf}
 use Rattle.answer.specs.declared.Answer.the-variants.{Refused, Pointer}
+use Rattle.bounds.proofs.Points.{points-made}
 use Rattle.reborrow.specs.Settings.{settingsOf}
+use Rattle.reborrow.specs.Retag.{HoldsNodes, Located}
 use Rattle.reborrow.proofs.Requests.{nowhere, nowhere-refused, retagged, retagged-refused, retagged-child}
+use Rattle.reborrow.proofs.Children.{refused-by-tests}
 use Rattle.reborrow.proofs.Parts.{trees-of, count-small}
 use Rattle.reborrow.proofs.Codes.{inside-length}
+use Rattle.reborrow.proofs.Tests.{first-4}
 use Rattle.reborrow.proofs.reborrow_inside.Statement.{statement}
 use Rattle.reborrow.proofs.reborrow_inside.Tie as tie
+
+-- how much is used, and where the tree lies
+located : (c : tie.After-tree-part) → let t = c .before .before .before .before .before .before .before .before .before .before .before .before .before .before .before in (m : Memory) → HoldsNodes m (now (t .args .allocs)) (now (t .args .parents)) (now (t .args .protectors)) (now (t .args .codes))
+    → Located m (provenanceOf (t .args .p .provenance)) (c .before .before .before .before .before .before .before .before .provenance .given .0 .0) (c .before .before .used .result) (c .tree-part .result)
+located c m h =
+    let t = c .before .before .before .before .before .before .before .before .before .before .before .before .before .before .before in
+    let r = trees-of h .records in
+    let known = ap (λ (q : Provenance). namesNeverMade (m) (provenanceOf q)) (c .before .before .before .before .before .before .before .before .provenance .given .1) ∙ sym (c .before .before .before .before .before .never-made .ensures m r) ∙ c .before .before .before .before .if2 .left in
+    let u = c .before .before .used .ensures m r in
+    record {
+      made = known;
+      used = record { words = refl; nodes = u .nodes; codes = u .codes };
+      part = c .tree-part .ensures m r (points-made (t .args .p) (c .before .before .before .before .before .before .before .before .provenance .given .1) (record { records = r; made = known }));
+    }
 
 enum-told : tie.Need-enum-told
 enum-told c = search needs
@@ -34,11 +54,31 @@ cast-n c = search needs
 cast-parent : tie.Need-cast-parent
 cast-parent c = search needs
 
-retag-refusal-requires : tie.Need-retag-refusal-requires
-retag-refusal-requires c κs = ((c .before .before .before .before .before .before .before .before .before .before .before .pre .0 .0, trees-of (c .before .before .before .before .before .before .before .before .before .before .before .pre .0 .1)), c .before .before .before .before .provenance .given .1)
+never-made-requires : tie.Need-never-made-requires
+never-made-requires c κs = let t = c .before .before .before .before .before .before .before .before .before in (t .pre .0 .0, trees-of (t .pre .0 .1) .records)
 
 same-length : tie.Need-same-length
 same-length c = search needs
+
+returns-2 : tie.Need-returns-2
+returns-2 c = λ s frame mask h a.
+    let t = c .before .before .before .before .before .before .before .before .before .before .before in
+    let unmade = first-4 _ _ _ (thinPointerOf (t .args .p)) (s .memory) (ap (λ (q : Provenance). namesNeverMade (s .memory) (provenanceOf q)) (c .before .before .before .before .provenance .given .1) ∙ sym (c .before .never-made .ensures (s .memory) (trees-of h .records)) ∙ c .if2 .taken) in
+    retagged-refused (settingsOf (t .args .settings) mask) frame (t .args .p) (c .before .before .before .before .provenance .given .1) s _
+    (refused-by-tests (t .args .settings) mask frame (t .args .entries) s a (t .args .p) _ unmade (λ z. omega (arith, z))) (λ z. omega (arith, z)) (h .trees)
+
+used-requires : tie.Need-used-requires
+used-requires c κs = let t = c .before .before .before .before .before .before .before .before .before .before .before .before in (t .pre .0 .0, trees-of (t .pre .0 .1) .records)
+
+tree-part-requires : tie.Need-tree-part-requires
+tree-part-requires c κs =
+    let t = c .before .before .before .before .before .before .before .before .before .before .before .before .before .before in
+    let r = trees-of (t .pre .0 .1) .records in
+    let known = ap (λ (q : Provenance). namesNeverMade (t .pre .0 .0) (provenanceOf q)) (c .before .before .before .before .before .before .before .provenance .given .1) ∙ sym (c .before .before .before .before .never-made .ensures (t .pre .0 .0) r) ∙ c .before .before .before .if2 .left in
+    (t .pre .0 .0, (r, points-made (t .args .p) (c .before .before .before .before .before .before .before .provenance .given .1) (record { records = r; made = known })))
+
+retag-refusal-requires : tie.Need-retag-refusal-requires
+retag-refusal-requires c κs = let t = c .before .before .before .before .before .before .before .before .before .before .before .before .before .before .before .before .before .before in let (m, h) = t .pre .0 in ((m, (trees-of h, located (c .before .before .before) m h)), c .before .before .before .before .before .before .before .before .before .before .before .provenance .given .1)
 
 same-length-2 : tie.Need-same-length-2
 same-length-2 c = search needs
@@ -46,34 +86,37 @@ same-length-2 c = search needs
 same-length-3 : tie.Need-same-length-3
 same-length-3 c = search needs
 
-returns-2 : tie.Need-returns-2
-returns-2 c = λ s frame mask h a.
-    let t = c .before .before .before .before .before .before .before .before .before .before .before .before .before in
-    retagged-refused (settingsOf (t .args .settings) mask) frame (t .args .p) (c .before .before .before .before .before .before .provenance .given .1) s _ (c .before .retag-refusal .ensures .0 s frame mask (trees-of h) a) (c .if2 .taken) (h .trees)
-
-add-child-requires : tie.Need-add-child-requires
-add-child-requires c κs =
-    let t = c .before .before .before .before .before .before .before .before .before .before .before .before .before .before .before .before .before in
-    ((t .pre .0 .0, (t .pre .0 .1, c .before .before .before .before .before .retag-refusal .ensures .1 (t .pre .0 .0) (trees-of (t .pre .0 .1)) (c .before .before .before .before .if2 .left))), (c .before .before .before .before .before .before .before .before .before .before .provenance .given .1, t .pre .1))
-
-cast-t35 : tie.Need-cast-t35
-cast-t35 c =
-    let t = c .before .before .before .before .before .before .before .before .before .before .before .before .before .before .before .before .before .before .before .before .before .before .before .before .before .before in
-    let m = t .pre .0 .0 in
-    let h = t .pre .0 .1 in
-    let passed = c .before .before .before .before .before .before .before .before .before .before .before .before .before .before .retag-refusal .ensures .1 m (trees-of h) (c .before .before .before .before .before .before .before .before .before .before .before .before .before .if2 .left) in
-    omega (arith, c .before .before .before .before .before .before .before .before .add-child .ensures m (t .pre .1 .0) h passed (t .pre .1 .1) .number, count-small m (h .valid) _ (passed .fits .reached .made))
+same-length-4 : tie.Need-same-length-4
+same-length-4 c = search needs
 
 returns-3 : tie.Need-returns-3
 returns-3 c = λ s frame mask h a.
+    let t = c .before .before .before .before .before .before .before .before .before .before .before .before .before .before .before .before .before .before .before .before in
+    retagged-refused (settingsOf (t .args .settings) mask) frame (t .args .p) (c .before .before .before .before .before .before .before .before .before .before .before .before .before .provenance .given .1) s _
+    (c .before .retag-refusal .ensures .0 s frame mask (trees-of h) (located (c .before .before .before .before .before) (s .memory) h) a) (c .if3 .taken) (h .trees)
+
+add-child-requires : tie.Need-add-child-requires
+add-child-requires c κs =
+    let t = c .before .before .before .before .before .before .before .before .before .before .before .before .before .before .before .before .before .before .before .before .before .before .before .before in
+    let (m, h) = t .pre .0 in
+    let l = located (c .before .before .before .before .before .before .before .before .before) m h in
+    ((m, (h, l, c .before .before .before .before .before .retag-refusal .ensures .1 m (trees-of h) l (c .before .before .before .before .if3 .left))), (c .before .before .before .before .before .before .before .before .before .before .before .before .before .before .before .before .before .provenance .given .1, t .pre .1))
+
+cast-t44 : tie.Need-cast-t44
+cast-t44 c =
+    let t = c .before .before .before .before .before .before .before .before .before .before .before .before .before .before .before .before .before .before .before .before .before .before .before .before .before .before .before .before .before .before .before .before .before in
+    let (m, h) = t .pre .0 in
+    let l = located (c .before .before .before .before .before .before .before .before .before .before .before .before .before .before .before .before .before .before) m h in
+    let passed = c .before .before .before .before .before .before .before .before .before .before .before .before .before .before .retag-refusal .ensures .1 m (trees-of h) l (c .before .before .before .before .before .before .before .before .before .before .before .before .before .if3 .left) in
+    omega (arith, c .before .before .before .before .before .before .before .before .add-child .ensures m (t .pre .1 .0) h l passed (t .pre .1 .1) .number, count-small m (h .valid) _ (passed .fits .reached .made))
+
+returns-4 : tie.Need-returns-4
+returns-4 c = λ s frame mask h a.
     let t = c .before .before .before .before .before .before .before .before in
     let w = settingsOf (t .args .settings) mask in
     let p = thinPointerOf (t .args .p) in
     retagged w frame p s (refusedWith 7, s) (nowhere-refused w frame p s (ap provenanceOf (c .before .enum-told .given .1)) (λ z. c .if1 .left (inside-length (t .args .settings) mask (a .inside) ∙ z)))
     (Refused 7) (λ words. refl) (h .trees)
-
-same-length-4 : tie.Need-same-length-4
-same-length-4 c = search needs
 
 same-length-5 : tie.Need-same-length-5
 same-length-5 c = search needs
@@ -84,12 +127,16 @@ same-length-6 c = search needs
 same-length-7 : tie.Need-same-length-7
 same-length-7 c = search needs
 
-returns-4 : tie.Need-returns-4
-returns-4 c = λ s frame mask h a.
-    let t = c .before .before .before .before .before .before .before .before .before .before .before .before .before .before .before .before .before .before .before .before .before .before .before .before .before .before in
-    let zero = c .before .before .before .before .before .before .before .before .before .before .before .before .before .if2 .left in
-    retagged-child (settingsOf (t .args .settings) mask) frame (t .args .p) (c .before .before .before .before .before .before .before .before .before .before .before .before .before .before .before .before .before .before .before .provenance .given .1) s (sym (c .before .before .before .before .before .before .before .before .before .before .before .before .before .before .retag-refusal .ensures .0 s frame mask (trees-of h) a) ∙ zero)
-    (c .before .before .before .before .before .before .before .before .add-child .ensures (s .memory) mask h (c .before .before .before .before .before .before .before .before .before .before .before .before .before .before .retag-refusal .ensures .1 (s .memory) (trees-of h) zero) (a .inside))
+same-length-8 : tie.Need-same-length-8
+same-length-8 c = search needs
+
+returns-5 : tie.Need-returns-5
+returns-5 c = λ s frame mask h a.
+    let t = c .before .before .before .before .before .before .before .before .before .before .before .before .before .before .before .before .before .before .before .before .before .before .before .before .before .before .before .before .before .before .before .before .before in
+    let l = located (c .before .before .before .before .before .before .before .before .before .before .before .before .before .before .before .before .before .before) (s .memory) h in
+    let zero = c .before .before .before .before .before .before .before .before .before .before .before .before .before .if3 .left in
+    retagged-child (settingsOf (t .args .settings) mask) frame (t .args .p) (c .before .before .before .before .before .before .before .before .before .before .before .before .before .before .before .before .before .before .before .before .before .before .before .before .before .before .provenance .given .1) s (sym (c .before .before .before .before .before .before .before .before .before .before .before .before .before .before .retag-refusal .ensures .0 s frame mask (trees-of h) l a) ∙ zero)
+    (c .before .before .before .before .before .before .before .before .add-child .ensures (s .memory) mask h l (c .before .before .before .before .before .before .before .before .before .before .before .before .before .before .retag-refusal .ensures .1 (s .memory) (trees-of h) l zero) (a .inside))
 
 pub reborrow-inside-spec : {M : Type 1} → statement M
 reborrow-inside-spec =
@@ -100,16 +147,21 @@ reborrow-inside-spec =
     enum-known-provenance
     cast-n
     cast-parent
-    retag-refusal-requires
+    never-made-requires
     same-length
+    returns-2
+    used-requires
+    tree-part-requires
+    retag-refusal-requires
     same-length-2
     same-length-3
-    returns-2
-    add-child-requires
-    cast-t35
-    returns-3
     same-length-4
+    returns-3
+    add-child-requires
+    cast-t44
+    returns-4
     same-length-5
     same-length-6
     same-length-7
-    returns-4)
+    same-length-8
+    returns-5)

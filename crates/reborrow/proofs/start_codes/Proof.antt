@@ -4,24 +4,30 @@ use mathlib.Core.Path.{_≡_, refl, _∙_}
 use native.Mathlib.Omega.{arith}
 use borrow.Author.Needs.{needs}
 use lib.ListN.{length, length-set}
-use Rattle.reborrow.proofs.Codes.{madeTo, next-made, all-made}
+use Rattle.reborrow.proofs.Codes.{madeTo, next-made, all-made, codes-chosen}
 use Rattle.reborrow.proofs.start_codes.Statement.{statement}
 use Rattle.reborrow.proofs.start_codes.Tie as tie
 
 abbrev Inv-loop : tie.InvT-loop
-Inv-loop mask₀ pointer protected i₀ mask i = (i ≤ length mask₀) × (length mask ≡ length mask₀) × (mask ≡ madeTo pointer protected mask₀ i)
+Inv-loop mask₀ freeze cell i₀ mask i = (i ≤ length mask₀) × (length mask ≡ length mask₀) × (mask ≡ madeTo freeze cell mask₀ i)
 
 abbrev μ-loop : tie.MeasureT-loop
-μ-loop mask₀ pointer protected i₀ mask i = length mask₀ - i
+μ-loop mask₀ freeze cell i₀ mask i = length mask₀ - i
+
+start-code-requires : tie.Need-start-code-requires Inv-loop μ-loop
+start-code-requires c κs = search needs
+
+start-code-requires-2 : tie.Need-start-code-requires-2 Inv-loop μ-loop
+start-code-requires-2 c κs = search needs
 
 loop-holds : tie.Need-loop-holds Inv-loop μ-loop
 loop-holds c = (omega arith, refl, refl)
 
-slice-read-start-code : tie.Need-slice-read-start-code Inv-loop μ-loop
-slice-read-start-code c = search needs
+slice-read-chosen-code : tie.Need-slice-read-chosen-code Inv-loop μ-loop
+slice-read-chosen-code c = search needs
 
-start-code-requires : tie.Need-start-code-requires Inv-loop μ-loop
-start-code-requires c κs = search needs
+chosen-code-requires : tie.Need-chosen-code-requires Inv-loop μ-loop
+chosen-code-requires c κs = search needs
 
 slice-write-mask : tie.Need-slice-write-mask Inv-loop μ-loop
 slice-write-mask c = search needs
@@ -34,15 +40,19 @@ loop-less c = search needs
 
 loop-again : tie.Need-loop-again Inv-loop μ-loop
 loop-again c =
-    let s = c .before .before .before .before .before in
+    let s = c .before .before .before .before .before .before .before in
     let l = c .before .before .before .loop in
-    (omega arith, length-set (l .mask) (l .i) _ ∙ l .inv .1, next-made (s .args .pointer) (s .args .protected) (s .args .mask .now) (l .i) _ (l .mask) (omega arith) (l .inv .2) (c .start-code .ensures))
+    (omega arith, length-set (l .mask) (l .i) _ ∙ l .inv .1, next-made (c .before .before .before .before .before .start-code .result) (c .before .before .before .before .start-code2 .result) (s .args .mask .now) (l .i) _ (l .mask) (omega arith) (l .inv .2) (c .chosen-code .ensures))
 
 same-length : tie.Need-same-length Inv-loop μ-loop
 same-length c = c .before .loop .inv .1
 
 returns : tie.Need-returns Inv-loop μ-loop
-returns c = let l = c .before .loop in l .inv .2 ∙ all-made (c .before .before .before .args .pointer) (c .before .before .before .args .protected) (c .before .before .before .args .mask .now) (l .i) (omega arith)
+returns c =
+    let s = c .before .before .before .before .before in
+    let l = c .before .loop in
+    l .inv .2 ∙ all-made (c .before .before .before .start-code .result) (c .before .before .start-code2 .result) (s .args .mask .now) (l .i) (omega arith)
+    ∙ codes-chosen (s .args .pointer) (s .args .protected) (c .before .before .before .start-code .ensures) (c .before .before .start-code2 .ensures) (s .args .mask .now)
 
 pub start-codes-spec : {M : Type 1} → statement M
 start-codes-spec =
@@ -50,9 +60,11 @@ start-codes-spec =
     (tie.spec
     Inv-loop
     μ-loop
-    loop-holds
-    slice-read-start-code
     start-code-requires
+    start-code-requires-2
+    loop-holds
+    slice-read-chosen-code
+    chosen-code-requires
     slice-write-mask
     add-i
     loop-less

@@ -7,10 +7,9 @@ use borrow.Author.Needs.{needs}
 use denote.Ref.{now}
 use lib.ListN.{length}
 use Rattle.definition.specs.Notation.{writeAt}
-use Rattle.tables.proofs.Parts.{put-paste, write-paste}
-use Rattle.reborrow.proofs.Codes.{fill-all}
-use Rattle.reborrow.proofs.child_row.Statement.{statement}
-use Rattle.reborrow.proofs.child_row.Tie as tie
+use Rattle.tables.proofs.Parts.{put-paste, write-paste, fill-all}
+use Rattle.tables.proofs.make_row.Statement.{statement}
+use Rattle.tables.proofs.make_row.Tie as tie
 
 fill-requires : tie.Need-fill-requires
 fill-requires c κs = search needs
@@ -40,8 +39,8 @@ returns c =
     ap (putMid (a .from) (length D - a .from) D) (c .before .before .copy-row .ensures) ∙ put-paste D I (a .from) h ∙ sym (write-paste (a .from) I D h)
     ∙ ap (writeAt (a .from) I) (c .before .before .before .before .before .before .fill .ensures ∙ fill-all (now (a .row)) (a .outside))
 
-pub child-row-spec : {M : Type 1} → statement M
-child-row-spec =
+pub make-row-spec : {M : Type 1} → statement M
+make-row-spec =
     tie.close
     (tie.spec
     fill-requires
