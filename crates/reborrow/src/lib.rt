@@ -208,8 +208,8 @@ fn reads_refusal(
     )
 }
 
-// All that a retag through a node of allocation n, which was made, is refused for. The child's own reads are never refused: those through its parent are
-// tested.
+// All that a retag through a node of allocation n, which was made, is refused for. The child's own reads are never refused: those through its
+// parent are tested.
 fn retag_refusal(
     allocs: &[u64],
     parents: &[u16],
@@ -297,7 +297,7 @@ fn insert_child(
     let protected = settings.protected;
     let outside = permission::start_code(pointer, protected, settings.freeze);
     let number = protector_number(protected);
-    tables::insert_node(
+    tables::insert_node_at(
         allocs,
         parents,
         protectors,

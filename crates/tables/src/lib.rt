@@ -301,9 +301,9 @@ pub struct NodePlace {
     pub code: usize,
 }
 
-// Gives allocation a a node behind its others, with its parent, its protector's number and its row of `width` codes: `inside` from `from` on,
-// `outside` at all other places.
-pub fn insert_node(
+// Gives allocation a a node behind its others, at a place that is known, with its parent, its protector's number and its row of `width` codes:
+// `inside` from `from` on, `outside` at all other places.
+pub fn insert_node_at(
     allocs: &mut [u64],
     parents: &mut [u16],
     protectors: &mut [u8],
@@ -335,4 +335,45 @@ pub fn insert_node(
     insert_made_row_in_used(codes, place.codes, place.code, width, inside, outside, from);
     let p = a * 6 + 5;
     allocs[p] += 1;
+}
+
+// The same with a row as it stands, where the place is to be found.
+pub fn insert_node(
+    allocs: &mut [u64],
+    parents: &mut [u16],
+    protectors: &mut [u8],
+    codes: &mut [u8],
+    a: usize,
+    parent: u16,
+    protector: u8,
+    row: &[u8],
+)
+    requires { ⌜ ((m : Memory) × ((x : Node) × NodeFits m a x (now allocs) (now parents) (now protectors) (now codes) parent protector (now row))) ⌝ }
+    ensures { λ _. ⌜ ((m : Memory) (x : Node)
+        → NodeFits m a x (now (allocs .entry)) (now (parents .entry)) (now (protectors .entry)) (now (codes .entry)) parent protector (now (row .entry))
+        → Trees (mutateAt a (withNode x) m) (now (allocs .exit)) (now (parents .exit)) (now (protectors .exit)) (now (codes .exit))) ⌝ }
+{
+    let all = used(allocs);
+    let behind = starts_at(allocs, a + 1);
+    let place = NodePlace {
+        nodes: all.nodes,
+        codes: all.codes,
+        node: behind.nodes,
+        code: behind.codes,
+    };
+    let width = row.len();
+    insert_node_at(
+        allocs,
+        parents,
+        protectors,
+        codes,
+        a,
+        place,
+        parent,
+        protector,
+        width,
+        row,
+        0,
+        0,
+    );
 }

@@ -13,11 +13,11 @@ start-code-requires c κs = search needs
 protector-number-requires : tie.Need-protector-number-requires
 protector-number-requires c κs = search needs
 
-cast-insert-node : tie.Need-cast-insert-node
-cast-insert-node c = let s = c .before .before .before .before .before .before .before .before .before .before .before in omega (arith, s .pre .0 .1 .1 .reached .inTree, count-small (s .pre .0 .0) (s .pre .0 .1 .0 .valid) (s .args .n) (s .pre .0 .1 .1 .reached .made))
+cast-insert-node-at : tie.Need-cast-insert-node-at
+cast-insert-node-at c = let s = c .before .before .before .before .before .before .before .before .before .before .before in omega (arith, s .pre .0 .1 .1 .reached .inTree, count-small (s .pre .0 .0) (s .pre .0 .1 .0 .valid) (s .args .n) (s .pre .0 .1 .1 .reached .made))
 
-insert-node-requires : tie.Need-insert-node-requires
-insert-node-requires c κs =
+insert-node-at-requires : tie.Need-insert-node-at-requires
+insert-node-at-requires c κs =
     let s = c .before .before .before .before .before .before .before .before .before .before .before in
     let (h, fits, long, at) = s .pre .0 .1 in
     let (mask, e) = s .pre .1 in (
@@ -46,7 +46,7 @@ same-length-4 c = search needs
 returns : tie.Need-returns
 returns c = λ m mask h fits long at e.
     let s = c .before .before .before .before .before .before .before .before .before .before .before .before .before .before .before .before .before .before .before .before in
-    c .before .before .before .before .before .before .before .before .insert-node .ensures m (childAt (settingsOf (s .args .settings) mask) (s .args .node) (s .args .from) (s .args .bytes))
+    c .before .before .before .before .before .before .before .before .insert-node-at .ensures m (childAt (settingsOf (s .args .settings) mask) (s .args .node) (s .args .from) (s .args .bytes))
     (child-fits (s .args .settings) mask h fits long e (c .before .before .before .before .before .before .before .before .before .before .before .before .before .before .start-code .ensures) (c .before .before .before .before .before .before .before .before .before .before .before .before .before .protector-number .ensures)) at
 
 pub insert-child-spec : {M : Type 1} → statement M
@@ -55,8 +55,8 @@ insert-child-spec =
     (tie.spec
     start-code-requires
     protector-number-requires
-    cast-insert-node
-    insert-node-requires
+    cast-insert-node-at
+    insert-node-at-requires
     same-length
     same-length-2
     same-length-3
