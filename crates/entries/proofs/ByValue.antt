@@ -6,10 +6,11 @@ use native.Mathlib.Nat.{suc-ne-zero, suc-inj}
 use native.Mathlib.Numerals.{add-one}
 use native.Mathlib.Omega.{arith}
 use lib.ListN.{length, getD, take, set, replicate, length-append, length-map, length-replicate, List·getD-map}
-use lib.Seq.{take-suc-set, take-at, getD-take}
+use lib.Seq.{length-take-le, take-suc-set, take-at, getD-take}
 use Rattle.definition.specs.Memory.{Provenance}
 use Rattle.entries.specs.List.{provenanceOf, entryOf, noEntry, firstOf, entriesOf, placed, byValue, laid, loaded}
 use Rattle.entries.specs.declared.Entry.{Entry}
+use Rattle.entries.specs.declared.Entries.{Entries}
 
 pub first-append : (list : List Entry) (n : ℕ) (e : Entry) → n < length list
     → firstOf (n + 1) (set list n e) ≡ firstOf n list ++ (provenanceOf e ∷ [])
@@ -18,6 +19,10 @@ first-append list n e h = rw (add-one, take-suc-set list n e h) (map-append prov
 pub first-at : (list : List Entry) (n i : ℕ) → i < n
     → provenanceOf (getD list i noEntry) ≡ getD (firstOf n list) i (provenanceOf noEntry)
 first-at list n i h = ap provenanceOf (sym (getD-take n list i noEntry h)) ∙ sym (List·getD-map provenanceOf (take n list) i noEntry)
+
+-- a list by value has as many entries as it counts
+pub entries-count : (list : Entries) → list .count ≤ 64 → length (list .list) ≡ 64 → length (entriesOf list) ≡ list .count
+entries-count list l w = length-map (take (list .count) (list .list)) provenanceOf ∙ length-take-le (list .count) (list .list) (omega arith)
 
 -- ---- the definition's list by value, and back
 pub placed-length : (es : List Provenance) → length es ≤ 64 → length (placed es) ≡ 64

@@ -4,19 +4,20 @@ use mathlib.Core.Path.{_≡_, refl, sym, ap, ap₂, _∙_}
 use mathlib.Core.Logic.{_≢_}
 use mathlib.Core.Bool.{false, not, false≢true}
 use mathlib.Core.List.{List, [], _∷_, _++_, map, map-append}
+use native.Mathlib.Numerals.{add-one}
 use native.Mathlib.Omega.{arith}
 use borrow.Author.Tests.{ne-eqb}
 use lib.Dec.{eqb}
-use lib.ListN.{length, getD, take, drop, set, replicate, length-append, length-map, length-replicate}
-use lib.Seq.{set-at, append-snoc, take-at}
+use lib.ListN.{length, getD, take, drop, set, replicate, length-append, length-map, length-replicate, replicate-append-replicate, List·getD-map}
+use lib.Seq.{set-at, append-snoc, take-at, take-suc, take-suc-set}
 use Rattle.definition.specs.Memory.{Provenance}
 use Rattle.definition.specs.Frame.{Frame, isOpen, entries}
 use Rattle.definition.specs.Frame.Frame.{Closed, Open}
 use Rattle.definition.specs.Valid.{All}
 use Rattle.definition.proofs.Alls.{all-append}
-use Rattle.entries.specs.List.{provenanceOf, entryOf}
-use Rattle.entries.specs.Buffer.{entryWord, entryIn, headWord, frameWords, FitsEntry, FitsFrame}
-use Rattle.entries.proofs.ByValue.{there-and-back}
+use Rattle.entries.specs.List.{provenanceOf}
+use Rattle.entries.specs.Buffer.{entryWord, entryIn, entriesIn, headWord, frameWords, FitsEntry, FitsFrame}
+use Rattle.entries.specs.declared.Entry.{Entry}
 
 pub closed-fits : FitsFrame Closed
 closed-fits = record { room = omega arith; small = tt }
@@ -26,21 +27,33 @@ unfolding frameWords
 words-length f fits = simp (length-append, length-map, length-replicate) (omega (arith, fits .room))
 
 -- ---- an entry's number there and back
-entry-back : (e : Provenance) → FitsEntry e → entryIn (entryWord e) ≡ entryOf e
+entry-back : (e : Provenance) → FitsEntry e → provenanceOf (entryIn (entryWord e)) ≡ e
 entry-back e fits =
     let a : (e .allocation * 4096 + e .node) / 4096 ≡ e .allocation = omega (arith, fits .node) in
     let n : (e .allocation * 4096 + e .node) % 4096 ≡ e .node = omega (arith, fits .node) in
     λ i. record { allocation = a i; node = n i }
 
-pub entries-back : (es : List Provenance) → All FitsEntry es → map entryIn (map entryWord es) ≡ map entryOf es
-entries-back [] fits = refl
-entries-back (e ∷ es) fits = ap₂ _∷_ (entry-back e (fits .0)) (entries-back es (fits .1))
+pub words-back : (es : List Provenance) → All FitsEntry es → entriesIn (map entryWord es) ≡ es
+words-back [] fits = refl
+words-back (e ∷ es) fits = ap₂ _∷_ (entry-back e (fits .0)) (words-back es (fits .1))
 
 entries-same : (es ds : List Provenance) → All FitsEntry es → All FitsEntry ds → map entryWord es ≡ map entryWord ds → es ≡ ds
-entries-same es ds p q e =
-    sym (ap (map provenanceOf) (entries-back es p) ∙ there-and-back es)
-    ∙ ap (λ (l : List ℕ). map provenanceOf (map entryIn l)) e
-    ∙ ap (map provenanceOf) (entries-back ds q) ∙ there-and-back ds
+entries-same es ds p q e = sym (words-back es p) ∙ ap entriesIn e ∙ words-back ds q
+
+-- the entry that is read from the number at a place
+pub word-at : (words : List ℕ) (i : ℕ) (e : Entry) → e ≡ entryIn (getD words i 0) → provenanceOf e ≡ getD (entriesIn words) i (provenanceOf (entryIn 0))
+word-at words i e is = ap provenanceOf is ∙ sym (List·getD-map (λ (w : ℕ). provenanceOf (entryIn w)) words i 0)
+
+pub words-count : (words : List ℕ) → length (entriesIn words) ≡ length words
+words-count words = length-map words (λ (w : ℕ). provenanceOf (entryIn w))
+
+-- one entry more is written as a number
+pub word-more : (words : List ℕ) (es : List Provenance) (i : ℕ) (e d : Provenance) → i < length words → i < length es → e ≡ getD es i d → FitsEntry e
+    → entriesIn (take i words) ≡ take i es → entriesIn (take (i + 1) (set words i (entryWord e))) ≡ take (i + 1) es
+word-more words es i e d h k q fits same =
+    rw (add-one, take-suc-set words i (entryWord e) h, take-suc es i d k)
+    (map-append (λ (w : ℕ). provenanceOf (entryIn w)) (take i words) (entryWord e ∷ [])
+    ∙ ap₂ (λ (l : List Provenance) (x : Provenance). l ++ (x ∷ [])) same (entry-back e fits ∙ q))
 
 -- ---- two frames with the same numbers are equal
 pub frame-same : (f g : Frame) → FitsFrame f → FitsFrame g → frameWords f ≡ frameWords g → f ≡ g
@@ -81,6 +94,26 @@ opened-words (Open es) e = absurd (false≢true (sym e))
 pub closed-words : replicate 65 0 ≡ frameWords Closed
 unfolding frameWords
 closed-words = refl
+
+-- what a frame uses of its numbers, and the zeros behind it
+abbrev pub used : Frame → List ℕ
+used x = headWord x ∷ map entryWord (entries x)
+
+abbrev pub unused : Frame → List ℕ
+unused x = replicate (64 - length (entries x)) 0
+
+pub as-used : (x : Frame) → frameWords x ≡ used x ++ unused x
+unfolding frameWords
+as-used x = refl
+
+pub used-length : (x : Frame) → length (used x) ≡ 1 + length (entries x)
+used-length x = omega (arith, length-map (entries x) entryWord)
+
+pub used-cleared : (x : Frame) → FitsFrame x → replicate (1 + length (entries x)) 0 ++ unused x ≡ frameWords Closed
+used-cleared x fits =
+    let n : ℕ = length (entries x) in
+    let all : 1 + n + (64 - n) ≡ 65 = omega (arith, fits .room) in
+    replicate-append-replicate (1 + n) (64 - n) 0 ∙ ap (λ (k : ℕ). replicate k 0) all ∙ closed-words
 
 pub opened-fits : FitsFrame (Open [])
 opened-fits = record { room = omega arith; small = tt }

@@ -5,19 +5,16 @@ use mathlib.Core.Bool.{false}
 use mathlib.Core.List.{List, [], _∷_, _++_, map, append-assoc}
 use native.Mathlib.Omega.{arith}
 use borrow.Rule.Slice.PartMut.{putMid}
-use lib.ListN.{length, getD, take, drop, set, replicate, length-append, length-map, length-set, length-drop, replicate-append-replicate}
-use lib.Seq.{split-at, set-split, take-at, drop-at, take-all, drop-append-add, length-take-le}
+use lib.ListN.{length, getD, take, drop, set, replicate, length-append, length-map, length-set, replicate-append-replicate}
+use lib.Seq.{split-at, set-split, take-at, drop-at, drop-append-add, length-take-le}
 use Rattle.definition.specs.Memory.{Provenance}
 use Rattle.definition.specs.Frame.{Frame, isOpen, entries, frameCount, empty}
 use Rattle.definition.specs.Frame.Frame.{Closed, Open}
 use Rattle.definition.specs.Valid.{All}
 use Rattle.definition.proofs.Alls.{all-at, all-take, all-set, all-replicate}
-use Rattle.entries.specs.List.{noEntry, placed, byValue}
-use Rattle.entries.specs.Buffer.{entryWord, entryIn, headWord, frameWords, framesHeld, FitsEntry, FitsFrame, HoldsFrames}
-use Rattle.entries.specs.declared.Entry.{Entry}
-use Rattle.entries.specs.declared.Entries.{Entries}
+use Rattle.entries.specs.Buffer.{entryWord, entriesIn, headWord, frameWords, framesHeld, FitsEntry, FitsFrame, HoldsFrames}
 use Rattle.entries.proofs.Lists.{set-mid, get-mid}
-use Rattle.entries.proofs.FrameWords.{closed-fits, words-length, entries-back, frame-same, opened-words, opened-fits, closed-words, pushed-fits, pushed-words}
+use Rattle.entries.proofs.FrameWords.{closed-fits, words-length, words-back, frame-same, opened-words, opened-fits, closed-words, used, unused, as-used, used-length, used-cleared, pushed-fits, pushed-words}
 
 -- ---- the buffer around frame f
 held-append : (xs ys : List Frame) → framesHeld (xs ++ ys) ≡ framesHeld xs ++ framesHeld ys
@@ -131,42 +128,38 @@ module _ (fs : List Frame) (buffer : List ℕ) (f : ℕ) (holds : HoldsFrames fs
       ∙ store-part (set x 0 (n + 2)) (f * 65 + 1 + n) (suc n) (entryWord e) (omega arith) (simp length-set (omega arith))
       ∙ ap with-part (ap (λ (k : ℕ). set (set x 0 (k + 2)) (suc k) (entryWord e)) same ∙ pushed-words (entries frame) e free frame refl))
 
-  -- zeros in frame f's part, as a callee leaves them that was lent it
-  pub closes : (z : List ℕ) → z ≡ replicate 65 0 → HoldsFrames (set fs f Closed) (putMid (f * 65) (f * 65 + 65 - f * 65) buffer z)
-  closes z e =
+  -- zeros in what frame f uses of its part, as a callee leaves them that was lent it
+  pub closes : (n : ℕ) → n ≡ length (entries frame) → (z : List ℕ) → z ≡ replicate (1 + n) 0
+      → HoldsFrames (set fs f Closed) (putMid (f * 65) (f * 65 + 1 + n - f * 65) buffer z)
+  closes n same z e =
       let l = before fs f in
-      let x = frameWords frame in
       let r = behind fs f in
-      let width : f * 65 + 65 - f * 65 ≡ 65 = omega arith in
+      let zeros : List ℕ = replicate (1 + n) 0 in
+      let parts : buffer ≡ l ++ (used frame ++ (unused frame ++ r)) =
+      as-parts ∙ ap with-part (as-used frame) ∙ ap (λ (t : List ℕ). l ++ t) (append-assoc (used frame) (unused frame) r) in
+      let width : f * 65 + 1 + n - f * 65 ≡ 1 + n = omega arith in
       let starts : length l ≡ f * 65 = before-length fs f (holds .each) inside in
       holds-set Closed _ closed-fits
       (rw (e, width)
-      (ap₂ (λ (p q : List ℕ). p ++ (replicate 65 0 ++ q))
-      (ap (take (f * 65)) as-parts ∙ take-at l (x ++ r) (f * 65) starts)
-      (ap (λ (b : List ℕ). drop 65 (drop (f * 65) b)) as-parts ∙ ap (drop 65) (drop-at l (x ++ r) (f * 65) starts)
-      ∙ drop-at x r 65 (words-length frame frame-fits))
-      ∙ ap with-part closed-words))
+      (ap₂ (λ (p q : List ℕ). p ++ (zeros ++ q))
+      (ap (take (f * 65)) parts ∙ take-at l (used frame ++ (unused frame ++ r)) (f * 65) starts)
+      (ap (λ (b : List ℕ). drop (1 + n) (drop (f * 65) b)) parts ∙ ap (drop (1 + n)) (drop-at l (used frame ++ (unused frame ++ r)) (f * 65) starts)
+      ∙ drop-at (used frame) (unused frame ++ r) (1 + n) (omega (arith, used-length frame)))
+      ∙ ap (λ (t : List ℕ). l ++ t) (sym (append-assoc zeros (unused frame) r))
+      ∙ ap with-part (ap (λ (k : ℕ). replicate (1 + k) 0 ++ unused frame) same ∙ used-cleared frame frame-fits)))
 
-  -- the numbers of the entries of frame f
-  pub read-entries : (n : ℕ) → n ≡ length (entries frame)
-      → take n (take (length buffer - (f * 65 + 1)) (drop (f * 65 + 1) buffer)) ≡ map entryWord (entries frame)
+  -- the numbers of the entries of frame f, and the entries that they stand for
+  read-words : (n : ℕ) → n ≡ length (entries frame) → take (f * 65 + 1 + n - (f * 65 + 1)) (drop (f * 65 + 1) buffer) ≡ map entryWord (entries frame)
   unfolding frameWords
-  read-entries n same =
-      let l = before fs f in
+  read-words n same =
       let ws = map entryWord (entries frame) in
-      let zeros : List ℕ = replicate (64 - length (entries frame)) 0 in
-      let all = take-all (length buffer - (f * 65 + 1)) (drop (f * 65 + 1) buffer) (simp length-drop (omega arith)) in
-      ap (take n) (all ∙ ap₂ drop (start 1) as-parts ∙ drop-append-add l (frameWords frame ++ behind fs f) 1 ∙ append-assoc ws zeros (behind fs f))
-      ∙ take-at ws (zeros ++ behind fs f) n (length-map (entries frame) entryWord ∙ sym same)
+      let width : f * 65 + 1 + n - (f * 65 + 1) ≡ n = omega arith in
+      rw width
+      (ap (take n) (ap₂ drop (start 1) as-parts ∙ drop-append-add (before fs f) (frameWords frame ++ behind fs f) 1 ∙ append-assoc ws (unused frame) (behind fs f))
+      ∙ take-at ws (unused frame ++ behind fs f) n (length-map (entries frame) entryWord ∙ sym same))
 
-  pub lists : (list : List Entry) (n : ℕ) → n ≡ length (entries frame)
-      → list ≡ map entryIn (take n (take (length buffer - (f * 65 + 1)) (drop (f * 65 + 1) buffer))) ++ replicate (64 - n) noEntry
-      → _≡_ {A = Entries} (record { list = list; count = n }) (byValue (entries frame))
-  unfolding placed
-  lists list n same e =
-      let es : list ≡ placed (entries frame) =
-      e ∙ ap₂ (λ (l : List Entry) (k : ℕ). l ++ replicate (64 - k) noEntry) (ap (map entryIn) (read-entries n same) ∙ entries-back (entries frame) (frame-fits .small)) same in
-      λ i. record { list = es i; count = same i }
+  pub read-entries : (n : ℕ) → n ≡ length (entries frame) → entriesIn (take (f * 65 + 1 + n - (f * 65 + 1)) (drop (f * 65 + 1) buffer)) ≡ entries frame
+  read-entries n same = ap entriesIn (read-words n same) ∙ words-back (entries frame) (frame-fits .small)
 
 -- ---- no frame open
 closed-held : (n : ℕ) → framesHeld (replicate n Closed) ≡ replicate (n * 65) 0

@@ -8,6 +8,7 @@ use Rattle.definition.specs.Frame.{Frame, entries, frameCount}
 use Rattle.definition.specs.Frame.Frame.{Closed, Open}
 use Rattle.definition.specs.Retag.{entryBound}
 use Rattle.definition.specs.Valid.{All}
+use Rattle.entries.specs.List.{provenanceOf}
 use Rattle.entries.specs.declared.Entry.{Entry}
 
 -- an entry as one number, and read back from it
@@ -16,6 +17,10 @@ entryWord e = e .allocation * 4096 + e .node
 
 abbrev pub entryIn : ℕ → Entry
 entryIn w = record { allocation = w / 4096; node = w % 4096 }
+
+-- the entries that numbers stand for
+abbrev pub entriesIn : List ℕ → List Provenance
+entriesIn words = map (λ w. provenanceOf (entryIn w)) words
 
 -- 0 for a closed frame, else 1 and the number of its entries
 abbrev pub headWord : Frame → ℕ

@@ -1,15 +1,16 @@
 // A frame's protector list in its three forms: by value, which covered code takes and returns; lent as a slice of entry structs, which
 // two walked functions read and extend; and in the buffer that holds a run's 32 frames. mem.rs: `TreeBorrowsFrameExtra`.
 // specs/List.antt says what an entry and a list are in the definition, specs/Buffer.antt what the buffer holds.
-ghost use Prim.Native.Nat.{_+_, _-_, _<_, _≤_};
+ghost use Prim.Native.Nat.{_+_, _<_, _≤_};
 ghost use mathlib.Core.Path.{_≡_};
 ghost use mathlib.Core.Bool.{false};
-ghost use mathlib.Core.List.{List, [], _∷_, _++_, map};
+ghost use mathlib.Core.List.{List, [], _∷_, _++_};
 ghost use lib.ListN.{length, getD, take, set, replicate};
 ghost use Rattle.definition.specs.Frame.{Frame, isOpen, empty};
 ghost use Rattle.definition.specs.Frame.Frame.{Closed, Open};
+ghost use Rattle.definition.specs.Valid.{All};
 ghost use Rattle.entries.specs.List.{provenanceOf, noEntry, entriesOf, byValue, appended, loaded};
-ghost use Rattle.entries.specs.Buffer.{entryWord, entryIn, entriesAt, FitsEntry, HoldsFrames};
+ghost use Rattle.entries.specs.Buffer.{entryWord, entryIn, entriesIn, entriesAt, FitsEntry, HoldsFrames};
 
 // Whom a frame protects: a node of an allocation. It has C's layout, so that C and Rust can lend a list of them.
 #[repr(C)]
@@ -122,18 +123,20 @@ pub fn entry_in(word: u32) -> Entry
     }
 }
 
-// The entries that the first n numbers stand for, and none after them.
-pub fn entries_in(words: &[u32], n: usize) -> [Entry; 64]
-    requires { ⌜ (n ≤ 64) × (n ≤ length (now words)) ⌝ }
-    ensures { λ r. ⌜ r ≡ map entryIn (take n (now (words .entry))) ++ replicate (64 - n) noEntry ⌝ }
+// The entries of a list, each as its number, and zeros after them.
+pub fn words_of(list: Entries) -> [u32; 64]
+    requires { ⌜ (list .count ≤ 64) × All FitsEntry (entriesOf list) ⌝ }
+    ensures { λ r. ⌜ entriesIn (take (list .count) r) ≡ entriesOf list ⌝ }
 {
-    let mut list = blank();
+    let count = list.count;
+    let mut words = [0u32; 64];
     let mut i = 0;
-    while i < n {
-        list[i] = entry_in(words[i]);
+    while i < count {
+        let e = entry_at(list, i);
+        words[i] = entry_word(e);
         i = i + 1;
     }
-    list
+    words
 }
 
 // Zeros at every place.
@@ -177,16 +180,16 @@ pub fn entry_count(frames: &[u32], f: usize) -> usize
     (head - 1) as usize
 }
 
-// A frame's entries by value.
-pub fn frame_list(frames: &[u32], f: usize) -> Entries
+// The numbers of a frame's entries.
+pub fn frame_words(frames: &[u32], f: usize) -> &[u32]
     requires { ⌜ ((fs : List Frame) × HoldsFrames fs (now frames)) ⌝ }
     requires { ⌜ f < 32 ⌝ }
-    ensures { λ r. ⌜ ((fs : List Frame) → HoldsFrames fs (now (frames .entry)) → r ≡ byValue (entriesAt fs f)) ⌝ }
+    ensures { λ r. ⌜ ((fs : List Frame) → HoldsFrames fs (now (frames .entry)) → entriesIn (now r) ≡ entriesAt fs f) ⌝ }
 {
     let count = entry_count(frames, f);
-    let at = f * 65 + 1;
-    let list = entries_in(&frames[at..], count);
-    Entries { list, count }
+    let start = f * 65 + 1;
+    let end = start + count;
+    &frames[start..end]
 }
 
 // A closed frame is opened, without entries.
@@ -198,14 +201,15 @@ pub fn open_frame(frames: &mut [u32], f: usize)
     frames[f * 65] = 1;
 }
 
-// A frame is closed: zeros in its part.
+// A frame is closed: zeros in its part, which has zeros behind its entries already.
 pub fn close_frame(frames: &mut [u32], f: usize)
     requires { ⌜ ((fs : List Frame) × HoldsFrames fs (now frames)) ⌝ }
     requires { ⌜ f < 32 ⌝ }
     ensures { λ _. ⌜ ((fs : List Frame) → HoldsFrames fs (now (frames .entry)) → HoldsFrames (set fs f Closed) (now (frames .exit))) ⌝ }
 {
+    let count = entry_count(frames, f);
     let start = f * 65;
-    let end = start + 65;
+    let end = start + 1 + count;
     fill_zero(&mut frames[start..end]);
 }
 

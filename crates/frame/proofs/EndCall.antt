@@ -1,26 +1,29 @@
 -- An end call: 4 for all entries, then the releases; and the five buffers, the answer and the frames afterwards.
-use Prim.Native.Nat.{ℕ, zero, suc, _+_, _<_}
+use Prim.Native.Nat.{ℕ, zero, suc, _+_, _-_, _<_}
 use mathlib.Core.Path.{_≡_, refl, sym, ap, subst, _∙_}
 use mathlib.Core.Bool.{Bool, true, false, not}
 use mathlib.Core.List.{List, [], _∷_, _++_, append-nil}
 use native.Mathlib.Omega.{arith}
 use borrow.Author.Tests.{ne-eqb}
 use lib.Dec.{eqb}
-use lib.ListN.{length, getD, drop, set, replicate}
+use lib.ListN.{length, getD, take, drop, set, replicate}
 use Rattle.definition.specs.Notation.{if_then_else_, _when_, _or_, any}
 use Rattle.definition.specs.Refusal.{neverMade}
 use Rattle.definition.specs.Memory as definition
 use Rattle.definition.specs.Memory.{Allocation, Memory, Provenance, refusedWith, wasMade}
 use Rattle.definition.specs.Frame.{Frame, State, frameAt, entries, afterReleaseIn, releaseAllRefusal, afterReleaseAll, endCallRefusal, acceptEndCall, endCall, newCall}
 use Rattle.definition.specs.Frame.Frame.{Closed, Open}
-use Rattle.definition.specs.Valid.{Valid}
+use Rattle.definition.specs.Valid.{All, Valid}
 use Rattle.definition.proofs.Alls.{if-holds, all-imp, none-pass}
 use Rattle.definition.proofs.Booleans.{not-not-false}
 use Rattle.definition.proofs.ValidMemory.{valid-release-all}
 use Rattle.tables.specs.Encoding.{recordOf, parentsOf, wordsOf, held, encode}
 use Rattle.tables.specs.Held.{buffers, Holds}
 use Rattle.tables.proofs.ReadBack.{holds-allocs, holds-parents, holds-protectors, holds-words, holds-codes, encode-of}
-use Rattle.entries.specs.Buffer.{HoldsFrames}
+use Rattle.entries.specs.Buffer.{entriesIn, FitsEntry, HoldsFrames}
+use Rattle.entries.specs.List.{entriesOf}
+use Rattle.entries.specs.declared.Entries.{Entries}
+use Rattle.entries.proofs.FromValid.{made-fits}
 use Rattle.frame.specs.Release.{HoldsTrees, HoldsNodes, AllMade, unlessRefused, ReleasedAll, afterEndCall, Checked}
 use Rattle.frame.proofs.Releases.{all-kept, same-record, same-parents, same-words, none-left, rest-at}
 
@@ -41,6 +44,21 @@ module _ (m : Memory) (es : List Provenance) (i : ℕ) (e d : Provenance) (l : i
 pub all-made : (m : Memory) (es : List Provenance) → any (isUnmade m) es ≡ false → AllMade m es
 all-made m es n = all-imp (λ e. isUnmade m e ≡ false) (λ e. wasMade m e ≡ true) (λ e. not-not-false (wasMade m e)) es (none-pass (isUnmade m) es n)
 
+-- entries that were made have numbers
+pub all-fit : {m : Memory} (es : List Provenance) {A P R C : List ℕ} → HoldsTrees m A P R C → AllMade m es → All FitsEntry es
+all-fit {m} es h made = all-imp (λ e. wasMade m e ≡ true) FitsEntry (λ e w. made-fits m e (h .valid) w) es made
+
+-- the numbers that were written for a list, as a part that is lent
+pub written : (list : Entries) (words : List ℕ) → entriesIn (take (list .count) words) ≡ entriesOf list → entriesIn (take (list .count - 0) words) ≡ entriesOf list
+written list words e =
+    let z : list .count - 0 ≡ list .count = omega arith in
+    ap (λ (n : ℕ). entriesIn (take n words)) z ∙ e
+
+none-unmade : (m : Memory) (es : List Provenance) → AllMade m es → any (isUnmade m) es ≡ false
+unfolding any
+none-unmade m [] made = refl
+none-unmade m (e ∷ es) made = rw (made .0) (none-unmade m es (made .1))
+
 module _ {m : Memory} {es : List Provenance} {R C : List ℕ} where
   pub refused-unmade : any (isUnmade m) es ≡ true → {A P : List ℕ} → HoldsTrees m A P R C → Checked m es 4 R C
   unfolding endCallRefusal
@@ -59,6 +77,9 @@ module _ {m : Memory} {es : List Provenance} {R C : List ℕ} where
         refusal = k .refusal ∙ sym e;
         nodes = subst (λ (j : ℕ). HoldsNodes (unlessRefused j m (afterReleaseAll m es)) R C) (sym e) (k .nodes);
       }
+
+pub all-released : {m : Memory} {es : List Provenance} {answer : ℕ} {R C : List ℕ} → ReleasedAll m es answer R C → AllMade m es → Checked m es answer R C
+all-released {m} {es} k made = made-released (none-unmade m es made) k
 
 pub all-zero : (n : ℕ) (new old : List ℕ) → length old ≡ n → new ≡ replicate n 0 ++ drop n old → new ≡ replicate n 0
 all-zero n new old l e = e ∙ ap (λ (rest : List ℕ). replicate n 0 ++ rest) (none-left old n (omega arith)) ∙ append-nil (replicate n 0)

@@ -93,10 +93,6 @@ none-left [] (suc i) h = refl
 none-left (x ∷ xs) zero h = absurd (omega arith)
 none-left (x ∷ xs) (suc i) h = none-left xs i (omega arith)
 
--- a list by value has as many entries as it counts
-pub entries-count : (list : Entries) → list .count ≤ 64 → length (list .list) ≡ 64 → length (entriesOf list) ≡ list .count
-entries-count list l w = length-map (take (list .count) (list .list)) provenanceOf ∙ length-take-le (list .count) (list .list) (omega arith)
-
 -- ---- entry by entry
 -- the releases of `rest` are left, in the memory that the ones before them left
 pub record Turn (m : Memory) (es rest : List Provenance) (A P R C : List ℕ) : Type 0 where
@@ -250,8 +246,5 @@ one-at-most m [] l = refl
 one-at-most m (e ∷ []) l = ap (λ (r : ℕ). unlessRefused r m (afterRelease m e)) (sym (or-none (releaseRefusal m e)))
 one-at-most m (e ∷ x ∷ es) l = absurd (omega arith)
 
-few : (list : Entries) → list .count ≤ 1 → length (entriesOf list) ≤ 1
-few list l = omega (arith, length-map (take (list .count) (list .list)) provenanceOf, length-take (list .count) (list .list))
-
-pub all-by-one : {m : Memory} (list : Entries) → list .count ≤ 1 → {answer : ℕ} {R C : List ℕ} → ReleasedUntil m (entriesOf list) answer R C → ReleasedAll m (entriesOf list) answer R C
-all-by-one {m} list l {answer} {R} {C} k = record { refusal = k .refusal; nodes = subst (λ (x : Memory). HoldsNodes x R C) (one-at-most m (entriesOf list) (few list l)) (k .nodes) }
+pub all-by-one : {m : Memory} (es : List Provenance) → length es ≤ 1 → {answer : ℕ} {R C : List ℕ} → ReleasedUntil m es answer R C → ReleasedAll m es answer R C
+all-by-one {m} es l {answer} {R} {C} k = record { refusal = k .refusal; nodes = subst (λ (x : Memory). HoldsNodes x R C) (one-at-most m es l) (k .nodes) }

@@ -8,27 +8,49 @@ use pointer::Provenance;
 ghost use mathlib.Core.Path.{_≡_};
 ghost use mathlib.Core.Bool.{true, not};
 ghost use mathlib.Core.List.{List, _++_};
-ghost use Prim.Native.Nat.{ℕ, _≤_};
+ghost use Prim.Native.Nat.{_≤_, _<_};
 ghost use lib.ListN.{length, take, drop, replicate};
 ghost use Rattle.definition.specs.Notation.{any};
 ghost use Rattle.definition.specs.Memory.{Memory, wasMade};
+ghost use Rattle.definition.specs.Memory.Liveness.{Live};
 ghost use Rattle.entries.specs.List.{provenanceOf, entriesOf, firstOf};
+ghost use Rattle.entries.specs.Buffer.{entriesIn};
 ghost use Rattle.tables.specs.Held.{buffers, Records};
+ghost use Rattle.tree.specs.Table.{HoldsAll, Some, Each};
+ghost use Rattle.tree.specs.Requests as tree;
 ghost use Rattle.frame.specs.Release.{HoldsTrees, AllMade, Released, ReleasedUntil, ReleasedAll, Checked, Ended};
 ghost use Rattle.frame.specs.EndCall.{isLent, EndedLent};
 
 // ---- one entry
-// The first refusal, 16 to 23, with marks and codes as they were; or 0, with the entry's node released. The lent row is for work.
-pub fn release_entry(
+// In a live allocation of at most 4,096 bytes, with a row for work that has room for it: a short one is made in less time.
+fn release_live(
+    parents: &[u16],
+    protectors: &mut [u8],
+    codes: &mut [u8],
+    width: usize,
+    node: usize,
+) -> u8
+    requires { ⌜ Some (λ nodes. HoldsAll nodes width (now parents) (now protectors) (now codes)) ⌝ }
+    requires { ⌜ (node < length (now parents)) × (width ≤ 4096) ⌝ }
+    ensures { λ r. ⌜ Each (λ nodes. HoldsAll nodes width (now (parents .entry)) (now (protectors .entry)) (now (codes .entry))) (λ nodes. tree.Released Live node nodes r (now (protectors .exit)) (now (codes .exit))) ⌝ }
+{
+    if width <= 64 {
+        let mut row = [0u8; 64];
+        return tree::release(parents, protectors, codes, &mut row, width, node);
+    }
+    let mut row = [0u8; 4096];
+    tree::release(parents, protectors, codes, &mut row, width, node)
+}
+
+// The first refusal, 16 to 23, with marks and codes as they were; or 0, with the entry's node released.
+fn release_entry(
     allocs: &[u64],
     parents: &[u16],
     protectors: &mut [u8],
     codes: &mut [u8],
-    row: &mut [u8],
     e: Entry,
 ) -> u8
     requires { ⌜ ((m : Memory) × (HoldsTrees m (now allocs) (now parents) (now protectors) (now codes) × (wasMade m (provenanceOf e) ≡ true))) ⌝ }
-    requires { ⌜ 4096 ≤ length (now row) ⌝ }
     ensures { λ r. ⌜ ((m : Memory) → HoldsTrees m (now (allocs .entry)) (now (parents .entry)) (now (protectors .entry)) (now (codes .entry)) → wasMade m (provenanceOf e) ≡ true
         → Released m (provenanceOf e) r (now (protectors .exit)) (now (codes .exit))) ⌝ }
 {
@@ -50,11 +72,10 @@ pub fn release_entry(
             node,
         );
     }
-    tree::release(
+    release_live(
         &parents[node_start..node_end],
         &mut protectors[node_start..node_end],
         &mut codes[code_start..code_end],
-        row,
         size,
         node,
     )
@@ -83,25 +104,22 @@ fn any_never_made(allocs: &[u64], list: Entries) -> bool
     false
 }
 
-// "Release, in list order", each on what the ones before it left, up to the first refusal.
+// "Release, in list order", each on what the ones before it left, up to the first refusal. The words are the entries' numbers.
 fn release_until(
     allocs: &[u64],
     parents: &[u16],
     protectors: &mut [u8],
     codes: &mut [u8],
-    row: &mut [u8],
-    list: Entries,
+    words: &[u32],
 ) -> u8
-    requires { ⌜ ((m : Memory) × (HoldsTrees m (now allocs) (now parents) (now protectors) (now codes) × AllMade m (entriesOf list))) ⌝ }
-    requires { ⌜ (list .count ≤ 64) × (4096 ≤ length (now row)) ⌝ }
-    ensures { λ r. ⌜ ((m : Memory) → HoldsTrees m (now (allocs .entry)) (now (parents .entry)) (now (protectors .entry)) (now (codes .entry)) → AllMade m (entriesOf list)
-        → ReleasedUntil m (entriesOf list) r (now (protectors .exit)) (now (codes .exit))) ⌝ }
+    requires { ⌜ ((m : Memory) × (HoldsTrees m (now allocs) (now parents) (now protectors) (now codes) × AllMade m (entriesIn (now words)))) ⌝ }
+    ensures { λ r. ⌜ ((m : Memory) → HoldsTrees m (now (allocs .entry)) (now (parents .entry)) (now (protectors .entry)) (now (codes .entry)) → AllMade m (entriesIn (now (words .entry)))
+        → ReleasedUntil m (entriesIn (now (words .entry))) r (now (protectors .exit)) (now (codes .exit))) ⌝ }
 {
-    let count = list.count;
     let mut i: usize = 0;
-    while i < count {
-        let e = entries::entry_at(list, i);
-        let refusal = release_entry(allocs, parents, protectors, codes, row, e);
+    while i < words.len() {
+        let e = entries::entry_in(words[i]);
+        let refusal = release_entry(allocs, parents, protectors, codes, e);
         if refusal != 0 {
             return refusal;
         }
@@ -125,21 +143,20 @@ fn release_all(
     protectors: &mut [u8],
     codes: &mut [u8],
     area: &mut [u8],
-    list: Entries,
+    words: &[u32],
 ) -> u8
-    requires { ⌜ ((m : Memory) × (HoldsTrees m (now allocs) (now parents) (now protectors) (now codes) × AllMade m (entriesOf list))) ⌝ }
-    requires { ⌜ (list .count ≤ 64) × (length (now area) ≡ 32768) ⌝ }
-    ensures { λ r. ⌜ ((m : Memory) → HoldsTrees m (now (allocs .entry)) (now (parents .entry)) (now (protectors .entry)) (now (codes .entry)) → AllMade m (entriesOf list)
-        → ReleasedAll m (entriesOf list) r (now (protectors .exit)) (now (codes .exit))) ⌝ }
+    requires { ⌜ ((m : Memory) × (HoldsTrees m (now allocs) (now parents) (now protectors) (now codes) × AllMade m (entriesIn (now words)))) ⌝ }
+    requires { ⌜ length (now area) ≡ 32768 ⌝ }
+    ensures { λ r. ⌜ ((m : Memory) → HoldsTrees m (now (allocs .entry)) (now (parents .entry)) (now (protectors .entry)) (now (codes .entry)) → AllMade m (entriesIn (now (words .entry)))
+        → ReleasedAll m (entriesIn (now (words .entry))) r (now (protectors .exit)) (now (codes .exit))) ⌝ }
 {
     let used = tables::used(allocs);
     let nodes = used.nodes;
     let size = used.codes;
     let mut marks = [0u8; 1024];
-    let mut row = [0u8; 4096];
     copy_front(&mut marks, protectors, nodes);
     copy_front(area, codes, size);
-    let refused = release_until(allocs, parents, protectors, codes, &mut row, list);
+    let refused = release_until(allocs, parents, protectors, codes, words);
     if refused != 0 {
         copy_front(protectors, &marks, nodes);
         copy_front(codes, area, size);
@@ -147,61 +164,39 @@ fn release_all(
     refused
 }
 
-// The same for one entry at most, whose release leaves all as it was where it is refused: nothing needs to be saved.
-fn release_one(
-    allocs: &[u64],
-    parents: &[u16],
-    protectors: &mut [u8],
-    codes: &mut [u8],
-    list: Entries,
-) -> u8
-    requires { ⌜ ((m : Memory) × (HoldsTrees m (now allocs) (now parents) (now protectors) (now codes) × AllMade m (entriesOf list))) ⌝ }
-    requires { ⌜ list .count ≤ 1 ⌝ }
-    ensures { λ r. ⌜ ((m : Memory) → HoldsTrees m (now (allocs .entry)) (now (parents .entry)) (now (protectors .entry)) (now (codes .entry)) → AllMade m (entriesOf list)
-        → ReleasedAll m (entriesOf list) r (now (protectors .exit)) (now (codes .exit))) ⌝ }
-{
-    let mut row = [0u8; 4096];
-    release_until(allocs, parents, protectors, codes, &mut row, list)
-}
-
-// With a working area of its own, where one is needed.
+// With a working area of its own, where one is needed: the release of one entry leaves all as it was where it is refused.
 fn release_list(
     allocs: &[u64],
     parents: &[u16],
     protectors: &mut [u8],
     codes: &mut [u8],
-    list: Entries,
+    words: &[u32],
 ) -> u8
-    requires { ⌜ ((m : Memory) × (HoldsTrees m (now allocs) (now parents) (now protectors) (now codes) × AllMade m (entriesOf list))) ⌝ }
-    requires { ⌜ list .count ≤ 64 ⌝ }
-    ensures { λ r. ⌜ ((m : Memory) → HoldsTrees m (now (allocs .entry)) (now (parents .entry)) (now (protectors .entry)) (now (codes .entry)) → AllMade m (entriesOf list)
-        → ReleasedAll m (entriesOf list) r (now (protectors .exit)) (now (codes .exit))) ⌝ }
+    requires { ⌜ ((m : Memory) × (HoldsTrees m (now allocs) (now parents) (now protectors) (now codes) × AllMade m (entriesIn (now words)))) ⌝ }
+    ensures { λ r. ⌜ ((m : Memory) → HoldsTrees m (now (allocs .entry)) (now (parents .entry)) (now (protectors .entry)) (now (codes .entry)) → AllMade m (entriesIn (now (words .entry)))
+        → ReleasedAll m (entriesIn (now (words .entry))) r (now (protectors .exit)) (now (codes .exit))) ⌝ }
 {
-    if list.count < 2 {
-        return release_one(allocs, parents, protectors, codes, list);
+    if words.len() < 2 {
+        return release_until(allocs, parents, protectors, codes, words);
     }
     let mut area = [0u8; 32768];
-    release_all(allocs, parents, protectors, codes, &mut area, list)
+    release_all(allocs, parents, protectors, codes, &mut area, words)
 }
 
 // ---- an end call
-// In a run, where nobody lends a working area.
+// In a run, where every entry of a frame was made, and nobody lends a working area. The words are the entries' numbers.
 pub fn end_call_in_run(
     allocs: &[u64],
     parents: &[u16],
     protectors: &mut [u8],
     codes: &mut [u8],
-    list: Entries,
+    words: &[u32],
 ) -> Answer
-    requires { ⌜ ((m : Memory) × HoldsTrees m (now allocs) (now parents) (now protectors) (now codes)) ⌝ }
-    requires { ⌜ list .count ≤ 64 ⌝ }
-    ensures { λ r. ⌜ ((m : Memory) → HoldsTrees m (now (allocs .entry)) (now (parents .entry)) (now (protectors .entry)) (now (codes .entry))
-        → Ended m (entriesOf list) r (now (protectors .exit)) (now (codes .exit))) ⌝ }
+    requires { ⌜ ((m : Memory) × (HoldsTrees m (now allocs) (now parents) (now protectors) (now codes) × AllMade m (entriesIn (now words)))) ⌝ }
+    ensures { λ r. ⌜ ((m : Memory) → HoldsTrees m (now (allocs .entry)) (now (parents .entry)) (now (protectors .entry)) (now (codes .entry)) → AllMade m (entriesIn (now (words .entry)))
+        → Ended m (entriesIn (now (words .entry))) r (now (protectors .exit)) (now (codes .exit))) ⌝ }
 {
-    if any_never_made(allocs, list) {
-        return Answer::Refused(4);
-    }
-    let refused = release_list(allocs, parents, protectors, codes, list);
+    let refused = release_list(allocs, parents, protectors, codes, words);
     bounds::refused_with(refused)
 }
 
@@ -222,7 +217,9 @@ fn end_call_refusal(
     if any_never_made(allocs, list) {
         return 4;
     }
-    release_all(allocs, parents, protectors, codes, area, list)
+    let words = entries::words_of(list);
+    let count = list.count;
+    release_all(allocs, parents, protectors, codes, area, &words[0..count])
 }
 
 // A refusal leaves marks and codes as they were. The working area is zero afterwards, whatever it held and whatever the answer.

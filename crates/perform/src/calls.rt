@@ -29,8 +29,8 @@ pub fn end_call(
     ensures { λ r. ⌜ ((s : State) → HoldsTrees s (now (allocs .entry)) (now (parents .entry)) (now (protectors .entry)) (now (codes .entry)) (now (frames .entry))
         → LeftTrees (endCall f s) r (now (allocs .entry)) (now (parents .entry)) (now (protectors .exit)) (now (codes .exit)) (now (frames .exit))) ⌝ }
 {
-    let list = entries::frame_list(frames, f);
-    let answer = frame::end_call_in_run(allocs, parents, protectors, codes, list);
+    let words = entries::frame_words(frames, f);
+    let answer = frame::end_call_in_run(allocs, parents, protectors, codes, words);
     if answer.refusal() == 0 {
         entries::close_frame(frames, f);
     }

@@ -1,10 +1,13 @@
--- 4 for all entries, or all were made and are released (EndCall).
+-- 4 for all entries, or all were made and are released, each by its number (EndCall).
 use mathlib.Core.Bool.{false}
-use mathlib.Core.Path.{_≡_, sym, _∙_}
+use mathlib.Core.Path.{_≡_, sym, subst, subst⁻¹, _∙_}
+use mathlib.Core.List.{List}
 use borrow.Author.Needs.{needs}
+use Rattle.definition.specs.Memory.{Provenance}
 use Rattle.definition.specs.Notation.{any}
 use Rattle.entries.specs.List.{entriesOf}
-use Rattle.frame.proofs.EndCall.{isUnmade, all-made, refused-unmade, made-released}
+use Rattle.frame.specs.Release.{AllMade, ReleasedAll}
+use Rattle.frame.proofs.EndCall.{isUnmade, all-made, all-fit, written, refused-unmade, made-released}
 use Rattle.frame.proofs.Lent.{records-held}
 use Rattle.frame.proofs.end_call_refusal.Statement.{statement}
 use Rattle.frame.proofs.end_call_refusal.Tie as tie
@@ -15,11 +18,32 @@ any-never-made-requires c κs = let s = c .before .before .before .before .befor
 returns : tie.Need-returns
 returns c = λ m h. refused-unmade (sym (c .before .any-never-made .ensures m (records-held h)) ∙ c .if1 .taken) h
 
-release-all-requires : tie.Need-release-all-requires
-release-all-requires c κs = let s = c .before .before .before .before .before .before .before .before .before .before in
+words-of-requires : tie.Need-words-of-requires
+words-of-requires c κs =
+    let s = c .before .before .before .before .before .before .before in
     let m = s .pre .0 .0 in
     let h = s .pre .0 .1 in
-    ((m, (h, all-made m (entriesOf (s .args .list)) (sym (c .before .before .before .before .any-never-made .ensures m (records-held h)) ∙ c .before .before .before .if1 .left))), s .pre .1)
+    let es = entriesOf (s .args .list) in
+    (s .pre .1 .0, all-fit es h (all-made m es (sym (c .before .any-never-made .ensures m (records-held h)) ∙ c .if1 .left)))
+
+sub-release-all : tie.Need-sub-release-all
+sub-release-all c = search needs
+
+part-release-all-start : tie.Need-part-release-all-start
+part-release-all-start c = search needs
+
+part-release-all-end : tie.Need-part-release-all-end
+part-release-all-end c = search needs
+
+release-all-requires : tie.Need-release-all-requires
+release-all-requires c κs =
+    let w = c .before .before .before .before .before in
+    let s = w .before .before .before .before .before .before .before .before in
+    let m = s .pre .0 .0 in
+    let h = s .pre .0 .1 in
+    let list = s .args .list in
+    let n : any (isUnmade m) (entriesOf list) ≡ false = sym (w .before .before .any-never-made .ensures m (records-held h)) ∙ w .before .if1 .left in
+    ((m, (h, subst⁻¹ (AllMade m) (written list (w .words-of .result) (w .words-of .ensures)) (all-made m (entriesOf list) n))), s .pre .1 .1)
 
 same-length : tie.Need-same-length
 same-length c = search needs
@@ -32,8 +56,15 @@ same-length-3 c = search needs
 
 returns-2 : tie.Need-returns-2
 returns-2 c = λ m h.
-    let n : any (isUnmade m) (entriesOf (c .before .before .before .before .before .before .before .before .before .before .before .before .before .before .before .before .before .args .list)) ≡ false = sym (c .before .before .before .before .before .before .before .before .before .before .before .any-never-made .ensures m (records-held h)) ∙ c .before .before .before .before .before .before .before .before .before .before .if1 .left in
-    made-released n (c .before .before .before .before .before .before .release-all .ensures m h (all-made m _ n))
+    let w = c .before .before .before .before .before .before .before .before .before .before .before .before in
+    let s = w .before .before .before .before .before .before .before .before in
+    let list = s .args .list in
+    let r = c .before .before .before .before .before .before .release-all in
+    let n : any (isUnmade m) (entriesOf list) ≡ false = sym (w .before .before .any-never-made .ensures m (records-held h)) ∙ w .before .if1 .left in
+    let same = written list (w .words-of .result) (w .words-of .ensures) in
+    made-released n
+    (subst (λ (es : List Provenance). ReleasedAll m es (r .result) (r .last .1 .1 .0) (r .last .1 .1 .1 .0)) same
+    (r .ensures m h (subst⁻¹ (AllMade m) same (all-made m (entriesOf list) n))))
 
 pub end-call-refusal-spec : {M : Type 1} → statement M
 end-call-refusal-spec =
@@ -41,6 +72,10 @@ end-call-refusal-spec =
     (tie.spec
     any-never-made-requires
     returns
+    words-of-requires
+    sub-release-all
+    part-release-all-start
+    part-release-all-end
     release-all-requires
     same-length
     same-length-2
