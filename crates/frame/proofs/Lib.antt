@@ -1,4 +1,5 @@
 pub mod Lent
 pub mod Releases
+pub mod Spans
 pub mod EndCall
 pub mod LentCall

@@ -1,13 +1,13 @@
--- What a release leaves as it is, the releases of a list one after another, and how the tables are put back after a refusal.
-use Prim.Native.Nat.{ℕ, zero, suc, _+_, _-_, _≤_, _<_}
+-- What a release leaves as it is, and the releases of a list one after another.
+use Prim.Native.Nat.{ℕ, zero, suc, _+_, _≤_, _<_}
 use mathlib.Core.Path.{_≡_, refl, sym, ap, subst, _∙_}
 use mathlib.Core.Bool.{Bool, true, false}
 use mathlib.Core.List.{List, [], _∷_, _++_}
 use native.Mathlib.Omega.{arith}
 use borrow.Author.Tests.{ne-eqb}
 use lib.Dec.{eqb}
-use lib.ListN.{length, getD, take, drop, replicate, length-map, length-take, take-append-drop}
-use lib.Seq.{length-take-le, take-at, drop-at, drop-cons}
+use lib.ListN.{length, getD, drop}
+use lib.Seq.{drop-cons}
 use Rattle.definition.specs.Notation.{if_then_else_, _or_, mutateAt}
 use Rattle.definition.specs.Tree.{Node, parents}
 use Rattle.definition.specs.Memory.{Allocation, Liveness, Memory, Provenance, kindNumber, size, wasMade}
@@ -20,12 +20,8 @@ use Rattle.definition.proofs.Lists.{mutate-map}
 use Rattle.definition.proofs.Visits.{visited-parents}
 use Rattle.definition.proofs.ValidTrees.{released-length}
 use Rattle.definition.proofs.ValidMemory.{release-kept}
-use Rattle.tables.specs.Encoding.{stateNumber, recordOf, parentsOf, protectorsOf, wordsOf, codesOf, concatMap, pad, held}
-use Rattle.tables.specs.Held.{Records, Used}
-use Rattle.tables.proofs.Focus.{length-held}
-use Rattle.tables.proofs.Sizes.{protectors-used, codes-used, protectors-fit, codes-fit}
-use Rattle.entries.specs.List.{provenanceOf, entriesOf}
-use Rattle.entries.specs.declared.Entries.{Entries}
+use Rattle.tables.specs.Encoding.{stateNumber, recordOf, parentsOf, wordsOf, concatMap, pad, held}
+use Rattle.tables.specs.Held.{Records}
 use Rattle.frame.specs.Release.{HoldsTrees, HoldsNodes, AllMade, unlessRefused, Released, untilRefused, ReleasedUntil, ReleasedAll}
 
 -- ---- what no release changes
@@ -177,63 +173,6 @@ none-refused {m} {es} {answer} {R} {C} k z =
     until-all es m none ∙ ap (λ (n : ℕ). unlessRefused n m (afterReleaseAll m es)) (sym none)
     in
     record { refusal = k .refusal; nodes = subst (λ (n : Memory). HoldsNodes n R C) u (k .nodes) }
-
--- the same numbers stand behind what is used
-behind-used : (total : ℕ) (f : Allocation → List ℕ) (l m : Memory) (n : ℕ) → length (concatMap f l) ≡ n → length (concatMap f m) ≡ n
-    → drop n (held total f l) ≡ drop n (held total f m)
-unfolding held pad
-behind-used total f l m n e q =
-    let zeros : ℕ → List ℕ = λ k. replicate (total - k) 0 in
-    drop-at (concatMap f l) (zeros (length (concatMap f l))) n e ∙ ap zeros (e ∙ sym q) ∙ sym (drop-at (concatMap f m) (zeros (length (concatMap f m))) n q)
-
--- the first n are saved before some other numbers, and put back
-put-back : (n : ℕ) (before others now : List ℕ) → n ≤ length before → drop n now ≡ drop n before → take n (take n before ++ others) ++ drop n now ≡ before
-put-back n before others now l e =
-    ap (λ (x : List ℕ). x ++ drop n now) (take-at (take n before) others n (length-take-le n before l))
-    ∙ ap (λ (x : List ℕ). take n before ++ x) e ∙ take-append-drop n before
-
-module _ {m : Memory} {A P R C : List ℕ} (h : HoldsTrees m A P R C) {w n c : ℕ} (u : Used m w n c) where
-  pub nodes-used : n ≤ 1024
-  nodes-used = omega (arith, u .nodes, protectors-used m, protectors-fit m (h .valid))
-
-  pub codes-total : c ≤ 32768
-  codes-total = omega (arith, u .codes, codes-used m (h .valid .each), codes-fit m (h .valid))
-
-  pub marks-length : length R ≡ 1024
-  marks-length = ap length (h .trees .protectors) ∙ length-held 1024 protectorsOf m (protectors-fit m (h .valid))
-
-  pub codes-length : length C ≡ 32768
-  codes-length = ap length (h .trees .codes) ∙ length-held 32768 codesOf m (codes-fit m (h .valid))
-
-  module _ {es : List Provenance} {answer : ℕ} {R′ C′ : List ℕ} (k : ReleasedUntil m es answer R′ C′) (u′ : Used (untilRefused m es) w n c) where
-    -- M and D hold what was saved, before others
-    pub some-refused : (answer ≡ 0 → ⊥) → (others behind : List ℕ) {M D R″ C″ : List ℕ} → M ≡ take n R ++ others → D ≡ take c C ++ behind
-        → R″ ≡ take n M ++ drop n R′ → C″ ≡ take c D ++ drop c C′ → ReleasedAll m es answer R″ C″
-    some-refused z others behind {M} {D} {R″} {C″} savedMarks savedCodes marksBack codesBack =
-        let l : Memory = untilRefused m es in
-        let some : eqb (releaseAllRefusal m es) 0 ≡ false = ne-eqb (releaseAllRefusal m es) 0 (λ q. z (k .refusal ∙ q)) in
-        let marks : drop n R′ ≡ drop n R =
-        ap (drop n) (k .nodes .protectors)
-        ∙ behind-used 1024 protectorsOf l m n (protectors-used l ∙ sym (u′ .nodes)) (protectors-used m ∙ sym (u .nodes))
-        ∙ ap (drop n) (sym (h .trees .protectors))
-        in
-        let codes : drop c C′ ≡ drop c C =
-        ap (drop c) (k .nodes .codes)
-        ∙ behind-used 32768 codesOf l m c (codes-used l (valid-until es m (h .valid) .each) ∙ sym (u′ .codes)) (codes-used m (h .valid .each) ∙ sym (u .codes))
-        ∙ ap (drop c) (sym (h .trees .codes))
-        in
-        let stays : HoldsNodes m R″ C″ = record {
-          protectors =
-              marksBack ∙ ap (λ (x : List ℕ). take n x ++ drop n R′) savedMarks ∙ put-back n R others R′ (omega (arith, nodes-used, marks-length)) marks
-              ∙ h .trees .protectors;
-          codes =
-              codesBack ∙ ap (λ (x : List ℕ). take c x ++ drop c C′) savedCodes ∙ put-back c C behind C′ (omega (arith, codes-total, codes-length)) codes
-              ∙ h .trees .codes;
-        } in
-        record {
-          refusal = k .refusal;
-          nodes = subst (λ (b : Bool). HoldsNodes (if b then afterReleaseAll m es else m) R″ C″) (sym some) stays;
-        }
 
 -- ---- one entry at most: the first refusal is met in the memory as it was
 or-none : (r : ℕ) → (r or 0) ≡ r

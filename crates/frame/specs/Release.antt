@@ -1,5 +1,5 @@
 -- What the release of a frame's entries asks and what it leaves, said of each memory that the buffers hold.
-use Prim.Native.Nat.{ℕ}
+use Prim.Native.Nat.{ℕ, _≤_, _<_}
 use mathlib.Core.Path.{_≡_}
 use mathlib.Core.Bool.{true}
 use mathlib.Core.List.{List, [], _∷_}
@@ -11,7 +11,8 @@ use Rattle.definition.specs.Valid.{All, Valid}
 use Rattle.answer.specs.Answer.{answerOf}
 use Rattle.answer.specs.declared.Answer.{Answer}
 use Rattle.tables.specs.Encoding.{protectorsOf, codesOf, held}
-use Rattle.tables.specs.Held.{Trees}
+use Rattle.tables.specs.Held.{Trees, Records, StartsAt}
+use Rattle.tables.specs.declared.Starts.{Starts}
 
 -- all buffers but the words hold m
 pub record HoldsTrees (m : Memory) (A P R C : List ℕ) : Type 0 where
@@ -26,6 +27,20 @@ pub record HoldsNodes (m : Memory) (R C : List ℕ) : Type 0 where
 -- no entry is refused with 4
 abbrev pub AllMade : Memory → List Provenance → Type 0
 AllMade m es = All (λ e. wasMade m e ≡ true) es
+
+-- the entries are in allocations from `first` on and before `end`, which is no greater than it has to be
+pub record Spans (es : List Provenance) (first end : ℕ) : Type 0 where
+  pub ordered : first ≤ end
+  pub among : All (λ e. (first ≤ e .allocation) × (e .allocation < end)) es
+  pub least : (n : ℕ) → All (λ e. e .allocation < n) es → end ≤ n
+
+-- `from` and `to` say where the marks and codes of such allocations start and where they end, in each memory with these records
+pub record Touched (A : List ℕ) (es : List Provenance) (from to : Starts) : Type 0 where
+  pub first : ℕ
+  pub end : ℕ
+  pub spans : Spans es first end
+  pub starts : (m : Memory) → Records m A → StartsAt m first (from .words) (from .nodes) (from .codes)
+  pub ends : (m : Memory) → Records m A → StartsAt m end (to .words) (to .nodes) (to .codes)
 
 -- nothing changes where there is a refusal
 abbrev pub unlessRefused : ℕ → Memory → Memory → Memory

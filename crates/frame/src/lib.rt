@@ -5,10 +5,11 @@ use entries::Entries;
 use entries::Entry;
 use entries::load;
 use pointer::Provenance;
+use tables::Starts;
 ghost use mathlib.Core.Path.{_≡_};
 ghost use mathlib.Core.Bool.{true, not};
 ghost use mathlib.Core.List.{List, _++_};
-ghost use Prim.Native.Nat.{_≤_, _<_};
+ghost use Prim.Native.Nat.{ℕ, _-_, _≤_, _<_};
 ghost use lib.ListN.{length, take, drop, replicate};
 ghost use Rattle.definition.specs.Notation.{any};
 ghost use Rattle.definition.specs.Memory.{Memory, wasMade};
@@ -18,7 +19,7 @@ ghost use Rattle.entries.specs.Buffer.{entriesIn};
 ghost use Rattle.tables.specs.Held.{buffers, Records};
 ghost use Rattle.tree.specs.Table.{HoldsAll, Some, Each};
 ghost use Rattle.tree.specs.Requests as tree;
-ghost use Rattle.frame.specs.Release.{HoldsTrees, AllMade, Released, ReleasedUntil, ReleasedAll, Checked, Ended};
+ghost use Rattle.frame.specs.Release.{HoldsTrees, AllMade, Spans, Touched, Released, ReleasedUntil, ReleasedAll, Checked, Ended};
 ghost use Rattle.frame.specs.EndCall.{isLent, EndedLent};
 
 // ---- one entry
@@ -128,15 +129,72 @@ fn release_until(
     0
 }
 
-// The first n of src at the front of dst.
-fn copy_front(dst: &mut [u8], src: &[u8], n: usize)
-    requires { ⌜ (n ≤ length (now src)) × (n ≤ length (now dst)) ⌝ }
-    ensures { λ _. ⌜ now (dst .exit) ≡ take n (now (src .entry)) ++ drop n (now (dst .entry)) ⌝ }
+// ---- all or none: what the releases may change is saved
+fn lesser(a: u32, b: u32) -> u32
+    ensures { λ r. ⌜ (r ≤ a) × (r ≤ b) ⌝ }
 {
-    tables::copy_row(dst, &src[0..n]);
+    if a < b {
+        return a;
+    }
+    b
 }
 
-// All of them, or none: what is used of marks and codes is saved first, and put back after a refusal.
+fn greater(a: u32, b: u32) -> u32
+    ensures { λ r. ⌜ (a ≤ r) × ((b ≤ r) × ((n : ℕ) → a < n → b < n → r < n)) ⌝ }
+{
+    if a < b {
+        return b;
+    }
+    a
+}
+
+// Allocations, from one on and before another.
+pub struct Span {
+    pub first: usize,
+    pub end: usize,
+}
+
+// Those between the least and the greatest that an entry is in. An entry's number has its allocation in front.
+fn span_of(words: &[u32]) -> Span
+    ensures { λ r. ⌜ Spans (entriesIn (now (words .entry))) (r .first) (r .end) ⌝ }
+{
+    if words.len() == 0 {
+        return Span { first: 0, end: 0 };
+    }
+    let mut least = words[0];
+    let mut greatest = words[0];
+    let mut i: usize = 1;
+    while i < words.len() {
+        let word = words[i];
+        least = lesser(least, word);
+        greatest = greater(greatest, word);
+        i += 1;
+    }
+    Span {
+        first: (least / 4096) as usize,
+        end: (greatest / 4096) as usize + 1,
+    }
+}
+
+// A part of src at the front of dst.
+fn save(dst: &mut [u8], src: &[u8], start: usize, end: usize)
+    requires { ⌜ (start ≤ end) × ((end ≤ length (now src)) × (end - start ≤ length (now dst))) ⌝ }
+    ensures { λ _. ⌜ now (dst .exit) ≡ take (end - start) (drop start (now (src .entry))) ++ drop (end - start) (now (dst .entry)) ⌝ }
+{
+    tables::copy_row(dst, &src[start..end]);
+}
+
+// And back.
+fn put_back(dst: &mut [u8], saved: &[u8], start: usize, end: usize)
+    requires { ⌜ (start ≤ end) × ((end ≤ length (now dst)) × (end - start ≤ length (now saved))) ⌝ }
+    ensures { λ _. ⌜ now (dst .exit) ≡ take start (now (dst .entry)) ++ (take (end - start) (now (saved .entry)) ++ drop end (now (dst .entry))) ⌝ }
+{
+    let n = end - start;
+    tables::copy_row(&mut dst[start..end], &saved[0..n]);
+}
+
+// All of them, or none: the marks and codes of the allocations from one start to another, where all entries are, are saved first, and
+// put back after a refusal.
 fn release_all(
     allocs: &[u64],
     parents: &[u16],
@@ -144,22 +202,25 @@ fn release_all(
     codes: &mut [u8],
     area: &mut [u8],
     words: &[u32],
+    from: Starts,
+    to: Starts,
 ) -> u8
     requires { ⌜ ((m : Memory) × (HoldsTrees m (now allocs) (now parents) (now protectors) (now codes) × AllMade m (entriesIn (now words)))) ⌝ }
-    requires { ⌜ length (now area) ≡ 32768 ⌝ }
+    requires { ⌜ Touched (now allocs) (entriesIn (now words)) from to × (to .codes - from .codes ≤ length (now area)) ⌝ }
     ensures { λ r. ⌜ ((m : Memory) → HoldsTrees m (now (allocs .entry)) (now (parents .entry)) (now (protectors .entry)) (now (codes .entry)) → AllMade m (entriesIn (now (words .entry)))
         → ReleasedAll m (entriesIn (now (words .entry))) r (now (protectors .exit)) (now (codes .exit))) ⌝ }
 {
-    let used = tables::used(allocs);
-    let nodes = used.nodes;
-    let size = used.codes;
+    let node_start = from.nodes;
+    let node_end = to.nodes;
+    let code_start = from.codes;
+    let code_end = to.codes;
     let mut marks = [0u8; 1024];
-    copy_front(&mut marks, protectors, nodes);
-    copy_front(area, codes, size);
+    save(&mut marks, protectors, node_start, node_end);
+    save(area, codes, code_start, code_end);
     let refused = release_until(allocs, parents, protectors, codes, words);
     if refused != 0 {
-        copy_front(protectors, &marks, nodes);
-        copy_front(codes, area, size);
+        put_back(protectors, &marks, node_start, node_end);
+        put_back(codes, area, code_start, code_end);
     }
     refused
 }
@@ -179,8 +240,53 @@ fn release_list(
     if words.len() < 2 {
         return release_until(allocs, parents, protectors, codes, words);
     }
+    let span = span_of(words);
+    let from = tables::starts_at(allocs, span.first);
+    let to = tables::starts_at(allocs, span.end);
+    if to.codes - from.codes <= 1024 {
+        let mut area = [0u8; 1024];
+        return release_all(
+            allocs,
+            parents,
+            protectors,
+            codes,
+            &mut area,
+            words,
+            from,
+            to,
+        );
+    }
     let mut area = [0u8; 32768];
-    release_all(allocs, parents, protectors, codes, &mut area, words)
+    release_all(
+        allocs,
+        parents,
+        protectors,
+        codes,
+        &mut area,
+        words,
+        from,
+        to,
+    )
+}
+
+// With a lent one.
+fn release_lent(
+    allocs: &[u64],
+    parents: &[u16],
+    protectors: &mut [u8],
+    codes: &mut [u8],
+    area: &mut [u8],
+    words: &[u32],
+) -> u8
+    requires { ⌜ ((m : Memory) × (HoldsTrees m (now allocs) (now parents) (now protectors) (now codes) × AllMade m (entriesIn (now words)))) ⌝ }
+    requires { ⌜ length (now area) ≡ 32768 ⌝ }
+    ensures { λ r. ⌜ ((m : Memory) → HoldsTrees m (now (allocs .entry)) (now (parents .entry)) (now (protectors .entry)) (now (codes .entry)) → AllMade m (entriesIn (now (words .entry)))
+        → ReleasedAll m (entriesIn (now (words .entry))) r (now (protectors .exit)) (now (codes .exit))) ⌝ }
+{
+    let span = span_of(words);
+    let from = tables::starts_at(allocs, span.first);
+    let to = tables::starts_at(allocs, span.end);
+    release_all(allocs, parents, protectors, codes, area, words, from, to)
 }
 
 // ---- an end call
@@ -219,7 +325,7 @@ fn end_call_refusal(
     }
     let words = entries::words_of(list);
     let count = list.count;
-    release_all(allocs, parents, protectors, codes, area, &words[0..count])
+    release_lent(allocs, parents, protectors, codes, area, &words[0..count])
 }
 
 // A refusal leaves marks and codes as they were. The working area is zero afterwards, whatever it held and whatever the answer.

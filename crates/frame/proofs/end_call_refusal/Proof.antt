@@ -26,17 +26,17 @@ words-of-requires c κs =
     let es = entriesOf (s .args .list) in
     (s .pre .1 .0, all-fit es h (all-made m es (sym (c .before .any-never-made .ensures m (records-held h)) ∙ c .if1 .left)))
 
-sub-release-all : tie.Need-sub-release-all
-sub-release-all c = search needs
+sub-release-lent : tie.Need-sub-release-lent
+sub-release-lent c = search needs
 
-part-release-all-start : tie.Need-part-release-all-start
-part-release-all-start c = search needs
+part-release-lent-start : tie.Need-part-release-lent-start
+part-release-lent-start c = search needs
 
-part-release-all-end : tie.Need-part-release-all-end
-part-release-all-end c = search needs
+part-release-lent-end : tie.Need-part-release-lent-end
+part-release-lent-end c = search needs
 
-release-all-requires : tie.Need-release-all-requires
-release-all-requires c κs =
+release-lent-requires : tie.Need-release-lent-requires
+release-lent-requires c κs =
     let w = c .before .before .before .before .before in
     let s = w .before .before .before .before .before .before .before .before in
     let m = s .pre .0 .0 in
@@ -59,7 +59,7 @@ returns-2 c = λ m h.
     let w = c .before .before .before .before .before .before .before .before .before .before .before .before in
     let s = w .before .before .before .before .before .before .before .before in
     let list = s .args .list in
-    let r = c .before .before .before .before .before .before .release-all in
+    let r = c .before .before .before .before .before .before .release-lent in
     let n : any (isUnmade m) (entriesOf list) ≡ false = sym (w .before .before .any-never-made .ensures m (records-held h)) ∙ w .before .if1 .left in
     let same = written list (w .words-of .result) (w .words-of .ensures) in
     made-released n
@@ -73,10 +73,10 @@ end-call-refusal-spec =
     any-never-made-requires
     returns
     words-of-requires
-    sub-release-all
-    part-release-all-start
-    part-release-all-end
-    release-all-requires
+    sub-release-lent
+    part-release-lent-start
+    part-release-lent-end
+    release-lent-requires
     same-length
     same-length-2
     same-length-3

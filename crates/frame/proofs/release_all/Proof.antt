@@ -1,60 +1,51 @@
--- What is saved and put back is all that the releases can have changed (Releases).
+-- What is saved and put back is all that the releases can have changed (Spans).
 use native.Mathlib.Omega.{arith}
 use borrow.Author.Needs.{needs}
-use Rattle.entries.specs.Buffer.{entriesIn}
-use Rattle.frame.specs.Release.{untilRefused}
-use Rattle.frame.proofs.Releases.{nodes-used, codes-total, marks-length, codes-length, records-until, none-refused, some-refused}
-use Rattle.frame.proofs.Lent.{records-held}
+use Rattle.frame.proofs.Releases.{none-refused}
+use Rattle.frame.proofs.Spans.{marks-length, codes-length, nodes-ordered, nodes-total, codes-ordered, codes-total, some-refused}
 use Rattle.frame.proofs.release_all.Statement.{statement}
 use Rattle.frame.proofs.release_all.Tie as tie
 
-used-requires : tie.Need-used-requires
-used-requires c κs = let s = c .before .before .before .before .before .before in (s .pre .0 .0, records-held (s .pre .0 .1 .0))
+slice-aggregate-save : tie.Need-slice-aggregate-save
+slice-aggregate-save c = search needs
 
-slice-aggregate-copy-front : tie.Need-slice-aggregate-copy-front
-slice-aggregate-copy-front c = search needs
-
-copy-front-requires : tie.Need-copy-front-requires
-copy-front-requires c κs =
-    let s = c .before .before .before .before .before .before .before .before .before in
+save-requires : tie.Need-save-requires
+save-requires c κs =
+    let s = c .before .before .before .before .before .before .before .before in
     let h = s .pre .0 .1 .0 in
-    let u = c .before .before .used .ensures (s .pre .0 .0) (records-held h) in
-    (omega (arith, nodes-used h u, marks-length h u), nodes-used h u)
+    let t = s .pre .1 .0 in
+    (nodes-ordered h t, (omega (arith, nodes-total h t, marks-length h), omega (arith, nodes-total h t)))
 
-copy-front-requires-2 : tie.Need-copy-front-requires-2
-copy-front-requires-2 c κs =
-    let s = c .before .before .before .before .before .before .before .before .before .before .before .before .before in
+save-requires-2 : tie.Need-save-requires-2
+save-requires-2 c κs =
+    let s = c .before .before .before .before .before .before .before .before .before .before .before .before in
     let h = s .pre .0 .1 .0 in
-    let u = c .before .before .before .before .before .before .used .ensures (s .pre .0 .0) (records-held h) in
-    (omega (arith, codes-total h u, codes-length h u), omega (arith, codes-total h u, s .pre .1))
+    let t = s .pre .1 .0 in
+    (codes-ordered h t, (omega (arith, codes-total h t, codes-length h), s .pre .1 .1))
 
 release-until-requires : tie.Need-release-until-requires
 release-until-requires c κs = search needs
 
-slice-aggregate-copy-front-2 : tie.Need-slice-aggregate-copy-front-2
-slice-aggregate-copy-front-2 c = search needs
+slice-aggregate-put-back : tie.Need-slice-aggregate-put-back
+slice-aggregate-put-back c = search needs
 
-copy-front-requires-3 : tie.Need-copy-front-requires-3
-copy-front-requires-3 c κs =
+put-back-requires : tie.Need-put-back-requires
+put-back-requires c κs =
     let until = c .before .before .before .before .before .before .before in
     let saved = until .before .before .before .before .before .before .before .before .before in
-    let s = saved .before .before .before .before .before .before .before .before .before .before in
+    let s = saved .before .before .before .before .before .before .before .before .before in
     let h = s .pre .0 .1 .0 in
-    let u = saved .before .before .before .used .ensures (s .pre .0 .0) (records-held h) in (
-      omega (arith, nodes-used h u, saved .copy-front .kept .0),
-      omega (arith, nodes-used h u, marks-length h u, until .release-until .kept .1 .1 .0),
-    )
+    let t = s .pre .1 .0 in
+    (nodes-ordered h t, (omega (arith, nodes-total h t, marks-length h, until .release-until .kept .1 .1 .0), omega (arith, nodes-total h t, saved .save .kept .0)))
 
-copy-front-requires-4 : tie.Need-copy-front-requires-4
-copy-front-requires-4 c κs =
+put-back-requires-2 : tie.Need-put-back-requires-2
+put-back-requires-2 c κs =
     let until = c .before .before .before .before .before .before .before .before .before .before .before .before in
     let saved = until .before .before .before .before .before in
-    let s = saved .before .before .before .before .before .before .before .before .before .before .before .before .before .before in
+    let s = saved .before .before .before .before .before .before .before .before .before .before .before .before .before in
     let h = s .pre .0 .1 .0 in
-    let u = saved .before .before .before .before .before .before .before .used .ensures (s .pre .0 .0) (records-held h) in (
-      omega (arith, codes-total h u, s .pre .1, saved .copy-front2 .kept .0),
-      omega (arith, codes-total h u, codes-length h u, until .release-until .kept .1 .1 .1 .0),
-    )
+    let t = s .pre .1 .0 in
+    (codes-ordered h t, (omega (arith, codes-total h t, codes-length h, until .release-until .kept .1 .1 .1 .0), omega (arith, s .pre .1 .1, saved .save2 .kept .0)))
 
 same-length : tie.Need-same-length
 same-length c = search needs
@@ -72,11 +63,9 @@ returns c = λ m h made.
     let until = refused .before .before .before .before .before in
     let savedCodes = until .before .before .before .before .before in
     let savedMarks = savedCodes .before .before .before .before in
-    let used = savedMarks .before .before .before .used in
-    let es = entriesIn (savedMarks .before .before .before .before .before .before .before .before .before .before .args .words .now) in
-    some-refused h (used .ensures m (records-held h)) (until .release-until .ensures m h made)
-    (used .ensures (untilRefused m es) (records-until h es)) (refused .if1 .taken) _ _ (savedMarks .copy-front .ensures)
-    (savedCodes .copy-front2 .ensures) (back .copy-front3 .ensures) (c .before .before .copy-front4 .ensures)
+    let s = savedMarks .before .before .before .before .before .before .before .before .before in
+    some-refused h (s .pre .1 .0) (until .release-until .ensures m h made) (refused .if1 .taken) _ _ (savedMarks .save .ensures)
+    (savedCodes .save2 .ensures) (back .put-back .ensures) (c .before .before .put-back2 .ensures)
 
 same-length-4 : tie.Need-same-length-4
 same-length-4 c = search needs
@@ -94,14 +83,13 @@ pub release-all-spec : {M : Type 1} → statement M
 release-all-spec =
     tie.close
     (tie.spec
-    used-requires
-    slice-aggregate-copy-front
-    copy-front-requires
-    copy-front-requires-2
+    slice-aggregate-save
+    save-requires
+    save-requires-2
     release-until-requires
-    slice-aggregate-copy-front-2
-    copy-front-requires-3
-    copy-front-requires-4
+    slice-aggregate-put-back
+    put-back-requires
+    put-back-requires-2
     same-length
     same-length-2
     same-length-3

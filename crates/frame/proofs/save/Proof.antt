@@ -1,13 +1,13 @@
--- The part that is copied is the first n of src.
+-- The part that is copied is as long as it is said to be.
 use Prim.Native.Nat.{ℕ, _-_}
 use mathlib.Core.List.{_++_}
 use mathlib.Core.Path.{_≡_, ap, _∙_}
 use native.Mathlib.Omega.{arith}
 use borrow.Author.Needs.{needs}
 use lib.Seq.{length-take-le}
-use lib.ListN.{length, take, drop}
-use Rattle.frame.proofs.copy_front.Statement.{statement}
-use Rattle.frame.proofs.copy_front.Tie as tie
+use lib.ListN.{length, take, drop, length-drop}
+use Rattle.frame.proofs.save.Statement.{statement}
+use Rattle.frame.proofs.save.Tie as tie
 
 sub-copy-row : tie.Need-sub-copy-row
 sub-copy-row c = search needs
@@ -25,14 +25,15 @@ same-length : tie.Need-same-length
 same-length c = search needs
 
 returns : tie.Need-returns
-returns c = let s = c .before .before .before .before .before .before .before in
-    let z : s .args .n - 0 ≡ s .args .n = omega arith in
-    c .before .before .copy-row .ensures
-    ∙ ap (λ (k : ℕ). take k (s .args .src .now) ++ drop (length (take k (s .args .src .now))) (s .args .dst .now)) z
-    ∙ ap (λ (k : ℕ). take (s .args .n) (s .args .src .now) ++ drop k (s .args .dst .now)) (length-take-le (s .args .n) (s .args .src .now) (s .pre .0))
+returns c =
+    let s = c .before .before .before .before .before .before .before in
+    let n = s .args .end - s .args .start in
+    let part = take n (drop (s .args .start) (s .args .src .now)) in
+    let wide : length part ≡ n = length-take-le n (drop (s .args .start) (s .args .src .now)) (simp length-drop (omega arith)) in
+    c .before .before .copy-row .ensures ∙ ap (λ (k : ℕ). part ++ drop k (s .args .dst .now)) wide
 
-pub copy-front-spec : {M : Type 1} → statement M
-copy-front-spec =
+pub save-spec : {M : Type 1} → statement M
+save-spec =
     tie.close
     (tie.spec
     sub-copy-row
