@@ -1,7 +1,7 @@
 -- The digits of numbers, one after the other.
 use Prim.Native.Nat.{ℕ, zero, suc, _+_, _-_, _*_, _/_, _%_, _^_, _≤_, _<_}
 use mathlib.Core.Bool.{Bool, true, false}
-use mathlib.Core.List.{List, [], _∷_, _++_}
+use mathlib.Core.List.{List, [], _∷_, _++_, append-assoc}
 use mathlib.Core.Path.{_≡_, refl, sym, ap, _∙_}
 use native.Mathlib.Decide.{decLt}
 use native.Mathlib.Nat.{pow-suc}
@@ -10,6 +10,7 @@ use borrow.Author.Tests.{lt-ltb, le-ltb}
 use lib.ListN.{length, length-append}
 use lib.Pow.{pow-add}
 use Rattle.definition.specs.Output.{digit, decimalWithin, decimal, hexadecimal}
+use Rattle.report.specs.Digits.{two, four, eight}
 
 -- ---- a digit
 pub digit-low : (n : ℕ) → n < 10 → n + 48 ≡ digit n
@@ -57,6 +58,46 @@ decimal-more n h =
     let e : n ≡ suc (n - 1) = omega arith in
     ap (λ (k : ℕ). decimalWithin k n) e ∙ within-more (n - 1) n h
     ∙ ap (λ (t : List ℕ). t ++ (digit (n % 10) ∷ [])) (within-enough (n - 1) (n / 10) (n / 10) (omega arith) (omega arith))
+
+-- ---- the last digits, behind those of the number without them
+pub decimal-two : (n : ℕ) → 10 ≤ n → n < 100 → decimal n ≡ two n
+decimal-two n h k = decimal-more n h ∙ ap (λ (t : List ℕ). t ++ (digit (n % 10) ∷ [])) (decimal-one (n / 10) (omega arith))
+
+pub more-two : (n : ℕ) → 100 ≤ n → decimal n ≡ decimal (n / 100) ++ two (n % 100)
+more-two n h =
+    let e : n / 10 / 10 ≡ n / 100 = omega arith in
+    let d : n / 10 % 10 ≡ n % 100 / 10 = omega arith in
+    let f : n % 10 ≡ n % 100 % 10 = omega arith in
+    decimal-more n (omega arith)
+    ∙ ap (λ (t : List ℕ). t ++ (digit (n % 10) ∷ [])) (decimal-more (n / 10) (omega arith))
+    ∙ append-assoc (decimal (n / 10 / 10)) (digit (n / 10 % 10) ∷ []) (digit (n % 10) ∷ [])
+    ∙ ap (λ (q : ℕ). decimal q ++ (digit (n / 10 % 10) ∷ digit (n % 10) ∷ [])) e
+    ∙ ap (λ (q : ℕ). decimal (n / 100) ++ (digit q ∷ digit (n % 10) ∷ [])) d
+    ∙ ap (λ (q : ℕ). decimal (n / 100) ++ (digit (n % 100 / 10) ∷ digit q ∷ [])) f
+
+pub more-four : (n : ℕ) → 10000 ≤ n → decimal n ≡ decimal (n / 10000) ++ four (n % 10000)
+more-four n h =
+    let e : n / 100 / 100 ≡ n / 10000 = omega arith in
+    let d : n / 100 % 100 ≡ n % 10000 / 100 = omega arith in
+    let f : n % 100 ≡ n % 10000 % 100 = omega arith in
+    more-two n (omega arith)
+    ∙ ap (λ (t : List ℕ). t ++ two (n % 100)) (more-two (n / 100) (omega arith))
+    ∙ append-assoc (decimal (n / 100 / 100)) (two (n / 100 % 100)) (two (n % 100))
+    ∙ ap (λ (q : ℕ). decimal q ++ (two (n / 100 % 100) ++ two (n % 100))) e
+    ∙ ap (λ (q : ℕ). decimal (n / 10000) ++ (two q ++ two (n % 100))) d
+    ∙ ap (λ (q : ℕ). decimal (n / 10000) ++ (two (n % 10000 / 100) ++ two q)) f
+
+pub more-eight : (n : ℕ) → 100000000 ≤ n → decimal n ≡ decimal (n / 100000000) ++ eight (n % 100000000)
+more-eight n h =
+    let e : n / 10000 / 10000 ≡ n / 100000000 = omega arith in
+    let d : n / 10000 % 10000 ≡ n % 100000000 / 10000 = omega arith in
+    let f : n % 10000 ≡ n % 100000000 % 10000 = omega arith in
+    more-four n (omega arith)
+    ∙ ap (λ (t : List ℕ). t ++ four (n % 10000)) (more-four (n / 10000) (omega arith))
+    ∙ append-assoc (decimal (n / 10000 / 10000)) (four (n / 10000 % 10000)) (four (n % 10000))
+    ∙ ap (λ (q : ℕ). decimal q ++ (four (n / 10000 % 10000) ++ four (n % 10000))) e
+    ∙ ap (λ (q : ℕ). decimal (n / 100000000) ++ (four q ++ four (n % 10000))) d
+    ∙ ap (λ (q : ℕ). decimal (n / 100000000) ++ (four (n % 100000000 / 10000) ++ four q)) f
 
 -- a number below 10 to the k + 1 has at most k + 1 digits
 decimal-short : (k n : ℕ) → n < 10 ^ suc k → length (decimal n) ≤ suc k

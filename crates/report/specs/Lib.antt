@@ -1,3 +1,4 @@
 pub mod Written
 pub mod Answer
 pub mod Memory
+pub mod Digits

@@ -1,8 +1,8 @@
 // The lines of the memory: per allocation `a`, `d`, and its nodes.
+use crate::decimal::put_number;
 use crate::nodes::node_lines;
 use crate::text::put_byte;
 use crate::text::put_bytes;
-use crate::text::put_number;
 use crate::text::put_words;
 use tables::Allocation;
 ghost use mathlib.Core.Path.{_≡_};

@@ -1,7 +1,7 @@
 // The line of an answer.
+use crate::decimal::put_decimal;
+use crate::decimal::put_number;
 use crate::text::put_byte;
-use crate::text::put_decimal;
-use crate::text::put_number;
 use crate::text::put_words;
 use answer::Answer;
 use pointer::Provenance;

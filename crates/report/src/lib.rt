@@ -2,5 +2,6 @@
 // Output.antt of the definition has the texts.
 pub mod allocations;
 pub mod answers;
+pub mod decimal;
 pub mod nodes;
 pub mod text;

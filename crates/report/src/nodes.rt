@@ -1,8 +1,8 @@
 // The lines `n`: an allocation's nodes.
+use crate::decimal::put_number;
 use crate::text::digit_of;
 use crate::text::put_byte;
 use crate::text::put_bytes;
-use crate::text::put_number;
 ghost use mathlib.Core.Path.{_≡_};
 ghost use mathlib.Core.List.{_∷_, [], _++_, map};
 ghost use Prim.Native.Nat.{ℕ, _*_, _<_};

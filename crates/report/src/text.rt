@@ -1,9 +1,8 @@
-// Bytes, numbers and words.
+// Bytes and words.
 ghost use mathlib.Core.Path.{_≡_};
 ghost use mathlib.Core.List.{_∷_, [], _++_};
-ghost use Prim.Native.Nat.{ℕ, _+_, _<_, _≤_};
-ghost use lib.ListN.{length};
-ghost use Rattle.definition.specs.Output.{ascii, digit, decimal, word, words, ended};
+ghost use Prim.Native.Nat.{_<_};
+ghost use Rattle.definition.specs.Output.{ascii, digit, word, words, ended};
 ghost use Rattle.report.specs.Written.{Room, Written};
 
 pub fn put_byte(out: &mut [u8], at: usize, byte: u8) -> usize
@@ -33,26 +32,6 @@ pub fn digit_of(n: u8) -> u8
     ensures { λ r. ⌜ r ≡ digit n ⌝ }
 {
     if n < 10 { n + b'0' } else { n + 0x57 }
-}
-
-pub fn put_decimal(out: &mut [u8], at: usize, n: u64) -> usize
-    requires { ⌜ Room (now out) at (decimal n) ⌝ }
-    ensures { λ r. ⌜ Written (now (out .entry)) at (decimal n) (now (out .exit)) r ⌝ }
-{
-    if n < 10 {
-        return put_byte(out, at, digit_of(n as u8));
-    }
-    let p = put_decimal(out, at, n / 10);
-    put_byte(out, p, digit_of((n % 10) as u8))
-}
-
-// A field that is a number.
-pub fn put_number(out: &mut [u8], at: usize, n: u64) -> usize
-    requires { ⌜ Room (now out) at (ascii " " ++ decimal n) ⌝ }
-    ensures { λ r. ⌜ Written (now (out .entry)) at (ascii " " ++ decimal n) (now (out .exit)) r ⌝ }
-{
-    let p = put_byte(out, at, b' ');
-    put_decimal(out, p, n)
 }
 
 // A field that is a word: eight digits, the highest four bits first.

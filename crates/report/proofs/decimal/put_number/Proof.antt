@@ -1,8 +1,8 @@
 -- A space, then the number.
 use borrow.Author.Needs.{needs}
 use Rattle.report.proofs.Writes.{both-written}
-use Rattle.report.proofs.text.put_number.Statement.{statement}
-use Rattle.report.proofs.text.put_number.Tie as tie
+use Rattle.report.proofs.decimal.put_number.Statement.{statement}
+use Rattle.report.proofs.decimal.put_number.Tie as tie
 
 put-byte-requires : tie.Need-put-byte-requires
 put-byte-requires c κs = search needs
