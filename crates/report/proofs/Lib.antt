@@ -9,3 +9,4 @@ pub mod Held
 pub mod Lengths
 pub mod Walk
 pub mod Given
+pub mod Lanes

@@ -8,7 +8,6 @@ use native.Mathlib.Nat.{pow-suc}
 use native.Mathlib.Omega.{arith}
 use borrow.Author.Tests.{lt-ltb, le-ltb}
 use lib.ListN.{length, length-append}
-use lib.Pow.{pow-add}
 use Rattle.definition.specs.Output.{digit, decimalWithin, decimal, hexadecimal}
 use Rattle.report.specs.Digits.{two, four, eight}
 
@@ -119,20 +118,6 @@ pub decimal-length : (n : ℕ) → n < 2 ^ 64 → length (decimal n) ≤ 20
 decimal-length n h = decimal-short 19 n (omega arith)
 
 -- ---- hexadecimal
-sixteens : (d : ℕ) → 16 ^ d ≡ 2 ^ (d * 4)
-sixteens zero = refl
-sixteens (suc d) =
-    let e : suc d * 4 ≡ d * 4 + 4 = omega arith in
-    pow-suc 16 d ∙ ap (λ (k : ℕ). k * 16) (sixteens d) ∙ sym (pow-add 2 (d * 4) 4) ∙ ap (λ (k : ℕ). 2 ^ k) (sym e)
-
--- the highest digit, which the code shifts down, and the others
-pub hex-next : (left n : ℕ) → 0 < left → hexadecimal left n ≡ (digit (n / 2 ^ ((left - 1) * 4) % 16) ∷ []) ++ hexadecimal (left - 1) n
-unfolding hexadecimal
-hex-next left n h =
-    let e : left ≡ suc (left - 1) = omega arith in
-    ap (λ (k : ℕ). hexadecimal k n) e
-    ∙ ap (λ (k : ℕ). digit (n / k % 16) ∷ hexadecimal (left - 1) n) (sixteens (left - 1))
-
 pub hex-length : (digits n : ℕ) → length (hexadecimal digits n) ≡ digits
 unfolding hexadecimal
 hex-length zero n = refl

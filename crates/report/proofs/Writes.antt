@@ -37,6 +37,13 @@ write-more zero [] zs (x ∷ xs) = rw (zero-add 0)
 write-more zero (y ∷ ys) zs (x ∷ xs) = rw (zero-add (suc (length ys))) (ap (λ (t : List ℕ). y ∷ t) (rw zero-add at (write-more zero ys zs xs)))
 write-more (suc n) ys zs (x ∷ xs) = rw (suc-add n (length ys)) (ap (λ (t : List ℕ). x ∷ t) (write-more n ys zs xs))
 
+-- the text behind a place, and then what goes to that place
+write-front : (n x : ℕ) (ys xs : List ℕ) → set (writeAt (n + 1) ys xs) n x ≡ writeAt n (x ∷ ys) xs
+unfolding writeAt
+write-front n x ys [] = refl
+write-front zero x ys (z ∷ xs) = refl
+write-front (suc n) x ys (z ∷ xs) = rw (suc-add n 1) (ap (λ (t : List ℕ). z ∷ t) (write-front n x ys xs))
+
 pub byte-written : (out : List ℕ) (at x : ℕ) → Written out at (x ∷ []) (set out at x) (at + 1)
 byte-written out at x = record { contents = write-one at x out; place = refl }
 
@@ -51,6 +58,14 @@ both-written {out} {at} s t {mid} {p} {after} {end} v w = record {
       w .contents ∙ ap (λ (q : ℕ). writeAt q t mid) (v .place) ∙ ap (λ (o : List ℕ). writeAt (at + length s) t o) (v .contents)
       ∙ write-more at s t out;
   place = omega (arith, v .place, w .place, length-append s t);
+}
+
+-- one text, and then a byte in front of it
+pub front-written : {out : List ℕ} {at : ℕ} (x : ℕ) (text : List ℕ) {after : List ℕ} {end : ℕ}
+    → Written out (at + 1) text after end → Written out at (x ∷ text) (set after at x) end
+front-written {out} {at} x text {after} {end} w = record {
+  contents = ap (λ (o : List ℕ). set o at x) (w .contents) ∙ write-front at x text out;
+  place = omega (arith, w .place);
 }
 
 -- there is room for both: so there is for the one, and then for the other

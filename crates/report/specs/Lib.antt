@@ -2,3 +2,4 @@ pub mod Written
 pub mod Answer
 pub mod Memory
 pub mod Digits
+pub mod Lanes

@@ -3,7 +3,7 @@ use crate::decimal::put_number;
 use crate::nodes::node_lines;
 use crate::text::put_byte;
 use crate::text::put_bytes;
-use crate::text::put_words;
+use crate::word::put_words;
 use tables::Allocation;
 ghost use mathlib.Core.Path.{_≡_};
 ghost use mathlib.Core.List.{_∷_, [], _++_};

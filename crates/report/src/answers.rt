@@ -2,7 +2,7 @@
 use crate::decimal::put_decimal;
 use crate::decimal::put_number;
 use crate::text::put_byte;
-use crate::text::put_words;
+use crate::word::put_words;
 use answer::Answer;
 use pointer::Provenance;
 ghost use mathlib.Core.List.{_∷_, []};

@@ -5,3 +5,4 @@ pub mod answers;
 pub mod decimal;
 pub mod nodes;
 pub mod text;
+pub mod word;

@@ -8,8 +8,8 @@ use lib.ListN.{length, drop, getD}
 use Rattle.definition.specs.Output.{ascii, word, words, ended}
 use Rattle.report.proofs.Lines.{words-none, words-some, words-next, words-end}
 use Rattle.report.proofs.Writes.{Left, all-left, left-as, less-left, last-written, room-next, room-left, room-as, written-as}
-use Rattle.report.proofs.text.put_words.Statement.{statement}
-use Rattle.report.proofs.text.put_words.Tie as tie
+use Rattle.report.proofs.word.put_words.Statement.{statement}
+use Rattle.report.proofs.word.put_words.Tie as tie
 
 abbrev Inv-loop : tie.InvT-loop
 Inv-loop out₀ at ws p₀ i₀ out p i = (i ≤ length ws) × Left out₀ at (ended (words ws)) out p (ended (map word (drop i ws)))
