@@ -1,7 +1,7 @@
 // A whole run at hand, and the text of its verdict.
 use crate::Judged;
 use crate::Place;
-ghost use Prim.Native.Nat.{ℕ, _+_, _≤_};
+ghost use Prim.Native.Nat.{ℕ, _+_};
 ghost use mathlib.Core.List.{List};
 ghost use mathlib.Core.Path.{_≡_};
 ghost use mathlib.Core.Bool.{true, false};
@@ -11,7 +11,6 @@ ghost use Rattle.definition.specs.Frame.{empty};
 ghost use Rattle.tables.specs.Held.{buffers};
 ghost use Rattle.perform.specs.Performed.{HoldsState};
 ghost use Rattle.run.specs.Lists.{haveLengths};
-ghost use Rattle.judge.specs.Turn.{lineRoom};
 ghost use Rattle.judge.specs.Whole.{goesOn, Performing, JudgedAs};
 
 fn has_room(at: usize, more: usize, room: usize) -> bool

@@ -6,7 +6,7 @@ use crate::word::put_words;
 use answer::Answer;
 use pointer::Provenance;
 ghost use mathlib.Core.List.{_∷_, []};
-ghost use mathlib.Core.Option.{none, some};
+ghost use mathlib.Core.Option.{none};
 ghost use Prim.Native.Nat.{_+_, _*_, _≤_};
 ghost use lib.ListN.{length};
 ghost use Rattle.definition.specs.Output.{decimal, pointed, given, ended, answerLine};

@@ -1,17 +1,16 @@
 // Reads a run from standard input and prints its verdict: the line of each request up to the first that is refused, and the memory that is left.
 use judge::Place;
-ghost use Prim.Native.Nat.{ℕ, _+_, _-_, _≤_, _<_, _^_};
+ghost use Prim.Native.Nat.{ℕ, _+_, _≤_, _<_, _^_};
 ghost use mathlib.Core.Path.{_≡_};
-ghost use mathlib.Core.Bool.{true, false};
+ghost use mathlib.Core.Bool.{true};
 ghost use mathlib.Core.List.{List};
 ghost use lib.ListN.{length};
 ghost use Rattle.definition.specs.Frame.{State};
 ghost use Rattle.tables.specs.Held.{buffers, WellFormed};
 ghost use Rattle.perform.specs.Performed.{HoldsState};
 ghost use Rattle.run.specs.Lists.{haveLengths};
-ghost use Rattle.stream.specs.Stream.{requestSize};
 ghost use Rattle.judge.specs.Turn.{lineRoom};
-ghost use Rattle.verdict.specs.Ready.{lacks, goesOn, Ready};
+ghost use Rattle.verdict.specs.Ready.{lacks, goesOn, Ready, after};
 
 // The input buffer holds bytes up to `end`, of which those from the place on are not yet performed; the text up to the place is not yet written.
 struct Progress {
@@ -124,7 +123,7 @@ fn flushed(out: &[u8], p: Progress, next: Place) -> Progress
     }
 }
 
-// Reads, or performs a request.
+// Reads where the next request lacks bytes, and else performs it.
 fn turn(
     allocs: &mut [u64],
     parents: &mut [u16],
@@ -140,7 +139,8 @@ fn turn(
     requires { ⌜ ((s : State) × HoldsState s (buffers (now allocs) (now parents) (now protectors) (now words) (now codes)) (now frames)) ⌝ }
     requires { ⌜ Ready p (now input) (now out) × ((length (now request) ≡ 4100) × (length (now out) ≡ 0x28000)) ⌝ }
     requires { ⌜ (goesOn p ≡ true) × (p .place .index + 1 < 2 ^ 64) ⌝ }
-    ensures { λ r. ⌜ ((s : State) × HoldsState s (buffers (now (allocs .exit)) (now (parents .exit)) (now (protectors .exit)) (now (words .exit)) (now (codes .exit))) (now (frames .exit))) ⌝ }
+    ensures { λ r. ⌜ ((s : State) → HoldsState s (buffers (now (allocs .entry)) (now (parents .entry)) (now (protectors .entry)) (now (words .entry)) (now (codes .entry))) (now (frames .entry))
+        → HoldsState (after s p (now (input .entry))) (buffers (now (allocs .exit)) (now (parents .exit)) (now (protectors .exit)) (now (words .exit)) (now (codes .exit))) (now (frames .exit))) ⌝ }
     ensures { λ r. ⌜ Ready r (now (input .exit)) (now (out .exit)) × (r .place .index ≤ p .place .index + 1) ⌝ }
 {
     let place = p.place;

@@ -5,7 +5,7 @@ use borrow.Author.Needs.{needs}
 use lib.ListN.{take}
 use lib.Seq.{length-take-le}
 use Rattle.judge.proofs.Runs.{end-within}
-use Rattle.verdict.proofs.Turns.{some-request}
+use Rattle.verdict.proofs.Turns.{some-request, after-reading, after-request}
 use Rattle.verdict.proofs.turn.Statement.{statement}
 use Rattle.verdict.proofs.turn.Tie as tie
 
@@ -31,7 +31,8 @@ same-length-2 : tie.Need-same-length-2
 same-length-2 c = search needs
 
 returns : tie.Need-returns
-returns c = (c .before .before .before .before .before .before .before .before .before .before .before .before .before .before .before .before .before .before .before .pre .0, (c .before .before .read-more .ensures .0, omega (arith, c .before .before .read-more .ensures .1)))
+returns c =
+    (λ state h. after-reading state (c .before .before .before .before .before .before .before .before .before .before .before .before .before .before .before .before .before .before .before .args .p) (c .before .before .before .before .before .before .before .before .before .before .before .before .before .before .before .before .before .before .before .args .input .now) (sym (c .before .before .before .before .before .before .lacks .ensures) ∙ c .before .before .before .before .before .if1 .taken) h, (c .before .before .read-more .ensures .0, omega (arith, c .before .before .read-more .ensures .1)))
 
 slice-reshare-prefix-next : tie.Need-slice-reshare-prefix-next
 slice-reshare-prefix-next c = search needs
@@ -86,8 +87,11 @@ same-length-11 c = search needs
 
 returns-2 : tie.Need-returns-2
 returns-2 c = let s = c .before .before .before .before .before .before .before .before .before .before .before .before .before .before .before .before .before .before .before .before .before .before .before .before .before .before .before .before .before .before .before .before .before .before .before .before .before .before .before .before .before .before in
-    let k = c .before .before .before .before .before .before .before .before .before .before .before .before .before .before .before .before .before .before .next .ensures (s .pre .0 .0) (s .pre .0 .1) in
-    ((_, k .turned .holds), (c .flushed .ensures .0 (s .args .input .now) (s .pre .1 .0 .0 .filled), omega (arith, c .flushed .ensures .1, k .index)))
+    let ready = s .pre .1 .0 .0 in
+    let k = c .before .before .before .before .before .before .before .before .before .before .before .before .before .before .before .before .before .before .next .ensures in (
+      λ state h. after-request state (s .args .p) (s .args .input .now) (ready .ordered) (ready .filled) (sym (c .before .before .before .before .before .before .before .before .before .before .before .before .before .before .before .before .before .before .before .before .before .before .before .before .before .before .before .before .before .lacks .ensures) ∙ c .before .before .before .before .before .before .before .before .before .before .before .before .before .before .before .before .before .before .before .before .before .before .before .before .before .before .before .before .if1 .left) (k state h .turned .holds),
+      (c .flushed .ensures .0 (s .args .input .now) (ready .filled), omega (arith, c .flushed .ensures .1, k (s .pre .0 .0) (s .pre .0 .1) .index)),
+    )
 
 pub turn-spec : {M : Type 1} → statement M
 turn-spec =
