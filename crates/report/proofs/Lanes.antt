@@ -52,7 +52,7 @@ bytes-step a b c d ha hb hc hd =
     let r = ap (λ (x : ℕ). bitAnd x 0xff000000ff) e ∙ two-and a (b * 2 ^ 24 + c) (omega arith) in
     omega (arith, r)
 
--- what stands below a lane of the mask falls away
+-- what stands above the lane of a mask falls away
 low-16 : (b c : ℕ) → c < 16 → (b * 2 ^ 12 + c) % 16 ≡ c
 low-16 b c h = omega arith
 
@@ -97,7 +97,7 @@ pub digits-step : (a b c d e f g h : ℕ) → a < 16 → b < 16 → c < 16 → d
 digits-step a b c d e f g h ha hb hc hd he hf hg hh =
     spread-digits a b c d e f g h _ (high-digits a b c d e f g h ha hb hc hd he hf hg hh)
 
--- the digits that are letters, each 6 more than it was
+-- the digits that are letters, of digits each 6 more than it was
 letters : (a b c d e f g h s t u v w x y z : ℕ) → a < 2 → b < 2 → c < 2 → d < 2 → e < 2 → f < 2 → g < 2 → h < 2
     → s < 16 → t < 16 → u < 16 → v < 16 → w < 16 → x < 16 → y < 16 → z < 16
     → bitAnd (eightLanes (a * 16 + s) (b * 16 + t) (c * 16 + u) (d * 16 + v) (e * 16 + w) (f * 16 + x) (g * 16 + y) (h * 16 + z) / 16) 0x101010101010101
@@ -108,6 +108,7 @@ letters a b c d e f g h s t u v w x y z ha hb hc hd he hf hg hh hs ht hu hv hw h
     (room-8 s b hs hb) (room-8 t c ht hc) (room-8 u d hu hd) (room-8 v e hv he) (room-8 w f hw hf) (room-8 x g hx hg) (room-8 y h hy hh)
     ∙ cc (one-2 a ha, low-2 s b hb, low-2 t c hc, low-2 u d hd, low-2 v e he, low-2 w f hf, low-2 x g hg, low-2 y h hh)
 
+-- ---- a digit as the code makes it: from 10 on a digit and 6 are 16 and more
 digit-is : (n : ℕ) → n < 16 → digit n ≡ n + 48 + (n + 6) / 16 * 39
 digit-is n h =
     elim (decLt n 10) [
@@ -115,7 +116,6 @@ digit-is n h =
       | no l ↦ let e = digit-high n (omega arith) in omega (arith, e)
     ]
 
--- from 10 on a digit and 6 are 16 and more
 digit-small : (n : ℕ) → n < 16 → digit n < 256
 digit-small n h = omega (arith, digit-is n h)
 
