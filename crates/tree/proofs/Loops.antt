@@ -26,6 +26,23 @@ module _ {A : Type 0} (test : A → Bool) (d : A) (l : List A) (i : ℕ) where
   unfolding any
   any-end h = ap (any test) (drop-of-length-le l h)
 
+-- in any order: one that passes, or none
+module _ {A : Type 0} (test : A → Bool) (d : A) where
+  pub any-at : (l : List A) (k : ℕ) → k < length l → test (getD l k d) ≡ true → any test l ≡ true
+  unfolding any
+  any-at [] k h e = absurd (omega arith)
+  any-at (x ∷ l) zero h e = rw e
+  any-at (x ∷ l) (suc k) h e = go (test x) (any-at l k (omega arith) e)
+    where
+      go : (b : Bool) → any test l ≡ true → (if b then true else any test l) ≡ true
+      go true q = refl
+      go false q = q
+
+  pub any-none : (l : List A) → ((k : ℕ) → k < length l → test (getD l k d) ≡ false) → any test l ≡ false
+  unfolding any
+  any-none [] h = refl
+  any-none (x ∷ l) h = rw (h 0 (omega arith)) (any-none l (λ k i. h (suc k) (omega arith)))
+
 -- ---- a copy of row into out
 module _ (row out : List ℕ) (fits : length row ≤ length out) where
   abbrev copied : List ℕ

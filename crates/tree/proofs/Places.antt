@@ -4,7 +4,7 @@ use mathlib.Core.Path.{_≡_, ap, ap₂, subst, _∙_}
 use mathlib.Core.List.{List, _++_}
 use native.Mathlib.Nat.{suc-mul, mul-le-mul-right}
 use native.Mathlib.Omega.{arith}
-use lib.ListN.{length, take, drop, length-drop}
+use lib.ListN.{length, take, drop, length-drop, take-append-drop}
 use lib.Seq.{length-take-le, take-at}
 use Rattle.tree.specs.declared.Reach.{Reach}
 use Rattle.tree.specs.Walk.{Ready, rowAt, withRowAt}
@@ -27,6 +27,10 @@ pub put-back : (f : List ℕ → List ℕ) (w n : ℕ) (codes row : List ℕ) �
     → take (n * w) codes ++ (row ++ drop (n * w + w - n * w) (drop (n * w) codes)) ≡ withRowAt w n (f (rowAt w n codes)) codes
 put-back f w n codes row e =
     ap₂ (λ (r : List ℕ) (k : ℕ). take (n * w) codes ++ (r ++ drop k (drop (n * w) codes))) (e ∙ ap f (part-row w n codes)) (width-of (n * w) w)
+
+-- a row that is put back as it was
+pub same-row : (w n : ℕ) (codes : List ℕ) → withRowAt w n (rowAt w n codes) codes ≡ codes
+same-row w n codes = ap (λ (l : List ℕ). take (n * w) codes ++ l) (take-append-drop w (drop (n * w) codes)) ∙ take-append-drop (n * w) codes
 
 pub row-length : (w n : ℕ) (codes : List ℕ) → n * w + w ≤ length codes → length (rowAt w n codes) ≡ w
 row-length w n codes fits = length-take-le w (drop (n * w) codes) (omega (arith, length-drop (n * w) codes))

@@ -14,9 +14,11 @@ use Rattle.definition.specs.Permission.AccessKind.{Read, Write}
 use Rattle.definition.proofs.Lists.{loop-get, loop-set}
 use Rattle.permission.proofs.Lines.{outcome-at, refused-at, passes-at, next-at, stays-at, end-line, init-line}
 use Rattle.permission.specs.Codes.{accessKind, refusalCode, nextCode, endAccessCode, initAccessCode, outcome, outcomeTable, lineIn, lineAt, lineOf}
+use Rattle.permission.specs.declared.AccessKind as declared
 use Rattle.tree.specs.declared.Accesses.{Accesses}
+use Rattle.tree.specs.declared.Reach.{Reach}
 use Rattle.tree.specs.declared.Accesses.the-variants.{Each, AtEnd, AtInit}
-use Rattle.tree.specs.Walk.{accessAt, accessesAt, Looked, Lines, codesRefusal, codesAfter}
+use Rattle.tree.specs.Walk.{accessAt, accessesAt, Looked, Lines, Tabled, EachOf, codesRefusal, codesAfter}
 use Rattle.tree.proofs.Steps.{no-refusal, no-change}
 
 pub or-positive : (n y : ℕ) → 0 < n → (n or y) ≡ n
@@ -171,6 +173,10 @@ module _ (what : Accesses) (lines : List ℕ) (h : Lines what lines) where
   looked-init e =
       subst⁻¹ (λ (w : Accesses). Lines w lines → Looked w lines) e
       (λ t starts k. ap (λ (l : List ℕ). lineAt l (getD starts k 0)) t ∙ init-line (getD starts k 0)) h
+
+-- one access at all bytes asks nothing of the lines
+pub each-tabled : (v : Reach) (a : declared.AccessKind) (ps lines table : List ℕ) → EachOf v a ps → table ≡ outcomeTable → Tabled v lines table
+each-tabled v a ps lines table each e = record { accesses = subst⁻¹ (λ (w : Accesses). Lines w lines) (each .same) tt; outcomes = e }
 
 pub line-small : (x : Option AccessKind) → lineIn x ≤ 32
 line-small none = omega arith

@@ -23,7 +23,8 @@ use Rattle.permission.specs.declared.AccessKind as declared
 use Rattle.permission.specs.Codes.{accessKind}
 use Rattle.tree.specs.declared.Accesses.{Accesses}
 use Rattle.tree.specs.declared.Reach.{Reach}
-use Rattle.tree.specs.Walk.{Ready, EachOf, eachAfter, accessesAt, codesRefusal, codesAfter, rowAt, withRowAt, subtree, nodeRefusal, nodeAfter, walkRefusal}
+use Rattle.tree.specs.Walk.{Ready, EachOf, Looks, eachAfter, accessesAt, codesRefusal, codesAfter, rowAt, withRowAt, subtree, nodeRefusal, nodeAfter, walkRefusal}
+use Rattle.tree.proofs.Places.{same-row}
 use Rattle.tree.specs.Sweep.{Spares, markOf, Climbed, relationOn, sweptRefusal, sweptNode, swept, Quiet}
 
 -- ---- the path
@@ -120,16 +121,40 @@ module _ (v : Reach) (kind : declared.AccessKind) (ps starts codes : List ℕ) (
       (met ps tree (v .node) x n c) (sym (each .same))
       ∙ node-visited v ps starts n codes unspared
 
--- the nodes from n on are not refused
+  -- what a look at the node's row tells
+  module _ (r : NodeRelation) (e : r ≡ relationOn x n) (answer : ℕ) (told : Looks kind r (v .from) (v .len) (rowAt (v .width) n codes) answer) where
+    pub look-quiet : answer ≤ 15 → sweptRefusal v ps starts codes n ≡ 0
+    look-quiet h =
+        sym
+        (ap (λ (r : NodeRelation). codesRefusal r (replicate (v .len) (some (accessKind kind))) (drop (v .from) (rowAt (v .width) n codes))) e ∙ each-refusal)
+        ∙ told .passes h
+
+    pub look-stays : answer ≡ 0 → codes ≡ sweptNode v ps starts n codes
+    look-stays z =
+        sym (same-row (v .width) n codes)
+        ∙ ap (λ (row : List ℕ). withRowAt (v .width) n row codes) (told .stays z)
+        ∙ ap (λ (r : NodeRelation). withRowAt (v .width) n (eachAfter v kind r (rowAt (v .width) n codes)) codes) e
+        ∙ each-change
+
+-- what holds of the nodes from n on, and of the one before
+pub from-next : (P : ℕ → Type 0) (n bound : ℕ) → ((k : ℕ) → n ≤ k → k < bound → P k) → P (n - 1) → (k : ℕ) → n - 1 ≤ k → k < bound → P k
+from-next P n bound later here k l h =
+    elim (ℕ-discrete k (n - 1)) [
+      | yes e ↦ subst⁻¹ P e here
+      | no e ↦ later k (omega arith) h
+    ]
+
+-- the nodes from n on are not refused; they stay as they are
 abbrev pub QuietFrom : Reach → List ℕ → List ℕ → List ℕ → ℕ → Type 0
 QuietFrom v ps starts codes n = (k : ℕ) → n ≤ k → k < length ps → sweptRefusal v ps starts codes k ≡ 0
 
-pub quiet-next : (v : Reach) (ps starts codes : List ℕ) (n : ℕ) → QuietFrom v ps starts codes n → sweptRefusal v ps starts codes (n - 1) ≡ 0 → QuietFrom v ps starts codes (n - 1)
-quiet-next v ps starts codes n quiet here k l h =
-    elim (ℕ-discrete k (n - 1)) [
-      | yes e ↦ subst⁻¹ (λ (j : ℕ). sweptRefusal v ps starts codes j ≡ 0) e here
-      | no e ↦ quiet k (omega arith) h
-    ]
+abbrev pub StaysFrom : Reach → List ℕ → List ℕ → List ℕ → ℕ → Type 0
+StaysFrom v ps starts codes n = (k : ℕ) → n ≤ k → k < length ps → codes ≡ sweptNode v ps starts k codes
+
+pub swept-stays : (v : Reach) (ps starts codes : List ℕ) (n : ℕ) → ((k : ℕ) → k < n → codes ≡ sweptNode v ps starts k codes) → codes ≡ swept v ps starts n codes
+unfolding swept
+swept-stays v ps starts codes zero h = refl
+swept-stays v ps starts codes (suc n) h = swept-stays v ps starts codes n (λ k l. h k (omega arith)) ∙ ap (swept v ps starts n) (h n (omega arith))
 
 -- ---- no refusal
 first-zero : {A : Type 0} (P : A → Type 0) (f : A → ℕ) → ((x : A) → P x → f x ≡ 0) → (l : List A) → All P l → firstRefusal f l ≡ 0

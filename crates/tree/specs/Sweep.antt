@@ -45,3 +45,8 @@ Quiet v ps starts codes = (n : ℕ) → n < length ps → sweptRefusal v ps star
 unfoldable pub swept : Reach → List ℕ → List ℕ → ℕ → List ℕ → List ℕ
 swept v ps starts zero codes = codes
 swept v ps starts (suc n) codes = swept v ps starts n (sweptNode v ps starts n codes)
+
+-- what a look at all nodes tells: below 2 none is refused, and at 0 no code changes
+pub record LooksAt (v : Reach) (ps starts codes : List ℕ) (answer : ℕ) : Type 0 where
+  pub quiet : answer < 2 → Quiet v ps starts codes
+  pub stays : answer ≡ 0 → codes ≡ swept v ps starts (length ps) codes

@@ -88,6 +88,12 @@ rowAfter v starts r row = take (v .from) row ++ codesAfter r (planned v starts) 
 abbrev pub eachAfter : Reach → declared.AccessKind → NodeRelation → List ℕ → List ℕ
 eachAfter v a r row = take (v .from) row ++ codesAfter r (replicate (v .len) (some (accessKind a))) (drop (v .from) row)
 
+-- what a look at a row tells: the first refusal, or that there is none, and perhaps that every code stays
+pub record Looks (a : declared.AccessKind) (r : NodeRelation) (from len : ℕ) (row : List ℕ) (answer : ℕ) : Type 0 where
+  pub refused : 15 < answer → answer ≡ codesRefusal r (replicate len (some (accessKind a))) (drop from row)
+  pub passes : answer ≤ 15 → codesRefusal r (replicate len (some (accessKind a))) (drop from row) ≡ 0
+  pub stays : answer ≡ 0 → row ≡ take from row ++ codesAfter r (replicate len (some (accessKind a))) (drop from row)
+
 -- the visit makes this one, and spares none of these nodes
 pub record EachOf (v : Reach) (a : declared.AccessKind) (ps : List ℕ) : Type 0 where
   pub same : v .what ≡ Each a

@@ -25,8 +25,8 @@ ghost use Rattle.definition.proofs.Trees.{Parents};
 ghost use Rattle.definition.proofs.Retags.{readsRefusal, readsVisit};
 ghost use Rattle.permission.specs.Codes.{outcomeTable, lineAt, lineOf, accessKind, nodeRelation, maybeAccess, nextCode, preventsCode, isProtectedCode, unprotectedCode};
 ghost use Rattle.tree.specs.Table.{rowsOf, Holds, HoldsMarks, HoldsAll, Some, Each};
-ghost use Rattle.tree.specs.Walk.{Ready, readsAt, Looked, Lines, Tabled, accessAt, stepped, codesRefusal, codesAfter, rowRefusal, rowAfter, rowAt, withRowAt, eachAfter, EachOf, nodeRefusal, below, subtree, walkRefusal};
-ghost use Rattle.tree.specs.Sweep.{Spares, markOf, relationOn, Climbed, sweptRefusal, sweptNode, swept, Quiet};
+ghost use Rattle.tree.specs.Walk.{Ready, readsAt, Looked, Lines, Tabled, accessAt, stepped, codesRefusal, codesAfter, rowRefusal, rowAfter, rowAt, withRowAt, eachAfter, EachOf, Looks, nodeRefusal, below, subtree, walkRefusal};
+ghost use Rattle.tree.specs.Sweep.{Spares, markOf, relationOn, Climbed, sweptRefusal, sweptNode, swept, Quiet, LooksAt};
 ghost use Rattle.tree.specs.Plan.{childFrom, Linked, Marked, Planned, Zeros, Roomy, Unmarked, SameLinks};
 ghost use Rattle.tree.specs.Requests.{Visited, Deallocated, releaseRefusal, Released};
 
@@ -226,7 +226,40 @@ fn mark_path(parents: &[u16], plan: &mut [u16], accessed: usize)
 
 // ---- rows
 
-// The first refusal in a row, of the same access to `len` bytes from `from` on, or 0.
+// What the same access to `len` bytes from `from` on comes to in a row: above 15 it is the first refusal; else there is none, and 0 says that
+// every code stays.
+fn look_each(
+    row: &[u8],
+    table: &[u8; 96],
+    from: usize,
+    len: usize,
+    kind: AccessKind,
+    relation: NodeRelation,
+) -> u8
+    requires { ⌜ now table ≡ outcomeTable ⌝ }
+    requires { ⌜ from + len ≤ length (now row) ⌝ }
+    ensures { λ r. ⌜ Looks kind (nodeRelation relation) from len (now (row .entry)) r ⌝ }
+{
+    let line = permission::line_of(MaybeAccess::Access(kind), relation);
+    let mut changed = 0;
+    let mut k = 0;
+    while k < len {
+        let code = row[from + k];
+        if code < 16 {
+            let outcome = table[line + index(code)];
+            if 15 < outcome {
+                return outcome;
+            }
+            if outcome != code {
+                changed = 1;
+            }
+        }
+        k += 1;
+    }
+    changed
+}
+
+// The first refusal, or 0.
 fn check_each(
     row: &[u8],
     table: &[u8; 96],
@@ -239,19 +272,11 @@ fn check_each(
     requires { ⌜ from + len ≤ length (now row) ⌝ }
     ensures { λ r. ⌜ r ≡ codesRefusal (nodeRelation relation) (replicate len (some (accessKind kind))) (drop from (now (row .entry))) ⌝ }
 {
-    let line = permission::line_of(MaybeAccess::Access(kind), relation);
-    let mut k = 0;
-    while k < len {
-        let code = row[from + k];
-        if code < 16 {
-            let outcome = table[line + index(code)];
-            if 15 < outcome {
-                return outcome;
-            }
-        }
-        k += 1;
+    let looked = look_each(row, table, from, len, kind, relation);
+    if looked < 16 {
+        return 0;
     }
-    0
+    looked
 }
 
 // The same where each byte may have another access.
@@ -426,8 +451,8 @@ fn apply_at(
     apply_row(&mut codes[start..end], starts, lines, table, v, relation);
 }
 
-// The same for one access at all its bytes.
-fn check_each_at(
+// The same for one access at all its bytes; the check tells what `look_each` does.
+fn look_each_at(
     codes: &[u8],
     table: &[u8; 96],
     v: Reach,
@@ -437,12 +462,12 @@ fn check_each_at(
 ) -> u8
     requires { ⌜ now table ≡ outcomeTable ⌝ }
     requires { ⌜ (n * v .width + v .width ≤ length (now codes)) × (v .from + v .len ≤ v .width) ⌝ }
-    ensures { λ r. ⌜ r ≡ codesRefusal (nodeRelation relation) (replicate (v .len) (some (accessKind kind))) (drop (v .from) (rowAt (v .width) n (now (codes .entry)))) ⌝ }
+    ensures { λ r. ⌜ Looks kind (nodeRelation relation) (v .from) (v .len) (rowAt (v .width) n (now (codes .entry))) r ⌝ }
 {
     let width = v.width;
     let start = n * width;
     let end = start + width;
-    check_each(&codes[start..end], table, v.from, v.len, kind, relation)
+    look_each(&codes[start..end], table, v.from, v.len, kind, relation)
 }
 
 fn apply_each_at(
@@ -785,30 +810,29 @@ fn apply(
 
 // ---- the same for one access at all its bytes, which spares no node: the visit of a load or a store
 
-// No node is refused.
-fn is_quiet_each(
-    parents: &[u16],
-    codes: &[u8],
-    table: &[u8; 96],
-    v: Reach,
-    kind: AccessKind,
-) -> bool
+// 0: no node is refused, and no code changes. 1: no node is refused. 2: it is not known.
+fn look_at_nodes(parents: &[u16], codes: &[u8], table: &[u8; 96], v: Reach, kind: AccessKind) -> u8
     requires { ⌜ (now table ≡ outcomeTable) × EachOf v kind (now parents) ⌝ }
     requires { ⌜ Ready v (now parents) (now codes) ⌝ }
-    ensures { λ r. ⌜ (r ≡ true → (starts : List ℕ) → Quiet v (now (parents .entry)) starts (now (codes .entry))) ⌝ }
+    ensures { λ r. ⌜ ((starts : List ℕ) → LooksAt v (now (parents .entry)) starts (now (codes .entry)) r) ⌝ }
 {
+    let mut changed = 0;
     let mut path = v.node;
     let mut n = parents.len();
     while 0 < n {
         n -= 1;
-        if check_each_at(codes, table, v, kind, n, relation_on(path, n)) != 0 {
-            return false;
+        let looked = look_each_at(codes, table, v, kind, n, relation_on(path, n));
+        if 15 < looked {
+            return 2;
+        }
+        if looked != 0 {
+            changed = 1;
         }
         if n == path {
             path = wide(parents[n]);
         }
     }
-    true
+    changed
 }
 
 // Every row as the visit leaves it.
@@ -826,6 +850,26 @@ fn apply_each_node(parents: &[u16], codes: &mut [u8], table: &[u8; 96], v: Reach
             path = wide(parents[n]);
         }
     }
+}
+
+// The first refusal of a visit that `look_at_nodes` told so much of, or 0.
+fn refusal_after_look(
+    parents: &[u16],
+    codes: &[u8],
+    table: &[u8; 96],
+    v: Reach,
+    kind: AccessKind,
+    looked: u8,
+) -> u8
+    requires { ⌜ (now table ≡ outcomeTable) × EachOf v kind (now parents) ⌝ }
+    requires { ⌜ Ready v (now parents) (now codes) × (0 < v .spared) × LooksAt v (now parents) (now codes) (now codes) looked ⌝ }
+    ensures { λ r. ⌜ r ≡ walkRefusal v (now (parents .entry)) (now (codes .entry)) (now (codes .entry)) (subtree (v .spared) 0 (now (parents .entry))) ⌝ }
+{
+    if looked < 2 {
+        return 0;
+    }
+    let lines = [0u8; 16];
+    check_in_order(parents, codes, codes, &lines, table, v)
 }
 
 // ---- load, store
@@ -853,11 +897,8 @@ fn access_refusal(
         what: Accesses::Each(kind),
     };
     let table = permission::outcomes();
-    if is_quiet_each(parents, codes, &table, v, kind) {
-        return 0;
-    }
-    let lines = [0u8; 16];
-    check_in_order(parents, codes, codes, &lines, &table, v)
+    let looked = look_at_nodes(parents, codes, &table, v, kind);
+    refusal_after_look(parents, codes, &table, v, kind, looked)
 }
 
 // The access made.
@@ -900,9 +941,22 @@ pub fn access(
     requires { ⌜ (node < length (now parents)) × (from + len ≤ width) ⌝ }
     ensures { λ r. ⌜ Each (λ nodes. Holds nodes width (now (parents .entry)) (now (codes .entry))) (λ nodes. Visited (accessVisit (accessKind kind) node from len) nodes r (now (codes .exit))) ⌝ }
 {
-    let refused = access_refusal(parents, codes, width, node, kind, from, len);
+    let v = Reach {
+        node,
+        spared: parents.len(),
+        width,
+        from,
+        len,
+        what: Accesses::Each(kind),
+    };
+    let table = permission::outcomes();
+    let looked = look_at_nodes(parents, codes, &table, v, kind);
+    if looked == 0 {
+        return 0;
+    }
+    let refused = refusal_after_look(parents, codes, &table, v, kind, looked);
     if refused == 0 {
-        apply_access(parents, codes, width, node, kind, from, len);
+        apply_each_node(parents, codes, &table, v, kind);
     }
     refused
 }
@@ -944,17 +998,20 @@ fn strong_protector_after_write(
     requires { ⌜ node < length (now parents) ⌝ }
     ensures { λ r. ⌜ Each (λ nodes. HoldsAll nodes width (now (parents .entry)) (now (protectors .entry)) (now (codes .entry))) (λ nodes. r ≡ any nodePreventsDeallocation (visited (accessVisit Write node 0 width) nodes)) ⌝ }
 {
-    let mut n = 0;
-    while n < parents.len() {
+    let mut path = node;
+    let mut n = parents.len();
+    while 0 < n {
+        n -= 1;
         if protectors[n] == 2 {
             let start = n * width;
             let end = start + width;
-            let relation = relation(parents, n, node);
-            if row_prevents_after_write(&codes[start..end], relation) {
+            if row_prevents_after_write(&codes[start..end], relation_on(path, n)) {
                 return true;
             }
         }
-        n += 1;
+        if n == path {
+            path = wide(parents[n]);
+        }
     }
     false
 }
@@ -1059,7 +1116,10 @@ fn reads_quiet(
             len: inside.len(),
             what: Accesses::Each(AccessKind::Read),
         };
-        return is_quiet_each(parents, codes, &table, all, AccessKind::Read);
+        if look_at_nodes(parents, codes, &table, all, AccessKind::Read) < 2 {
+            return true;
+        }
+        return false;
     }
     let v = Reach {
         node,

@@ -1,8 +1,10 @@
 -- The invariant: the nodes gone over are not refused.
 use mathlib.Core.Bool.{false≢true}
 use Prim.Native.Nat.{_≤_}
-use mathlib.Core.Path.{sym, _∙_}
-use Rattle.tree.proofs.Sweeps.{Sweeping, sweeping-start, sweeping-up, sweeping-on, QuietFrom, quiet-next}
+use mathlib.Core.Path.{_≡_, sym, _∙_}
+use lib.ListN.{length}
+use Rattle.tree.specs.Sweep.{sweptRefusal}
+use Rattle.tree.proofs.Sweeps.{Sweeping, sweeping-start, sweeping-up, sweeping-on, QuietFrom, from-next}
 use borrow.Author.Needs.{needs}
 use native.Mathlib.Omega.{arith}
 use Rattle.tree.proofs.is_quiet.Statement.{statement}
@@ -47,7 +49,7 @@ loop-again c =
     let s = c .before .before .before .before .before .before .before .before .before .before .before in
     let l = c .before .before .before .before .before .before .loop in (
       sweeping-up (s .args .parents .now) (s .pre .1 .tree) (s .args .v .node) (l .path) (l .n) _ (l .inv .0) (omega arith) (c .before .before .if2 .taken) (c .wide .ensures),
-      quiet-next (s .args .v) (s .args .parents .now) (s .args .starts .now) (s .args .codes .now) (l .n) (l .inv .1) (sym (c .before .before .before .before .check-swept .ensures) ∙ c .before .before .before .if1 .left),
+      from-next (λ k. sweptRefusal (s .args .v) (s .args .parents .now) (s .args .starts .now) (s .args .codes .now) k ≡ 0) (l .n) (length (s .args .parents .now)) (l .inv .1) (sym (c .before .before .before .before .check-swept .ensures) ∙ c .before .before .before .if1 .left),
     )
 
 loop-less-2 : tie.Need-loop-less-2 Inv-loop μ-loop
@@ -58,7 +60,7 @@ loop-again-2 c =
     let s = c .before .before .before .before .before .before .before .before .before in
     let l = c .before .before .before .before .loop in (
       sweeping-on (s .args .parents .now) (s .pre .1 .tree) (s .args .v .node) (l .path) (l .n) (l .inv .0) (omega arith) (c .if2 .left),
-      quiet-next (s .args .v) (s .args .parents .now) (s .args .starts .now) (s .args .codes .now) (l .n) (l .inv .1) (sym (c .before .before .check-swept .ensures) ∙ c .before .if1 .left),
+      from-next (λ k. sweptRefusal (s .args .v) (s .args .parents .now) (s .args .starts .now) (s .args .codes .now) k ≡ 0) (l .n) (length (s .args .parents .now)) (l .inv .1) (sym (c .before .before .check-swept .ensures) ∙ c .before .if1 .left),
     )
 
 returns-2 : tie.Need-returns-2 Inv-loop μ-loop

@@ -1,4 +1,5 @@
 -- Where no node is refused, the visit of all bytes is not.
+use mathlib.Core.Bool.{false≢true}
 use mathlib.Core.Path.{refl, sym, _∙_}
 use native.Mathlib.Nat.{le-refl}
 use Rattle.tree.proofs.Meaning.{means-refusal}
@@ -13,7 +14,7 @@ use Rattle.tree.proofs.reads_quiet.Lts as lts
 use Rattle.permission.proofs.init_lines.Reads as init-lines-reads
 use Rattle.permission.proofs.outcomes.Reads as outcomes-reads
 use Rattle.tree.proofs.is_quiet.Reads as is-quiet-reads
-use Rattle.tree.proofs.is_quiet_each.Reads as is-quiet-each-reads
+use Rattle.tree.proofs.look_at_nodes.Reads as look-at-nodes-reads
 use Rattle.tree.proofs.reads_all.Reads as reads-all-reads
 
 outcomes-requires : tie.Need-outcomes-requires
@@ -22,15 +23,18 @@ outcomes-requires c κs = search needs
 reads-all-requires : tie.Need-reads-all-requires
 reads-all-requires c κs = search needs
 
-is-quiet-each-requires : tie.Need-is-quiet-each-requires
-is-quiet-each-requires c κs = let s = c .before .before .before .before .before .before .before in ((c .before .before .before .outcomes .ensures, record { same = refl; none = le-refl _ }), held-ready _ (s .pre .0 .0) _ _ (s .pre .0 .1) (s .pre .1 .0) (s .pre .1 .1))
+look-at-nodes-requires : tie.Need-look-at-nodes-requires
+look-at-nodes-requires c κs = let s = c .before .before .before .before .before .before .before in ((c .before .before .before .outcomes .ensures, record { same = refl; none = le-refl _ }), held-ready _ (s .pre .0 .0) _ _ (s .pre .0 .1) (s .pre .1 .0) (s .pre .1 .1))
 
 returns : tie.Need-returns
 returns c =
-    let s = c .before .before .before .before .before .before .before .before in
+    let s = c .before .before .before .before .before .before .before .before .before in
     λ e nodes holds.
-    sym (means-refusal _ _ _ _ (means-all (s .args .parents .now) (holds .earlier) (holds .root) (s .args .width) (s .args .node) (s .args .from) (s .args .inside .now) (s .args .codes .now) (c .before .before .before .reads-all .ensures (c .before .before .if1 .taken))) nodes (s .args .codes .now) holds)
-    ∙ quiet-none _ (s .args .parents .now) (s .args .codes .now) (s .args .codes .now) (held-ready _ (s .pre .0 .0) _ _ (s .pre .0 .1) (s .pre .1 .0) (s .pre .1 .1)) (holds .root) (c .is-quiet-each .ensures e (s .args .codes .now))
+    sym (means-refusal _ _ _ _ (means-all (s .args .parents .now) (holds .earlier) (holds .root) (s .args .width) (s .args .node) (s .args .from) (s .args .inside .now) (s .args .codes .now) (c .before .before .before .before .reads-all .ensures (c .before .before .before .if1 .taken))) nodes (s .args .codes .now) holds)
+    ∙ quiet-none _ (s .args .parents .now) (s .args .codes .now) (s .args .codes .now) (held-ready _ (s .pre .0 .0) _ _ (s .pre .0 .1) (s .pre .1 .0) (s .pre .1 .1)) (holds .root) (c .before .look-at-nodes .ensures (s .args .codes .now) .quiet (c .if2 .taken))
+
+returns-2 : tie.Need-returns-2
+returns-2 c = λ e. absurd (false≢true e)
 
 init-lines-requires : tie.Need-init-lines-requires
 init-lines-requires c κs = search needs
@@ -41,8 +45,8 @@ slice-aggregate-is-quiet c = search needs
 is-quiet-requires : tie.Need-is-quiet-requires
 is-quiet-requires c κs = let s = c .before .before .before .before .before .before .before .before .before .before in ((record { accesses = c .before .before .before .init-lines .ensures; outcomes = c .before .before .before .before .before .before .outcomes .ensures }, unmarked (s .args .parents .now) (s .pre .0 .1 .earlier) _ (s .pre .0 .1 .root)), held-ready _ (s .pre .0 .0) _ _ (s .pre .0 .1) (s .pre .1 .0) (s .pre .1 .1))
 
-returns-2 : tie.Need-returns-2
-returns-2 c =
+returns-3 : tie.Need-returns-3
+returns-3 c =
     let s = c .before .before .before .before .before .before .before .before .before .before .before in
     λ e nodes holds.
     sym (means-refusal _ _ _ _ (means-reads (s .args .parents .now) (holds .earlier) (holds .root) (s .args .width) (s .args .node) (s .args .from) (s .args .inside .now)) nodes (s .args .codes .now) holds)
@@ -54,9 +58,10 @@ reads-quiet-spec =
     (tie.spec
     outcomes-requires
     reads-all-requires
-    is-quiet-each-requires
+    look-at-nodes-requires
     returns
+    returns-2
     init-lines-requires
     slice-aggregate-is-quiet
     is-quiet-requires
-    returns-2)
+    returns-3)

@@ -1,56 +1,50 @@
--- A search through the nodes: what is left of it is the answer of the whole.
-use Prim.Native.Nat.{_*_, ℕ, _+_, _-_, _≤_, _<_}
+-- A search from the last node to the first: those gone over do not prevent.
+use Prim.Native.Nat.{ℕ, _-_, _≤_, _<_}
+use mathlib.Core.Bool.{false}
 use mathlib.Core.Logic.{⊎-elim}
 use mathlib.Core.List.{List}
-use mathlib.Core.Path.{_≡_, refl, sym, _∙_}
-use native.Mathlib.Omega.{arith}
-use borrow.Author.Needs.{needs}
-use lib.ListN.{length, drop}
+use mathlib.Core.Path.{_≡_, sym, subst⁻¹, _∙_}
+use native.Mathlib.Decide.{ℕ-discrete}
+use lib.ListN.{length}
 use Rattle.definition.proofs.Visits.{visited-length}
-use Rattle.definition.specs.Tree.{noNode, Node, visited, accessVisit}
+use Rattle.definition.specs.Tree.{noNode, Node, nodeAt, visited, accessVisit}
 use Rattle.definition.specs.Memory.{nodePreventsDeallocation}
 use Rattle.definition.specs.Permission.AccessKind.{Write}
-use Rattle.definition.specs.Notation.{any}
-use Rattle.permission.specs.Codes.{nodeRelation}
 use Rattle.tree.specs.Table.{HoldsAll}
 use Rattle.tree.proofs.Strong.{strong-prevents, other-prevents-not}
-use Rattle.tree.proofs.Loops.{any-here, any-later, any-end}
-use Rattle.tree.proofs.Held.{held-fits, held-count, marks-count}
+use Rattle.tree.proofs.Loops.{any-at, any-none}
+use Rattle.tree.proofs.Held.{node-fits, held-count, marks-count}
+use Rattle.tree.proofs.Sweeps.{Sweeping, sweeping-start, sweeping-up, sweeping-on, met}
+use borrow.Author.Needs.{needs}
+use native.Mathlib.Omega.{arith}
 use Rattle.tree.proofs.strong_protector_after_write.Statement.{statement}
 use Rattle.tree.proofs.strong_protector_after_write.Tie as tie
 use Rattle.tree.proofs.strong_protector_after_write.Reads as reads
 use Rattle.tree.proofs.strong_protector_after_write.Lts as lts
-use Rattle.tree.proofs.relation.Reads as relation-reads
+use Rattle.tree.proofs.relation_on.Reads as relation-on-reads
 use Rattle.tree.proofs.row_prevents_after_write.Reads as row-prevents-after-write-reads
+use Rattle.tree.proofs.wide.Reads as wide-reads
 
 abbrev Inv-loop : tie.InvT-loop
-Inv-loop parents protectors codes width node n₀ n =
-    (n ≤ length parents) × ((nodes : List Node) → HoldsAll nodes width parents protectors codes → any nodePreventsDeallocation (drop n (visited (accessVisit Write node 0 width) nodes)) ≡ any nodePreventsDeallocation (visited (accessVisit Write node 0 width) nodes))
+Inv-loop parents protectors codes width node path₀ n₀ path n = Sweeping parents node path n × ((nodes : List Node) → HoldsAll nodes width parents protectors codes → (k : ℕ) → n ≤ k → k < length nodes → nodePreventsDeallocation (nodeAt (visited (accessVisit Write node 0 width) nodes) k) ≡ false)
 
 abbrev μ-loop : tie.MeasureT-loop
-μ-loop parents protectors codes width node n₀ n = length parents - n
-
--- row n ends within the table
-ends : (s : lts.Start (relation-reads.Asked, relation-reads.Learnt, row-prevents-after-write-reads.Asked, row-prevents-after-write-reads.Learnt) reads.Pre reads.Post Inv-loop μ-loop) (n : ℕ) → n < length (s .args .parents .now)
-    → n * s .args .width + s .args .width ≤ length (s .args .codes .now)
-ends s n l = held-fits (s .pre .0 .0) (s .args .width) (s .args .codes .now) (s .pre .0 .1 .holds .table) n (omega (arith, held-count (s .pre .0 .1 .holds)))
+μ-loop parents protectors codes width node path₀ n₀ path n = n
 
 loop-holds : tie.Need-loop-holds Inv-loop μ-loop
-loop-holds c = (omega arith, λ nodes held. refl)
+loop-holds c = let s = c .before .before .before in (sweeping-start (s .args .parents .now) (s .pre .0 .1 .holds .earlier) (s .args .node) (s .pre .1), λ nodes held k h i. absurd (omega (arith, held-count (held .holds))))
+
+sub-n : tie.Need-sub-n Inv-loop μ-loop
+sub-n c = search needs
 
 shared-slice-read-if1 : tie.Need-shared-slice-read-if1 Inv-loop μ-loop
-shared-slice-read-if1 c =
-    let s = c .before .before .before .before .before .before in
-    omega (arith, c .before .before .loop .inv .0, held-count (s .pre .0 .1 .holds), marks-count (s .pre .0 .0) (s .args .protectors .now) (s .pre .0 .1 .marked))
+shared-slice-read-if1 c = let s = c .before .before .before .before .before .before in omega (arith, c .before .before .loop .inv .0 .0, held-count (s .pre .0 .1 .holds), marks-count (s .pre .0 .0) (s .args .protectors .now) (s .pre .0 .1 .marked))
 
 mul-start : tie.Need-mul-start Inv-loop μ-loop
-mul-start c = omega (arith, ends (c .before .before .before .before .before .before .before) (c .before .before .before .loop .n) (omega arith))
+mul-start c = omega (arith, let s = c .before .before .before .before .before .before .before in let l = c .before .before .before .loop in node-fits (s .pre .0 .1 .holds) (l .n - 1) (omega (arith, l .inv .0 .0)))
 
 add-end : tie.Need-add-end Inv-loop μ-loop
-add-end c = omega (arith, ends (c .before .before .before .before .before .before .before) (c .before .before .before .loop .n) (omega arith))
-
-relation-requires : tie.Need-relation-requires Inv-loop μ-loop
-relation-requires c κs = (c .before .before .before .before .before .before .before .pre .0 .1 .holds .earlier, c .before .before .before .before .before .before .before .pre .1)
+add-end c = omega (arith, let s = c .before .before .before .before .before .before .before in let l = c .before .before .before .loop in node-fits (s .pre .0 .1 .holds) (l .n - 1) (omega (arith, l .inv .0 .0)))
 
 sub-row-prevents-after-write : tie.Need-sub-row-prevents-after-write Inv-loop μ-loop
 sub-row-prevents-after-write c = search needs
@@ -59,7 +53,10 @@ part-row-prevents-after-write-start : tie.Need-part-row-prevents-after-write-sta
 part-row-prevents-after-write-start c = search needs
 
 part-row-prevents-after-write-end : tie.Need-part-row-prevents-after-write-end Inv-loop μ-loop
-part-row-prevents-after-write-end c = ends (c .before .before .before .before .before .before .before .before) (c .before .before .before .before .loop .n) (omega arith)
+part-row-prevents-after-write-end c = let s = c .before .before .before .before .before .before .before in let l = c .before .before .before .loop in node-fits (s .pre .0 .1 .holds) (l .n - 1) (omega (arith, l .inv .0 .0))
+
+relation-on-requires : tie.Need-relation-on-requires Inv-loop μ-loop
+relation-on-requires c κs = search needs
 
 row-prevents-after-write-requires : tie.Need-row-prevents-after-write-requires Inv-loop μ-loop
 row-prevents-after-write-requires c κs = search needs
@@ -74,50 +71,85 @@ returns c =
     let codes = s .args .codes .now in
     let node = s .args .node in
     λ nodes held.
-    let k : l .n < length nodes = omega (arith, held-count (held .holds)) in
-    sym (any-here nodePreventsDeallocation noNode (visited (accessVisit Write node 0 width) nodes) (l .n) (omega (arith, visited-length (accessVisit Write node 0 width) nodes))
-    (strong-prevents nodes width ps protectors codes held node (l .n) k (c .before .before .before .before .if1 .taken) (c .before .row-prevents-after-write .result) (nodeRelation (c .before .before .before .relation .result)) (c .before .before .before .relation .ensures) (c .before .row-prevents-after-write .ensures)
+    let m : l .n - 1 < length nodes = omega (arith, l .inv .0 .0, held-count (held .holds)) in
+    sym
+    (any-at nodePreventsDeallocation noNode (visited (accessVisit Write node 0 width) nodes) (l .n - 1) (omega (arith, visited-length (accessVisit Write node 0 width) nodes))
+    (strong-prevents nodes width ps protectors codes held node (l .n - 1) m (c .before .before .before .before .if1 .taken) (c .before .row-prevents-after-write .result) _
+    (c .before .before .relation-on .ensures ∙ met ps (held .holds .earlier) node (l .path) (l .n - 1) (l .inv .0 .1 (omega arith))) (c .before .row-prevents-after-write .ensures)
     ∙ c .if2 .taken))
-    ∙ l .inv .1 nodes held
 
-add-n : tie.Need-add-n Inv-loop μ-loop
-add-n c = search needs
+mul-wide : tie.Need-mul-wide Inv-loop μ-loop
+mul-wide c = omega (arith, c .before .before .before .before .loop .inv .0 .0)
+
+shared-slice-read-wide : tie.Need-shared-slice-read-wide Inv-loop μ-loop
+shared-slice-read-wide c = omega (arith, c .before .before .before .before .before .loop .inv .0 .0)
+
+wide-requires : tie.Need-wide-requires Inv-loop μ-loop
+wide-requires c κs = search needs
 
 loop-less : tie.Need-loop-less Inv-loop μ-loop
-loop-less c = search needs
+loop-less c = omega arith
 
 loop-again : tie.Need-loop-again Inv-loop μ-loop
 loop-again c =
-    let s = c .before .before .before .before .before .before .before in
-    let l = c .before .before .before .loop in
+    let s = c .before .before .before .before .before .before .before .before .before .before in
+    let l = c .before .before .before .before .before .before .loop in
     let width = s .args .width in
     let ps = s .args .parents .now in
     let protectors = s .args .protectors .now in
     let codes = s .args .codes .now in
     let node = s .args .node in (
-      omega arith,
-      λ nodes held.
-          let k : l .n < length nodes = omega (arith, held-count (held .holds)) in
-          any-later nodePreventsDeallocation noNode (visited (accessVisit Write node 0 width) nodes) (l .n) (omega (arith, visited-length (accessVisit Write node 0 width) nodes))
-          (⊎-elim
-          (λ w.
-          strong-prevents nodes width ps protectors codes held node (l .n) k (w .0 .taken) (w .3 .result) (nodeRelation (w .1 .result)) (w .1 .ensures) (w .3 .ensures) ∙ w .4 .left)
-          (λ w. other-prevents-not nodes width ps protectors codes held node (l .n) k (w .left))
-          (c .if1 .came))
-          ∙ l .inv .1 nodes held,
+      sweeping-up ps (s .pre .0 .1 .holds .earlier) node (l .path) (l .n) _ (l .inv .0) (omega arith) (c .before .before .if3 .taken) (c .wide .ensures),
+      λ nodes held k h i.
+          elim (ℕ-discrete k (l .n - 1)) [
+            | yes e ↦
+                subst⁻¹ (λ (j : ℕ). nodePreventsDeallocation (nodeAt (visited (accessVisit Write node 0 width) nodes) j) ≡ false) e
+                (let m : l .n - 1 < length nodes = omega (arith, l .inv .0 .0, held-count (held .holds)) in
+                ⊎-elim
+                (λ w.
+                strong-prevents nodes width ps protectors codes held node (l .n - 1) m (w .0 .taken) (w .3 .result) _
+                (w .2 .ensures ∙ met ps (held .holds .earlier) node (l .path) (l .n - 1) (l .inv .0 .1 (omega arith))) (w .3 .ensures) ∙ w .4 .left)
+                (λ w. other-prevents-not nodes width ps protectors codes held node (l .n - 1) m (w .left))
+                (c .before .before .before .if1 .came))
+            | no e ↦ l .inv .1 nodes held k (omega arith) i
+          ],
+    )
+
+loop-less-2 : tie.Need-loop-less-2 Inv-loop μ-loop
+loop-less-2 c = omega arith
+
+loop-again-2 : tie.Need-loop-again-2 Inv-loop μ-loop
+loop-again-2 c =
+    let s = c .before .before .before .before .before .before .before .before in
+    let l = c .before .before .before .before .loop in
+    let width = s .args .width in
+    let ps = s .args .parents .now in
+    let protectors = s .args .protectors .now in
+    let codes = s .args .codes .now in
+    let node = s .args .node in (
+      sweeping-on ps (s .pre .0 .1 .holds .earlier) node (l .path) (l .n) (l .inv .0) (omega arith) (c .if3 .left),
+      λ nodes held k h i.
+          elim (ℕ-discrete k (l .n - 1)) [
+            | yes e ↦
+                subst⁻¹ (λ (j : ℕ). nodePreventsDeallocation (nodeAt (visited (accessVisit Write node 0 width) nodes) j) ≡ false) e
+                (let m : l .n - 1 < length nodes = omega (arith, l .inv .0 .0, held-count (held .holds)) in
+                ⊎-elim
+                (λ w.
+                strong-prevents nodes width ps protectors codes held node (l .n - 1) m (w .0 .taken) (w .3 .result) _
+                (w .2 .ensures ∙ met ps (held .holds .earlier) node (l .path) (l .n - 1) (l .inv .0 .1 (omega arith))) (w .3 .ensures) ∙ w .4 .left)
+                (λ w. other-prevents-not nodes width ps protectors codes held node (l .n - 1) m (w .left))
+                (c .before .if1 .came))
+            | no e ↦ l .inv .1 nodes held k (omega arith) i
+          ],
     )
 
 returns-2 : tie.Need-returns-2 Inv-loop μ-loop
 returns-2 c =
     let s = c .before .before .before .before .before in
     let l = c .before .loop in
-    let width = s .args .width in
-    let ps = s .args .parents .now in
-    let protectors = s .args .protectors .now in
-    let codes = s .args .codes .now in
-    let node = s .args .node in
     λ nodes held.
-    sym (any-end nodePreventsDeallocation noNode (visited (accessVisit Write node 0 width) nodes) (l .n) (omega (arith, visited-length (accessVisit Write node 0 width) nodes, held-count (held .holds)))) ∙ l .inv .1 nodes held
+    sym (any-none nodePreventsDeallocation noNode (visited (accessVisit Write (s .args .node) 0 (s .args .width)) nodes)
+    (λ k h. l .inv .1 nodes held k (omega arith) (omega (arith, visited-length (accessVisit Write (s .args .node) 0 (s .args .width)) nodes))))
 
 pub strong-protector-after-write-spec : {M : Type 1} → statement M
 strong-protector-after-write-spec =
@@ -126,16 +158,21 @@ strong-protector-after-write-spec =
     Inv-loop
     μ-loop
     loop-holds
+    sub-n
     shared-slice-read-if1
     mul-start
     add-end
-    relation-requires
     sub-row-prevents-after-write
     part-row-prevents-after-write-start
     part-row-prevents-after-write-end
+    relation-on-requires
     row-prevents-after-write-requires
     returns
-    add-n
+    mul-wide
+    shared-slice-read-wide
+    wide-requires
     loop-less
     loop-again
+    loop-less-2
+    loop-again-2
     returns-2)
