@@ -1,14 +1,14 @@
--- Lists by value: one entry more, an entry at a place, the definition's list there and back, and a lent list loaded.
-use Prim.Native.Nat.{ℕ, _+_, _-_, _<_, _≤_}
+-- Lists by value: one entry more, an entry at a place, how many entries there are, and a lent list loaded.
+use Prim.Native.Nat.{ℕ, _+_, _<_, _≤_}
 use mathlib.Core.Path.{_≡_, refl, sym, ap, _∙_}
 use mathlib.Core.List.{List, [], _∷_, _++_, map, map-append}
 use native.Mathlib.Nat.{suc-ne-zero, suc-inj}
 use native.Mathlib.Numerals.{add-one}
 use native.Mathlib.Omega.{arith}
-use lib.ListN.{length, getD, take, set, replicate, length-append, length-map, length-replicate, List·getD-map}
-use lib.Seq.{length-take-le, take-suc-set, take-at, getD-take}
+use lib.ListN.{length, getD, take, set, replicate, length-map, length-replicate, List·getD-map}
+use lib.Seq.{length-take-le, take-suc-set, getD-take}
 use Rattle.definition.specs.Memory.{Provenance}
-use Rattle.entries.specs.List.{provenanceOf, entryOf, noEntry, firstOf, entriesOf, placed, byValue, laid, loaded}
+use Rattle.entries.specs.List.{provenanceOf, noEntry, firstOf, entriesOf, laid, loaded}
 use Rattle.entries.specs.declared.Entry.{Entry}
 use Rattle.entries.specs.declared.Entries.{Entries}
 
@@ -23,21 +23,6 @@ first-at list n i h = ap provenanceOf (sym (getD-take n list i noEntry h)) ∙ s
 -- a list by value has as many entries as it counts
 pub entries-count : (list : Entries) → list .count ≤ 64 → length (list .list) ≡ 64 → length (entriesOf list) ≡ list .count
 entries-count list l w = length-map (take (list .count) (list .list)) provenanceOf ∙ length-take-le (list .count) (list .list) (omega arith)
-
--- ---- the definition's list by value, and back
-pub placed-length : (es : List Provenance) → length es ≤ 64 → length (placed es) ≡ 64
-unfolding placed
-placed-length es h = simp (length-append, length-map, length-replicate) (omega arith)
-
-pub there-and-back : (es : List Provenance) → map provenanceOf (map entryOf es) ≡ es
-there-and-back [] = refl
-there-and-back (e ∷ es) = ap (λ (l : List Provenance). e ∷ l) (there-and-back es)
-
-pub by-value : (es : List Provenance) → entriesOf (byValue es) ≡ es
-unfolding placed
-by-value es =
-    ap (map provenanceOf) (take-at (map entryOf es) (replicate (64 - length es) noEntry) (length es) (length-map es entryOf))
-    ∙ there-and-back es
 
 -- ---- a lent list of 64 entries is loaded as it is
 laid-all : (xs ds : List Entry) → length xs ≡ length ds → laid xs ds ≡ xs

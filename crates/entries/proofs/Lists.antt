@@ -41,11 +41,6 @@ module _ {A : Type 0} where
       grow zero = refl
       grow (suc n) = ap (λ (l : List A). a ∷ l) (grow n)
 
-  pub drop-replicate : (n m : ℕ) (a : A) → drop n (replicate m a) ≡ replicate (m - n) a
-  drop-replicate zero m a = let e : m - zero ≡ m = omega arith in rw e
-  drop-replicate (suc n) zero a = let e : zero - suc n ≡ zero = omega arith in rw e
-  drop-replicate (suc n) (suc m) a = let e : suc m - suc n ≡ m - n = omega arith in rw e (drop-replicate n m a)
-
 -- one part of a sum
 pub part-of-sum : {A : Type 0} (g : A → ℕ) (d : A) (l : List A) (n : ℕ) → n < length l → g (getD l n d) ≤ sumOf g l
 unfolding sumOf
