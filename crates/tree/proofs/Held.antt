@@ -11,8 +11,8 @@ use Rattle.definition.specs.Permission.{code}
 use Rattle.definition.specs.Tree.{Node, nodeAt}
 use Rattle.definition.specs.Valid.{All}
 use Rattle.tree.specs.Table.{rowsOf, mark, marks, HoldsRows, Holds, HoldsMarks, HoldsAll}
-use Rattle.tree.specs.Walk.{rowAt, withRowAt}
-use Rattle.tree.proofs.Places.{row-fits}
+use Rattle.visit.specs.Walk.{rowAt, withRowAt}
+use Rattle.visit.proofs.Places.{row-fits}
 
 module _ (width : ℕ) where
   -- each row has `width` codes

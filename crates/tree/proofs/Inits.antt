@@ -19,8 +19,8 @@ use Rattle.definition.specs.Tree.{Node, rowRefusal, nodeRefusal, visitRefusal, 
 use Rattle.definition.proofs.Ranges.{range-places, list-places}
 use Rattle.definition.proofs.Retags.{byteRefusal, readsRefusal, readsVisit, reads-step}
 use Rattle.permission.specs.Codes.{initAccessCode}
-use Rattle.tree.specs.Walk.{readsAt}
-use Rattle.tree.proofs.Rows.{or-positive}
+use Rattle.visit.specs.Walk.{readsAt}
+use Rattle.visit.proofs.Rows.{or-positive}
 
 -- a number that is no code is read as Cell, which has no access either
 pub init-access-permission : (c : ℕ) → initAccessCode c ≡ initAccess (permission c)

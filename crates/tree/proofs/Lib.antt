@@ -1,15 +1,7 @@
 pub mod Loops
-pub mod Steps
-pub mod Rows
-pub mod Places
-pub mod Walks
-pub mod Children
-pub mod Plans
-pub mod Sweeps
 pub mod Held
 pub mod Meaning
 pub mod Inits
 pub mod Visits
 pub mod Releases
 pub mod Strong
-pub mod Counted

@@ -19,10 +19,10 @@ use Rattle.definition.proofs.Order.{visits-only-nodes}
 use Rattle.definition.proofs.Ranges.{accessesRefusal, accessesAfter, Places, places-refusal, places-after}
 use Rattle.definition.specs.Tree as definition
 use Rattle.permission.proofs.Codes.{refusal-code, next-code}
-use Rattle.tree.specs.declared.Reach.{Reach}
+use Rattle.visit.specs.declared.Reach.{Reach}
 use Rattle.tree.specs.Table.{rowsOf, Holds}
-use Rattle.tree.specs.Walk.{planned, codesRefusal, codesAfter, rowRefusal, rowAfter, nodeRefusal, nodeAfter, subtree, walkRefusal, withRowAt}
-use Rattle.tree.specs.Sweep.{sweptNode, swept}
+use Rattle.visit.specs.Walk.{planned, codesRefusal, codesAfter, rowRefusal, rowAfter, nodeRefusal, nodeAfter, subtree, walkRefusal, withRowAt}
+use Rattle.visit.specs.Sweep.{sweptNode, swept}
 use Rattle.tree.proofs.Held.{Wide, row-held, row-changed, wide-changed, held-count}
 
 -- ---- lists

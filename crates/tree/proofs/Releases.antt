@@ -20,7 +20,7 @@ use Rattle.definition.proofs.Trees.{above-itself}
 use Rattle.permission.specs.Codes.{isProtectedCode, unprotectedCode}
 use Rattle.permission.proofs.Codes.{is-protected-code, unprotected-code}
 use Rattle.tree.specs.Table.{rowsOf, mark, marks, HoldsRows, Holds, HoldsMarks}
-use Rattle.tree.specs.Walk.{rowAt, withRowAt}
+use Rattle.visit.specs.Walk.{rowAt, withRowAt}
 use Rattle.tree.specs.Requests.{releaseRefusal, Released}
 use Rattle.tree.proofs.Held.{row-held, row-changed, wide-changed}
 use Rattle.tree.proofs.Visits.{accepted-nodes, refused-nodes}

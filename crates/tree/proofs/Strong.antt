@@ -19,11 +19,11 @@ use Rattle.definition.proofs.Ranges.{accessIn, range-after}
 use Rattle.permission.specs.Codes.{nextCode, preventsCode}
 use Rattle.permission.proofs.Codes.{next-code, prevents-code}
 use Rattle.tree.specs.Table.{rowsOf, mark, HoldsAll}
-use Rattle.tree.specs.Walk.{rowAt}
+use Rattle.visit.specs.Walk.{rowAt}
 use Rattle.tree.specs.Requests.{deallocateRefusal, Deallocated}
-use Rattle.tree.proofs.Rows.{or-positive}
+use Rattle.visit.proofs.Rows.{or-positive}
 use Rattle.tree.proofs.Held.{wide-at}
-use Rattle.tree.proofs.Places.{part-row}
+use Rattle.visit.proofs.Places.{part-row}
 use Rattle.tree.proofs.Visits.{accepted-nodes, refused-nodes}
 use Rattle.tree.proofs.Releases.{held-row, mark-at}
 

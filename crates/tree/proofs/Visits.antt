@@ -20,10 +20,10 @@ use Rattle.permission.specs.Codes.{accessKind, endAccessCode, initAccessCode}
 use Rattle.permission.proofs.Codes.{end-access-code}
 use Rattle.permission.specs.declared.AccessKind as declared
 use Rattle.permission.specs.declared.AccessKind.the-variants as kinds
-use Rattle.tree.specs.declared.Accesses.the-variants.{Each, AtEnd, AtInit}
-use Rattle.tree.specs.declared.Reach.{Reach}
+use Rattle.visit.specs.declared.Accesses.the-variants.{Each, AtEnd, AtInit}
+use Rattle.visit.specs.declared.Reach.{Reach}
 use Rattle.tree.specs.Table.{rowsOf, Holds}
-use Rattle.tree.specs.Walk.{Ready, readsAt}
+use Rattle.visit.specs.Walk.{Ready, readsAt}
 use Rattle.tree.specs.Requests.{unlessRefused, Visited}
 use Rattle.tree.proofs.Held.{rows-length}
 use Rattle.tree.proofs.Meaning.{Means}

@@ -3,7 +3,7 @@ use mathlib.Core.Path.{refl, sym, _∙_}
 use native.Mathlib.Nat.{le-refl}
 use Rattle.tree.proofs.Meaning.{means-refusal, means-after}
 use Rattle.tree.proofs.Visits.{held-ready, means-bytes, visit-accepted, visit-refused}
-use Rattle.tree.proofs.Sweeps.{quiet-none}
+use Rattle.visit.proofs.Sweeps.{quiet-none}
 use native.Mathlib.Omega.{arith}
 use borrow.Author.Needs.{needs}
 use Rattle.tree.proofs.access.Statement.{statement}
@@ -11,9 +11,9 @@ use Rattle.tree.proofs.access.Tie as tie
 use Rattle.tree.proofs.access.Reads as reads
 use Rattle.tree.proofs.access.Lts as lts
 use Rattle.permission.proofs.outcomes.Reads as outcomes-reads
-use Rattle.tree.proofs.apply_each_node.Reads as apply-each-node-reads
-use Rattle.tree.proofs.look_at_nodes.Reads as look-at-nodes-reads
-use Rattle.tree.proofs.refusal_after_look.Reads as refusal-after-look-reads
+use Rattle.visit.proofs.apply_each_node.Reads as apply-each-node-reads
+use Rattle.visit.proofs.look_at_nodes.Reads as look-at-nodes-reads
+use Rattle.visit.proofs.refusal_after_look.Reads as refusal-after-look-reads
 
 outcomes-requires : tie.Need-outcomes-requires
 outcomes-requires c κs = search needs

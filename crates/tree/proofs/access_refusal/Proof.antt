@@ -10,8 +10,8 @@ use Rattle.tree.proofs.access_refusal.Tie as tie
 use Rattle.tree.proofs.access_refusal.Reads as reads
 use Rattle.tree.proofs.access_refusal.Lts as lts
 use Rattle.permission.proofs.outcomes.Reads as outcomes-reads
-use Rattle.tree.proofs.look_at_nodes.Reads as look-at-nodes-reads
-use Rattle.tree.proofs.refusal_after_look.Reads as refusal-after-look-reads
+use Rattle.visit.proofs.look_at_nodes.Reads as look-at-nodes-reads
+use Rattle.visit.proofs.refusal_after_look.Reads as refusal-after-look-reads
 
 outcomes-requires : tie.Need-outcomes-requires
 outcomes-requires c κs = search needs

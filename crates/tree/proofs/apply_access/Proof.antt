@@ -10,7 +10,7 @@ use Rattle.tree.proofs.apply_access.Tie as tie
 use Rattle.tree.proofs.apply_access.Reads as reads
 use Rattle.tree.proofs.apply_access.Lts as lts
 use Rattle.permission.proofs.outcomes.Reads as outcomes-reads
-use Rattle.tree.proofs.apply_each_node.Reads as apply-each-node-reads
+use Rattle.visit.proofs.apply_each_node.Reads as apply-each-node-reads
 
 outcomes-requires : tie.Need-outcomes-requires
 outcomes-requires c κs = search needs

@@ -3,7 +3,7 @@ use mathlib.Core.Path.{refl, _∙_}
 use native.Mathlib.Nat.{le-refl}
 use Rattle.tree.proofs.Meaning.{means-after}
 use Rattle.tree.proofs.Visits.{held-ready, means-reads, means-all}
-use Rattle.tree.proofs.Sweeps.{unmarked}
+use Rattle.visit.proofs.Sweeps.{unmarked}
 use native.Mathlib.Omega.{arith}
 use borrow.Author.Needs.{needs}
 use Rattle.tree.proofs.apply_reads.Statement.{statement}
@@ -12,8 +12,8 @@ use Rattle.tree.proofs.apply_reads.Reads as reads
 use Rattle.tree.proofs.apply_reads.Lts as lts
 use Rattle.permission.proofs.init_lines.Reads as init-lines-reads
 use Rattle.permission.proofs.outcomes.Reads as outcomes-reads
-use Rattle.tree.proofs.apply.Reads as apply-reads
-use Rattle.tree.proofs.apply_each_node.Reads as apply-each-node-reads
+use Rattle.visit.proofs.apply.Reads as apply-reads
+use Rattle.visit.proofs.apply_each_node.Reads as apply-each-node-reads
 use Rattle.tree.proofs.reads_all.Reads as reads-all-reads
 
 outcomes-requires : tie.Need-outcomes-requires

@@ -6,7 +6,7 @@ use Rattle.permission.specs.Codes.{unprotectedCode}
 use Rattle.tree.proofs.Meaning.{means-after}
 use Rattle.tree.proofs.Visits.{held-ready, means-release}
 use Rattle.tree.proofs.Releases.{held-row, unprotected-table, unprotected-holds}
-use Rattle.tree.proofs.Places.{put-back}
+use Rattle.visit.proofs.Places.{put-back}
 use Rattle.tree.proofs.Held.{node-fits, held-count}
 use native.Mathlib.Omega.{arith}
 use borrow.Author.Needs.{needs}
@@ -16,7 +16,7 @@ use Rattle.tree.proofs.apply_release.Reads as reads
 use Rattle.tree.proofs.apply_release.Lts as lts
 use Rattle.permission.proofs.end_lines.Reads as end-lines-reads
 use Rattle.permission.proofs.outcomes.Reads as outcomes-reads
-use Rattle.tree.proofs.apply.Reads as apply-reads
+use Rattle.visit.proofs.apply.Reads as apply-reads
 use Rattle.tree.proofs.unprotect_row.Reads as unprotect-row-reads
 
 mul-start : tie.Need-mul-start

@@ -8,7 +8,7 @@ use lib.ListN.{length}
 use Rattle.definition.specs.Notation.{any}
 use Rattle.permission.specs.Codes.{isProtectedCode}
 use Rattle.tree.proofs.Releases.{lacks-mark, lacks-code}
-use Rattle.tree.proofs.Places.{part-row}
+use Rattle.visit.proofs.Places.{part-row}
 use Rattle.tree.proofs.Held.{held-fits, marks-count}
 use Rattle.tree.proofs.lacks_protector.Statement.{statement}
 use Rattle.tree.proofs.lacks_protector.Tie as tie

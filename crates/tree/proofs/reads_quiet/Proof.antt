@@ -4,7 +4,7 @@ use mathlib.Core.Path.{refl, sym, _∙_}
 use native.Mathlib.Nat.{le-refl}
 use Rattle.tree.proofs.Meaning.{means-refusal}
 use Rattle.tree.proofs.Visits.{held-ready, means-reads, means-all}
-use Rattle.tree.proofs.Sweeps.{unmarked, quiet-none}
+use Rattle.visit.proofs.Sweeps.{unmarked, quiet-none}
 use native.Mathlib.Omega.{arith}
 use borrow.Author.Needs.{needs}
 use Rattle.tree.proofs.reads_quiet.Statement.{statement}
@@ -13,8 +13,8 @@ use Rattle.tree.proofs.reads_quiet.Reads as reads
 use Rattle.tree.proofs.reads_quiet.Lts as lts
 use Rattle.permission.proofs.init_lines.Reads as init-lines-reads
 use Rattle.permission.proofs.outcomes.Reads as outcomes-reads
-use Rattle.tree.proofs.is_quiet.Reads as is-quiet-reads
-use Rattle.tree.proofs.look_at_nodes.Reads as look-at-nodes-reads
+use Rattle.visit.proofs.is_quiet.Reads as is-quiet-reads
+use Rattle.visit.proofs.look_at_nodes.Reads as look-at-nodes-reads
 use Rattle.tree.proofs.reads_all.Reads as reads-all-reads
 
 outcomes-requires : tie.Need-outcomes-requires

@@ -1,5 +1,5 @@
 -- A scratch of zeros.
-use Rattle.tree.proofs.Plans.{zeros}
+use Rattle.visit.proofs.Plans.{zeros}
 use native.Mathlib.Omega.{arith}
 use borrow.Author.Needs.{needs}
 use Rattle.tree.proofs.release.Statement.{statement}

@@ -8,7 +8,7 @@ use lib.ListN.{length}
 use Rattle.definition.specs.Memory.Liveness.{Dead}
 use Rattle.permission.specs.Codes.{unprotectedCode}
 use Rattle.tree.proofs.Releases.{unprotected-table, dead-marks, release-16, release-visits, release-accepted, release-refused}
-use Rattle.tree.proofs.Places.{put-back}
+use Rattle.visit.proofs.Places.{put-back}
 use Rattle.tree.proofs.Held.{held-fits, marks-count}
 use Rattle.tree.proofs.release_dead.Statement.{statement}
 use Rattle.tree.proofs.release_dead.Tie as tie

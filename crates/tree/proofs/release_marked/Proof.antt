@@ -5,7 +5,7 @@ use mathlib.Core.Path.{sym, ap, _∙_}
 use lib.ListN.{set}
 use Rattle.definition.specs.Memory.Liveness.{Live}
 use Rattle.tree.proofs.Releases.{root-lacks, released-marks, release-protected, release-accepted, release-refused}
-use Rattle.tree.proofs.Places.{lent-row}
+use Rattle.visit.proofs.Places.{lent-row}
 use Rattle.tree.proofs.Held.{node-fits, held-count, marks-count}
 use native.Mathlib.Omega.{arith}
 use borrow.Author.Needs.{needs}

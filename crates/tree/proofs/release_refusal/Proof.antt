@@ -2,7 +2,7 @@
 use mathlib.Core.Path.{refl, sym, _∙_}
 use Rattle.definition.specs.Frame.{releaseVisit, unprotectNode}
 use Rattle.definition.specs.Memory.Liveness.{Live}
-use Rattle.tree.proofs.Places.{copied-row, lent-row}
+use Rattle.visit.proofs.Places.{copied-row, lent-row}
 use Rattle.tree.proofs.Meaning.{means-refusal}
 use Rattle.tree.proofs.Visits.{held-ready, means-release}
 use Rattle.tree.proofs.Releases.{held-row, root-lacks, spared-unread, release-16, release-visits}
@@ -15,7 +15,7 @@ use Rattle.tree.proofs.release_refusal.Reads as reads
 use Rattle.tree.proofs.release_refusal.Lts as lts
 use Rattle.permission.proofs.end_lines.Reads as end-lines-reads
 use Rattle.permission.proofs.outcomes.Reads as outcomes-reads
-use Rattle.tree.proofs.check.Reads as check-reads
+use Rattle.visit.proofs.check.Reads as check-reads
 use Rattle.tree.proofs.copy_row.Reads as copy-row-reads
 use Rattle.tree.proofs.lacks_protector.Reads as lacks-protector-reads
 

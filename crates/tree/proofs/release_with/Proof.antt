@@ -1,16 +1,16 @@
 -- The part of the scratch that the marks take: nothing, or one for each node.
-use Rattle.tree.proofs.Sweeps.{marks-lent}
+use Rattle.visit.proofs.Sweeps.{marks-lent}
 use mathlib.Core.Path.{sym, _∙_}
 use lib.ListN.{drop}
 use lib.Seq.{length-take-le}
-use Rattle.tree.proofs.Plans.{zeros-taken, lent-long}
+use Rattle.visit.proofs.Plans.{zeros-taken, lent-long}
 use native.Mathlib.Omega.{arith}
 use borrow.Author.Needs.{needs}
 use Rattle.tree.proofs.release_with.Statement.{statement}
 use Rattle.tree.proofs.release_with.Tie as tie
 use Rattle.tree.proofs.release_with.Reads as reads
 use Rattle.tree.proofs.release_with.Lts as lts
-use Rattle.tree.proofs.mark_spared.Reads as mark-spared-reads
+use Rattle.visit.proofs.mark_spared.Reads as mark-spared-reads
 use Rattle.tree.proofs.marks_size.Reads as marks-size-reads
 use Rattle.tree.proofs.release_marked.Reads as release-marked-reads
 

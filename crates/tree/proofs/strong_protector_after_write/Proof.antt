@@ -14,16 +14,16 @@ use Rattle.tree.specs.Table.{HoldsAll}
 use Rattle.tree.proofs.Strong.{strong-prevents, other-prevents-not}
 use Rattle.tree.proofs.Loops.{any-at, any-none}
 use Rattle.tree.proofs.Held.{node-fits, held-count, marks-count}
-use Rattle.tree.proofs.Sweeps.{Sweeping, sweeping-start, sweeping-up, sweeping-on, met}
+use Rattle.visit.proofs.Sweeps.{Sweeping, sweeping-start, sweeping-up, sweeping-on, met}
 use borrow.Author.Needs.{needs}
 use native.Mathlib.Omega.{arith}
 use Rattle.tree.proofs.strong_protector_after_write.Statement.{statement}
 use Rattle.tree.proofs.strong_protector_after_write.Tie as tie
 use Rattle.tree.proofs.strong_protector_after_write.Reads as reads
 use Rattle.tree.proofs.strong_protector_after_write.Lts as lts
-use Rattle.tree.proofs.relation_on.Reads as relation-on-reads
+use Rattle.visit.proofs.relation_on.Reads as relation-on-reads
 use Rattle.tree.proofs.row_prevents_after_write.Reads as row-prevents-after-write-reads
-use Rattle.tree.proofs.wide.Reads as wide-reads
+use Rattle.visit.proofs.wide.Reads as wide-reads
 
 abbrev Inv-loop : tie.InvT-loop
 Inv-loop parents protectors codes width node path₀ n₀ path n = Sweeping parents node path n × ((nodes : List Node) → HoldsAll nodes width parents protectors codes → (k : ℕ) → n ≤ k → k < length nodes → nodePreventsDeallocation (nodeAt (visited (accessVisit Write node 0 width) nodes) k) ≡ false)

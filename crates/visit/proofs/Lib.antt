@@ -1,0 +1,8 @@
+pub mod Steps
+pub mod Rows
+pub mod Places
+pub mod Walks
+pub mod Children
+pub mod Plans
+pub mod Sweeps
+pub mod Counted

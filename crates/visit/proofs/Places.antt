@@ -1,0 +1,55 @@
+-- Where the rows of a table stand.
+use Prim.Native.Nat.{ℕ, _+_, _-_, _*_, _≤_, _<_}
+use mathlib.Core.Path.{_≡_, ap, ap₂, subst, _∙_}
+use mathlib.Core.List.{List, _++_}
+use native.Mathlib.Nat.{suc-mul, mul-le-mul-right}
+use native.Mathlib.Omega.{arith}
+use lib.ListN.{length, take, drop, length-drop, take-append-drop}
+use lib.Seq.{length-take-le, take-at}
+use Rattle.visit.specs.declared.Reach.{Reach}
+use Rattle.visit.specs.Walk.{Ready, rowAt, withRowAt}
+
+-- row n ends within a table of k rows
+pub row-fits : (n k w : ℕ) → n < k → n * w + w ≤ k * w
+row-fits n k w h = subst (λ (m : ℕ). m ≤ k * w) (suc-mul n w) (mul-le-mul-right w h)
+
+pub row-in : (v : Reach) (ps codes : List ℕ) (n : ℕ) → Ready v ps codes → n < length ps → n * v .width + v .width ≤ length codes
+row-in v ps codes n r h = omega (arith, r .rows, row-fits n (length ps) (v .width) h)
+
+pub width-of : (a w : ℕ) → a + w - a ≡ w
+width-of a w = omega arith
+
+-- the part that is lent as row n, and the table when it is given back changed
+pub part-row : (w n : ℕ) (codes : List ℕ) → take (n * w + w - n * w) (drop (n * w) codes) ≡ rowAt w n codes
+part-row w n codes = ap (λ (k : ℕ). take k (drop (n * w) codes)) (width-of (n * w) w)
+
+pub put-back : (f : List ℕ → List ℕ) (w n : ℕ) (codes row : List ℕ) → row ≡ f (take (n * w + w - n * w) (drop (n * w) codes))
+    → take (n * w) codes ++ (row ++ drop (n * w + w - n * w) (drop (n * w) codes)) ≡ withRowAt w n (f (rowAt w n codes)) codes
+put-back f w n codes row e =
+    ap₂ (λ (r : List ℕ) (k : ℕ). take (n * w) codes ++ (r ++ drop k (drop (n * w) codes))) (e ∙ ap f (part-row w n codes)) (width-of (n * w) w)
+
+-- a row that is put back as it was
+pub same-row : (w n : ℕ) (codes : List ℕ) → withRowAt w n (rowAt w n codes) codes ≡ codes
+same-row w n codes = ap (λ (l : List ℕ). take (n * w) codes ++ l) (take-append-drop w (drop (n * w) codes)) ∙ take-append-drop (n * w) codes
+
+pub row-length : (w n : ℕ) (codes : List ℕ) → n * w + w ≤ length codes → length (rowAt w n codes) ≡ w
+row-length w n codes fits = length-take-le w (drop (n * w) codes) (omega (arith, length-drop (n * w) codes))
+
+pub part-length : (w n : ℕ) (codes : List ℕ) → n * w + w ≤ length codes → length (take (n * w + w - n * w) (drop (n * w) codes)) ≡ w
+part-length w n codes fits = ap length (part-row w n codes) ∙ row-length w n codes fits
+
+-- row n copied to the front of a lent row
+module _ (w n : ℕ) (codes lent out : List ℕ) (fits : n * w + w ≤ length codes) where
+  pub copied-row : out ≡ take (n * w + w - n * w) (drop (n * w) codes) ++ drop (length (take (n * w + w - n * w) (drop (n * w) codes))) lent
+      → out ≡ rowAt w n codes ++ drop w lent
+  copied-row e =
+      e
+      ∙ ap (λ (row : List ℕ). row ++ drop (length row) lent) (part-row w n codes)
+      ∙ ap (λ (k : ℕ). rowAt w n codes ++ drop k lent) (row-length w n codes fits)
+
+  pub lent-row : out ≡ rowAt w n codes ++ drop w lent → take w out ≡ rowAt w n codes
+  lent-row e = ap (take w) e ∙ take-at (rowAt w n codes) (drop w lent) w (row-length w n codes fits)
+
+-- a table of the same length is as ready
+pub ready-again : (v : Reach) (ps codes codes′ : List ℕ) → length codes′ ≡ length codes → Ready v ps codes → Ready v ps codes′
+ready-again v ps codes codes′ e r = record { tree = r .tree; node = r .node; inside = r .inside; rows = e ∙ r .rows }

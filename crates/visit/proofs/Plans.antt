@@ -1,0 +1,210 @@
+-- How a plan is made: the children are linked from the last node down, and the path is marked from the accessed node up.
+use Prim.Native.Nat.{ℕ, suc, _+_, _*_, _≤_, _<_}
+use mathlib.Core.Path.{_≡_, refl, sym, ap, subst, _∙_}
+use mathlib.Core.Bool.{Bool, true, false, not, _||_, or-true, or-false}
+use mathlib.Core.List.{List, _++_}
+use mathlib.Core.Logic.{_⊎_, inl, inr, ⊎-elim}
+use native.Mathlib.Nat.{le-refl, min-le-left}
+use native.Mathlib.Decide.{ℕ-discrete, decLt}
+use native.Mathlib.Omega.{arith}
+use borrow.Author.Tests.{eq-eqb, ne-eqb}
+use lib.Dec.{eqb}
+use lib.ListN.{length, getD, take, drop, set, replicate, getD-replicate, length-replicate, length-take, List·getD-eq-default}
+use lib.Seq.{getD-set-same, getD-set-other, getD-take, length-take-le, take-at}
+use Rattle.definition.specs.Notation.{if_then_else_}
+use Rattle.definition.specs.Permission.NodeRelation.{Local, Foreign}
+use Rattle.definition.specs.Tree.{relation, isAbove}
+use Rattle.definition.proofs.Trees.{Parents, parent-earlier, above-itself, above-parent, root-above, not-above-smaller}
+use Rattle.permission.specs.Codes.{outcomeTable}
+use Rattle.visit.specs.declared.Reach.{Reach}
+use Rattle.visit.specs.Plan.{childFrom, Linked, Marked, Planned, Zeros, Roomy, Unmarked, SameLinks}
+use Rattle.visit.proofs.Children.{search-here, search-spared, search-other, search-end, search-from}
+
+-- ---- the links
+-- the nodes from m on are linked
+pub record Linking (s : ℕ) (ps plan : List ℕ) (m : ℕ) : Type 0 where
+  pub first : (k : ℕ) → k < length ps → getD plan (3 * k) 0 ≡ childFrom s k m (drop m ps)
+  pub next : (k : ℕ) → m ≤ k → k < length ps → getD plan (3 * k + 1) 0 ≡ childFrom s (getD ps k 0) (k + 1) (drop (k + 1) ps)
+  pub unmarked : Unmarked plan
+
+module _ (s : ℕ) (ps : List ℕ) where
+  pub linking-none : (plan : List ℕ) → Zeros plan → Linking s ps plan (length ps)
+  linking-none plan z =
+      record { first = λ k l. z (3 * k) ∙ sym (search-end s ps k (length ps) (le-refl (length ps))); next = λ k h l. absurd (omega arith); unmarked = λ k. z (3 * k + 2) }
+
+  pub linked : Parents ps → (plan : List ℕ) → Roomy ps plan → (m : ℕ) → m ≤ 1 → (0 < length ps → 0 < m) → Linking s ps plan m → Linked s ps plan
+  linked tree plan room m h z links =
+      record {
+        first = λ k l.
+            let inside : k < length ps = omega (arith, room .size) in
+            let some = z (omega arith) in
+            links .first k inside ∙ search-from s ps tree k k m (omega arith) some;
+        next = λ k q l. links .next k (omega arith) (omega (arith, room .size));
+      }
+
+  -- node m in front of the children of its parent
+  module _ (plan : List ℕ) (m : ℕ) (room : Roomy ps plan) (z : 0 < m) (l : m < length ps) (p : ℕ) (e : p ≡ getD ps m 0) (below : p < m) (links : Linking s ps plan (m + 1)) where
+    abbrev followed : List ℕ
+    followed = set plan (3 * m + 1) (getD plan (3 * p) 0)
+
+    next-linked : (k : ℕ) → m ≤ k → k < length ps → getD followed (3 * k + 1) 0 ≡ childFrom s (getD ps k 0) (k + 1) (drop (k + 1) ps)
+    next-linked k h i =
+        elim (ℕ-discrete k m) [
+          | yes q ↦
+              subst (λ (j : ℕ). getD followed (3 * j + 1) 0 ≡ childFrom s (getD ps j 0) (j + 1) (drop (j + 1) ps)) (sym q)
+              (getD-set-same plan (3 * m + 1) (getD plan (3 * p) 0) 0 (omega (arith, room .size))
+              ∙ links .first p (omega arith)
+              ∙ ap (λ (j : ℕ). childFrom s j (m + 1) (drop (m + 1) ps)) e)
+          | no q ↦ getD-set-other plan (3 * m + 1) (3 * k + 1) _ 0 (λ r. absurd (omega arith)) ∙ links .next k (omega arith) i
+        ]
+
+    first-kept : (k : ℕ) → k < length ps → getD followed (3 * k) 0 ≡ childFrom s k (m + 1) (drop (m + 1) ps)
+    first-kept k i = getD-set-other plan (3 * m + 1) (3 * k) _ 0 (λ r. absurd (omega arith)) ∙ links .first k i
+
+    unmarked-kept : Unmarked followed
+    unmarked-kept k = getD-set-other plan (3 * m + 1) (3 * k + 2) _ 0 (λ r. absurd (omega arith)) ∙ links .unmarked k
+
+    pub linked-spared : m ≡ s → Linking s ps followed m
+    linked-spared q =
+        record {
+          first = λ k i.
+              elim (ℕ-discrete (getD ps m 0) k) [
+                | yes c ↦ first-kept k i ∙ sym (search-spared s ps k m l c q)
+                | no c ↦ first-kept k i ∙ sym (search-other s ps k m l c)
+              ];
+          next = next-linked;
+          unmarked = unmarked-kept;
+        }
+
+    pub linked-first : (m ≡ s → ⊥) → length followed ≡ length plan → Linking s ps (set followed (3 * p) m) m
+    linked-first q same =
+        record {
+          first = λ k i.
+              elim (ℕ-discrete k p) [
+                | yes c ↦
+                    subst (λ (j : ℕ). getD (set followed (3 * p) m) (3 * j) 0 ≡ childFrom s j m (drop m ps)) (sym c)
+                    (getD-set-same followed (3 * p) m 0 (omega (arith, same, room .size)) ∙ sym (search-here s ps p m l (sym e) q))
+                | no c ↦
+                    getD-set-other followed (3 * p) (3 * k) m 0 (λ r. absurd (omega arith)) ∙ first-kept k i ∙ sym (search-other s ps k m l (λ r. c (sym (e ∙ r))))
+              ];
+          next = λ k h i. getD-set-other followed (3 * p) (3 * k + 1) m 0 (λ r. absurd (omega arith)) ∙ next-linked k h i;
+          unmarked = λ k. getD-set-other followed (3 * p) (3 * k + 2) m 0 (λ r. absurd (omega arith)) ∙ unmarked-kept k;
+        }
+
+-- ---- the path
+-- what is marked, or lies above n, is what lies above the accessed node; the links are as before
+pub record Marking (ps : List ℕ) (accessed : ℕ) (before plan : List ℕ) (n : ℕ) : Type 0 where
+  pub path : (k : ℕ) → k < length ps → isAbove ps k accessed ≡ (not (eqb (getD plan (3 * k + 2) 0) 0) || isAbove ps k n)
+  pub same : SameLinks before plan
+
+pub same-links : (plan : List ℕ) → SameLinks plan plan
+same-links plan = record { first = λ k. refl; next = λ k. refl }
+
+pub links-kept : (s : ℕ) (ps before after : List ℕ) → length after ≡ length before → SameLinks before after → Linked s ps before → Linked s ps after
+links-kept s ps before after e same links =
+    record { first = λ k l. same .first k ∙ links .first k (omega arith); next = λ k z l. same .next k ∙ links .next k z (omega arith) }
+
+module _ (ps : List ℕ) (tree : Parents ps) (accessed : ℕ) where
+  pub marking-none : (plan : List ℕ) → Unmarked plan → Marking ps accessed plan plan accessed
+  marking-none plan z = record { path = λ k l. sym (rw (z k)); same = same-links plan }
+
+  module _ (before plan : List ℕ) (n : ℕ) (l : 3 * n + 2 < length plan) (marks : Marking ps accessed before plan n) where
+    abbrev marked : List ℕ
+    marked = set plan (3 * n + 2) 1
+
+    same-marked : SameLinks before marked
+    same-marked =
+        record {
+          first = λ k. getD-set-other plan (3 * n + 2) (3 * k) 1 0 (λ r. absurd (omega arith)) ∙ marks .same .first k;
+          next = λ k. getD-set-other plan (3 * n + 2) (3 * k + 1) 1 0 (λ r. absurd (omega arith)) ∙ marks .same .next k;
+        }
+
+    -- n is marked, and lies above the accessed node
+    here : n < length ps → isAbove ps n accessed ≡ true
+    here i = marks .path n i ∙ rw (above-itself ps n) (or-true (not (eqb (getD plan (3 * n + 2) 0) 0)))
+
+    mark-here : not (eqb (getD marked (3 * n + 2) 0) 0) ≡ true
+    mark-here = rw (getD-set-same plan (3 * n + 2) 1 0 l)
+
+    mark-other : (k : ℕ) → (k ≡ n → ⊥) → getD marked (3 * k + 2) 0 ≡ getD plan (3 * k + 2) 0
+    mark-other k q = getD-set-other plan (3 * n + 2) (3 * k + 2) 1 0 (λ r. absurd (omega arith))
+
+    pub marked-up : 0 < n → (up : ℕ) → up ≡ getD ps n 0 → Marking ps accessed before marked up
+    marked-up z up e =
+        record {
+          path = λ k i.
+              elim (ℕ-discrete k n) [
+                | yes q ↦
+                    subst (λ (j : ℕ). isAbove ps j accessed ≡ (not (eqb (getD marked (3 * j + 2) 0) 0) || isAbove ps j up)) (sym q)
+                    (here (omega arith) ∙ sym (ap (λ (b : Bool). b || isAbove ps n up) mark-here))
+                | no q ↦
+                    marks .path k i
+                    ∙ ap (λ (b : Bool). not (eqb (getD plan (3 * k + 2) 0) 0) || b) (above-parent ps tree k n z ∙ rw (ne-eqb n k (λ r. q (sym r)), sym e))
+                    ∙ ap (λ (x : ℕ). not (eqb x 0) || isAbove ps k up) (sym (mark-other k q))
+              ];
+          same = same-marked;
+        }
+
+    told : (up flag : Bool) → up ≡ not flag → (if up then Local else Foreign) ≡ (if flag then Foreign else Local)
+    told true true e = cc
+    told true false e = refl
+    told false true e = refl
+    told false false e = cc
+
+    pub marked-root : n ≡ 0 → Roomy ps plan → length marked ≡ length plan → Marked accessed ps marked
+    unfolding relation
+    marked-root z room same =
+        record {
+          path = λ k i.
+              told (isAbove ps k accessed) (eqb (getD marked (3 * k + 2) 0) 0)
+              (elim (ℕ-discrete k n) [
+                | yes q ↦
+                    subst (λ (j : ℕ). isAbove ps j accessed ≡ not (eqb (getD marked (3 * j + 2) 0) 0)) (sym q) (here (omega (arith, room .size)) ∙ sym mark-here)
+                | no q ↦
+                    marks .path k (omega (arith, same, room .size))
+                    ∙ ap (λ (b : Bool). not (eqb (getD plan (3 * k + 2) 0) 0) || b) (not-above-smaller ps tree k n (omega arith))
+                    ∙ or-false (not (eqb (getD plan (3 * k + 2) 0) 0))
+                    ∙ ap (λ (x : ℕ). not (eqb x 0)) (sym (mark-other k q))
+              ]);
+        }
+
+    pub marked-same : SameLinks before marked
+    marked-same = same-marked
+
+-- ---- a plan of no nodes
+pub no-links : (s : ℕ) (ps plan : List ℕ) → length plan ≡ 0 → Linked s ps plan
+no-links s ps plan e = record { first = λ k l. absurd (omega arith); next = λ k z l. absurd (omega arith) }
+
+pub no-marks : (accessed : ℕ) (ps plan : List ℕ) → length plan ≡ 0 → Marked accessed ps plan
+no-marks accessed ps plan e = record { path = λ k l. absurd (omega arith) }
+
+pub roomy-still : {ps plan after : List ℕ} → length after ≡ length plan → Roomy ps plan → Roomy ps after
+roomy-still e room = record { size = e ∙ room .size; few = room .few }
+
+-- ---- the part of a scratch of zeros that a plan takes
+pub zeros : (n : ℕ) → Zeros (replicate n 0)
+zeros n i = elim (decLt i n) [
+  | yes l ↦ getD-replicate n i 0 0 l
+  | no l ↦ List·getD-eq-default (replicate n 0) 0 {n = i} (omega (arith, length-replicate {A = ℕ} n 0))
+]
+
+module _ (scratch : List ℕ) (size : ℕ) where
+  pub zeros-taken : Zeros scratch → Zeros (take size scratch)
+  zeros-taken z i = elim (decLt i size) [
+    | yes l ↦ getD-take size scratch i 0 l ∙ z i
+    | no l ↦ List·getD-eq-default (take size scratch) 0 {n = i} (omega (arith, length-take size scratch, min-le-left size (length scratch)))
+  ]
+
+pub room-taken : (ps scratch : List ℕ) (size : ℕ) → size ≤ length scratch → ((size ≡ 0) ⊎ ((size ≡ 3 * length ps) × (length ps ≤ 1024)))
+    → (length (take size scratch) ≡ 0) ⊎ Roomy ps (take size scratch)
+room-taken ps scratch size l cases =
+    let long = length-take-le size scratch l in
+    ⊎-elim (λ e. inl (long ∙ e)) (λ e. inr (record { size = long ∙ e .0; few = e .1 })) cases
+
+-- lent again, once it is made
+pub lent-long : (plan rest : List ℕ) (size : ℕ) → length plan ≡ size → size ≡ length (take size (plan ++ rest))
+lent-long plan rest size e = sym (ap length (take-at plan rest size e) ∙ e)
+
+pub planned-lent : (v : Reach) (ps plan rest : List ℕ) (size : ℕ) → length plan ≡ size → Linked (v .spared) ps plan × Marked (v .node) ps plan → Planned v ps (take size (plan ++ rest))
+planned-lent v ps plan rest size e made =
+    subst (λ (p : List ℕ). Planned v ps p) (sym (take-at plan rest size e)) (record { links = made .0; marks = made .1 })

@@ -1,0 +1,29 @@
+-- The node's row, in the relation that the plan tells.
+use mathlib.Core.Path.{ap, _∙_}
+use Rattle.definition.specs.Permission.{NodeRelation}
+use Rattle.visit.specs.Walk.{rowAt, rowRefusal, nodeRefusal}
+use Rattle.visit.proofs.Places.{row-in}
+use native.Mathlib.Omega.{arith}
+use borrow.Author.Needs.{needs}
+use Rattle.visit.proofs.check_node.Statement.{statement}
+use Rattle.visit.proofs.check_node.Tie as tie
+use Rattle.visit.proofs.check_node.Reads as reads
+use Rattle.visit.proofs.check_node.Lts as lts
+use Rattle.visit.proofs.check_at.Reads as check-at-reads
+use Rattle.visit.proofs.planned_relation.Reads as planned-relation-reads
+
+planned-relation-requires : tie.Need-planned-relation-requires
+planned-relation-requires c κs = search needs
+
+check-at-requires : tie.Need-check-at-requires
+check-at-requires c κs = let s = c .before .before .before .before .before in (s .pre .0 .1, (row-in (s .args .v) (s .args .parents .now) (s .args .codes .now) (s .args .n) (s .pre .1 .0) (s .pre .1 .1), s .pre .1 .0 .inside))
+
+returns : tie.Need-returns
+unfolding nodeRefusal
+returns c =
+    let s = c .before .before .before .before .before .before in
+    c .check-at .ensures
+    ∙ ap (λ (r : NodeRelation). rowRefusal (s .args .v) (s .args .starts .now) r (rowAt (s .args .v .width) (s .args .n) (s .args .codes .now))) (c .before .planned-relation .ensures)
+
+pub check-node-spec : {M : Type 1} → statement M
+check-node-spec = tie.close (tie.spec planned-relation-requires check-at-requires returns)

@@ -1,0 +1,45 @@
+-- The plan of a visit: for node k, three numbers from place 3 * k on.
+use Prim.Native.Nat.{ℕ, suc, _+_, _*_, _≤_, _<_}
+use mathlib.Core.Path.{_≡_}
+use mathlib.Core.List.{List, [], _∷_}
+use lib.Dec.{eqb}
+use lib.ListN.{length, getD, drop}
+use Rattle.definition.specs.Notation.{if_then_else_}
+use Rattle.definition.specs.Permission.NodeRelation.{Local, Foreign}
+use Rattle.definition.specs.Tree.{relation}
+use Rattle.visit.specs.declared.Reach.{Reach}
+
+-- the first child of n among the nodes m, m + 1, .., whose parents are listed, but for s; 0 where there is none
+unfoldable pub childFrom : ℕ → ℕ → ℕ → List ℕ → ℕ
+childFrom s n m [] = 0
+childFrom s n m (p ∷ ps) = if eqb p n then (if eqb m s then childFrom s n (suc m) ps else m) else childFrom s n (suc m) ps
+
+-- the nodes that the plan has numbers for have their first child and their next sibling in it
+pub record Linked (s : ℕ) (ps plan : List ℕ) : Type 0 where
+  pub first : (k : ℕ) → 3 * k + 2 < length plan → getD plan (3 * k) 0 ≡ childFrom s k (k + 1) (drop (k + 1) ps)
+  pub next : (k : ℕ) → 0 < k → 3 * k + 2 < length plan → getD plan (3 * k + 1) 0 ≡ childFrom s (getD ps k 0) (k + 1) (drop (k + 1) ps)
+
+-- and what they are to the accessed node
+pub record Marked (accessed : ℕ) (ps plan : List ℕ) : Type 0 where
+  pub path : (k : ℕ) → 3 * k + 2 < length plan → relation ps k accessed ≡ (if eqb (getD plan (3 * k + 2) 0) 0 then Foreign else Local)
+
+-- the plan of a visit
+pub record Planned (v : Reach) (ps plan : List ℕ) : Type 0 where
+  pub links : Linked (v .spared) ps plan
+  pub marks : Marked (v .node) ps plan
+
+-- ---- while it is made
+abbrev pub Zeros : List ℕ → Type 0
+Zeros plan = (i : ℕ) → getD plan i 0 ≡ 0
+
+-- a plan for all nodes, or for none
+pub record Roomy (ps plan : List ℕ) : Type 0 where
+  pub size : length plan ≡ 3 * length ps
+  pub few : length ps ≤ 1024
+
+abbrev pub Unmarked : List ℕ → Type 0
+Unmarked plan = (k : ℕ) → getD plan (3 * k + 2) 0 ≡ 0
+
+pub record SameLinks (before after : List ℕ) : Type 0 where
+  pub first : (k : ℕ) → getD after (3 * k) 0 ≡ getD before (3 * k) 0
+  pub next : (k : ℕ) → getD after (3 * k + 1) 0 ≡ getD before (3 * k + 1) 0
