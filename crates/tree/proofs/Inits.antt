@@ -12,14 +12,13 @@ use borrow.Author.Tests.{lt-ltb, le-ltb}
 use lib.ListN.{length, getD, drop, replicate, length-map, drop-of-length-le, List·getD-map, List·getD-eq-default}
 use Rattle.definition.specs.Notation.{_or_, firstRefusal}
 use Rattle.definition.specs.Permission.{AccessKind, NodeRelation, Permission, permissions, permission, initAccess, refusalBy}
-use Rattle.definition.specs.Permission.AccessKind.{Read}
+use Rattle.definition.specs.Permission.AccessKind.{Read, Write}
 use Rattle.definition.specs.Permission.Permission.{Unprot}
 use Rattle.definition.specs.Permission.PermissionUnprot.{Cell}
 use Rattle.definition.specs.Tree.{Node, rowRefusal, nodeRefusal, visitRefusal, accessVisit}
 use Rattle.definition.proofs.Ranges.{range-places, list-places}
 use Rattle.definition.proofs.Retags.{byteRefusal, readsRefusal, readsVisit, reads-step}
-use Rattle.permission.specs.Codes.{initAccessCode}
-use Rattle.visit.specs.Walk.{readsAt}
+use Rattle.permission.specs.Codes.{initAccessCode, lineIn, lineAt}
 use Rattle.visit.proofs.Rows.{or-positive}
 
 -- a number that is no code is read as Cell, which has no access either
@@ -131,16 +130,26 @@ module _ (node from : ℕ) (inside : List ℕ) (nodes : List Node) (none-refused
   pub reads-none : readsRefusal node from (map permission inside) nodes ≡ 0
   reads-none = sym (reads-all node from inside nodes) ∙ left-none (length inside) 0 (omega arith)
 
--- ---- bytes that are all read
-abbrev pub ReadTo : List ℕ → ℕ → Type 0
-ReadTo inside k = (j : ℕ) → j < k → initAccessCode (getD inside j 0) ≡ some Read
+-- ---- codes that all tell a read
+read-line : (x : Option AccessKind) → lineIn x ≡ 16 → x ≡ some Read
+read-line none e = absurd (omega arith)
+read-line (some Read) e = refl
+read-line (some Write) e = absurd (omega arith)
 
-pub read-next : (inside : List ℕ) (k : ℕ) → ReadTo inside k → initAccessCode (getD inside k 0) ≡ some Read → ReadTo inside (k + 1)
-read-next inside k before here j l = elim (ℕ-discrete j k) [
-  | yes e ↦ subst⁻¹ (λ (i : ℕ). initAccessCode (getD inside i 0) ≡ some Read) e here
-  | no e ↦ before j (omega arith)
+abbrev pub ReadTo : List ℕ → List ℕ → ℕ → Type 0
+ReadTo lines codes n = (k : ℕ) → k < n → lineAt lines (getD codes k 0) ≡ 16
+
+pub read-next : (lines codes : List ℕ) (n : ℕ) → ReadTo lines codes n → lineAt lines (getD codes n 0) ≡ 16 → ReadTo lines codes (n + 1)
+read-next lines codes n before here k l = elim (ℕ-discrete k n) [
+  | yes e ↦ subst⁻¹ (λ (i : ℕ). lineAt lines (getD codes i 0) ≡ 16) e here
+  | no e ↦ before k (omega arith)
 ]
 
-pub all-read : (inside : List ℕ) → ReadTo inside (length inside) → readsAt inside ≡ replicate (length inside) (some Read)
-all-read [] h = refl
-all-read (c ∷ cs) h = ap₂ _∷_ (h 0 (omega arith)) (all-read cs (λ j l. h (suc j) (omega arith)))
+pub all-read : (access : ℕ → Option AccessKind) (lines : List ℕ) → ((c : ℕ) → lineAt lines c ≡ lineIn (access c)) → (codes : List ℕ) → ReadTo lines codes (length codes)
+    → map access codes ≡ replicate (length codes) (some Read)
+all-read access lines told [] h = refl
+all-read access lines told (c ∷ cs) h = ap₂ _∷_ (read-line (access c) (sym (told c) ∙ h 0 (omega arith))) (all-read access lines told cs (λ k l. h (suc k) (omega arith)))
+
+-- lines that are these ones tell the same
+pub told-by : (access : ℕ → Option AccessKind) (these lines : List ℕ) → ((c : ℕ) → lineAt these c ≡ lineIn (access c)) → lines ≡ these → (c : ℕ) → lineAt lines c ≡ lineIn (access c)
+told-by access these lines told e c = ap (λ (l : List ℕ). lineAt l c) e ∙ told c

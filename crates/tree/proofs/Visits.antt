@@ -20,10 +20,11 @@ use Rattle.permission.specs.Codes.{accessKind, endAccessCode, initAccessCode}
 use Rattle.permission.proofs.Codes.{end-access-code}
 use Rattle.permission.specs.declared.AccessKind as declared
 use Rattle.permission.specs.declared.AccessKind.the-variants as kinds
+use Rattle.visit.specs.declared.Accesses.{Accesses}
 use Rattle.visit.specs.declared.Accesses.the-variants.{Each, AtEnd, AtInit}
 use Rattle.visit.specs.declared.Reach.{Reach}
 use Rattle.tree.specs.Table.{rowsOf, Holds}
-use Rattle.visit.specs.Walk.{Ready, readsAt}
+use Rattle.visit.specs.Walk.{Ready, EndsWith, accessesAt}
 use Rattle.tree.specs.Requests.{unlessRefused, Visited}
 use Rattle.tree.proofs.Held.{rows-length}
 use Rattle.tree.proofs.Meaning.{Means}
@@ -50,6 +51,15 @@ same-ends : (row : List Permission) → map endAccessCode (map code row) ≡ map
 same-ends [] = refl
 same-ends (p ∷ row) = ap₂ _∷_ (end-access-code p) (same-ends row)
 
+-- the accesses of a row that is the front of what is lent
+ends-alike : (what : Accesses) (width : ℕ) (lent : List ℕ) → length (take width lent) ≡ width → accessesAt what width lent ≡ accessesAt what (length (take width lent)) (take width lent)
+ends-alike (Each a) width lent e = ap (λ (n : ℕ). replicate n (some (accessKind a))) (sym e)
+ends-alike AtEnd width lent e = ap (map endAccessCode) (sym (take-length (take width lent)))
+ends-alike AtInit width lent e = ap (map initAccessCode) (sym (take-length (take width lent)))
+
+pub ends-taken : (what : Accesses) (width : ℕ) (lent : List ℕ) → length (take width lent) ≡ width → EndsWith (take width lent) what → accessesAt what width lent ≡ map endAccessCode (take width lent)
+ends-taken what width lent e ends = ends-alike what width lent e ∙ ends .same
+
 module _ (ps : List ℕ) (tree : Parents ps) (root : 0 < length ps) (width : ℕ) where
   -- no node has the number that is spared
   none-above : (n : ℕ) → n < length ps → isAbove ps (length ps) n ≡ false
@@ -73,7 +83,7 @@ module _ (ps : List ℕ) (tree : Parents ps) (root : 0 < length ps) (width : ℕ
       }
 
   -- the same where every byte is read: one access
-  pub means-all : (node from : ℕ) (inside starts : List ℕ) → readsAt inside ≡ replicate (length inside) (some Read)
+  pub means-all : (node from : ℕ) (inside starts : List ℕ) → map initAccessCode inside ≡ replicate (length inside) (some Read)
       → Means (record { node = node; spared = length ps; width = width; from = from; len = length inside; what = Each kinds.Read }) starts ps
       (readsVisit node from (map permission inside))
   means-all node from inside starts e =
@@ -86,13 +96,14 @@ module _ (ps : List ℕ) (tree : Parents ps) (root : 0 < length ps) (width : ℕ
       }
 
   -- the accesses of a protector's end, by the codes of the node's row
-  pub means-release : (n : ℕ) → 0 < n → (nodes : List Node) (lent : List ℕ) → take width lent ≡ map code (nodeAt nodes n .permissions)
-      → Means (record { node = n; spared = n; width = width; from = 0; len = width; what = AtEnd }) lent ps (releaseVisit n nodes)
-  means-release n z nodes lent e =
+  pub means-release : (n : ℕ) → 0 < n → (nodes : List Node) (lent : List ℕ) (what : Accesses) → take width lent ≡ map code (nodeAt nodes n .permissions)
+      → accessesAt what width lent ≡ map endAccessCode (take width lent)
+      → Means (record { node = n; spared = n; width = width; from = 0; len = width; what = what }) lent ps (releaseVisit n nodes)
+  means-release n z nodes lent what e same =
       record {
         accessed = refl;
         places =
-            subst (λ (xs : List (Option AccessKind)). Places (releaseVisit n nodes .accessAt) 0 xs) (sym (ap (map endAccessCode) e ∙ same-ends (nodeAt nodes n .permissions)))
+            subst (λ (xs : List (Option AccessKind)). Places (releaseVisit n nodes .accessAt) 0 xs) (sym (same ∙ ap (map endAccessCode) e ∙ same-ends (nodeAt nodes n .permissions)))
             (release-places (nodeAt nodes n .permissions));
         order = walk-some ps tree n z root;
         spares = λ k l. refl;

@@ -10,19 +10,19 @@ ghost use mathlib.Core.Path.{_≡_};
 ghost use mathlib.Core.Bool.{true, not};
 ghost use mathlib.Core.Option.{some};
 ghost use mathlib.Core.List.{_++_, map};
-ghost use Prim.Native.Nat.{_+_, _≤_, _<_};
-ghost use lib.ListN.{length, take, drop, replicate};
+ghost use Prim.Native.Nat.{ℕ, _+_, _≤_, _<_};
+ghost use lib.ListN.{length, getD, take, drop};
 ghost use Rattle.definition.specs.Notation.{any};
 ghost use Rattle.definition.specs.Permission.{permission};
-ghost use Rattle.definition.specs.Permission.AccessKind.{Read, Write};
+ghost use Rattle.definition.specs.Permission.AccessKind.{Write};
 ghost use Rattle.definition.specs.Tree.{nodeAt, accessVisit, visitRefusal, visited};
 ghost use Rattle.definition.specs.Memory.{nodePreventsDeallocation};
 ghost use Rattle.definition.specs.Memory.Liveness.{Live, Dead};
 ghost use Rattle.definition.specs.Frame.{lacksProtector, releasedNodes};
 ghost use Rattle.definition.proofs.Retags.{readsRefusal, readsVisit};
-ghost use Rattle.permission.specs.Codes.{accessKind, nodeRelation, maybeAccess, nextCode, preventsCode, isProtectedCode, unprotectedCode};
+ghost use Rattle.permission.specs.Codes.{lineAt, accessKind, nodeRelation, maybeAccess, nextCode, preventsCode, isProtectedCode, unprotectedCode};
 ghost use Rattle.tree.specs.Table.{rowsOf, Holds, HoldsMarks, HoldsAll, Some, Each};
-ghost use Rattle.visit.specs.Walk.{readsAt, stepped, rowAt};
+ghost use Rattle.visit.specs.Walk.{stepped, rowAt, EndsWith};
 ghost use Rattle.visit.specs.Sweep.{Spares};
 ghost use Rattle.visit.specs.Plan.{Zeros};
 ghost use Rattle.tree.specs.Requests.{Visited, Deallocated, releaseRefusal, Released};
@@ -203,6 +203,22 @@ pub fn deallocate(
     0
 }
 
+// ---- accesses that codes tell
+
+// Every code tells a read, by the lines that go with it. Then the accesses are one.
+fn all_read(codes: &[u8], lines: &[u8; 16]) -> bool
+    ensures { λ r. ⌜ (r ≡ true → (k : ℕ) → k < length (now (codes .entry)) → lineAt (now (lines .entry)) (getD (now (codes .entry)) k 0) ≡ 16) ⌝ }
+{
+    let mut k = 0;
+    while k < codes.len() {
+        if visit::lent_line(lines, codes, k) != 16 {
+            return false;
+        }
+        k += 1;
+    }
+    true
+}
+
 // ---- retag
 
 // The first refusal of a retag's reads, or 0: byte by byte over the whole tree, each on the tree as it stands.
@@ -235,28 +251,6 @@ fn first_refused_read(
     0
 }
 
-// Every code makes a retag read its byte: none is a cell's.
-fn reads_all(inside: &[u8]) -> bool
-    ensures { λ r. ⌜ (r ≡ true → readsAt (now (inside .entry)) ≡ replicate (length (now (inside .entry))) (some Read)) ⌝ }
-{
-    let mut k = 0;
-    while k < inside.len() {
-        match permission::init_access(inside[k]) {
-            MaybeAccess::Nothing => {
-                return false;
-            }
-            MaybeAccess::Access(kind) => match kind {
-                AccessKind::Read => {}
-                AccessKind::Write => {
-                    return false;
-                }
-            },
-        }
-        k += 1;
-    }
-    true
-}
-
 // No read of a retag is refused. Reads of all bytes are one access.
 fn reads_quiet(
     parents: &[u16],
@@ -270,8 +264,9 @@ fn reads_quiet(
     requires { ⌜ (node < length (now parents)) × (from + length (now inside) ≤ width) ⌝ }
     ensures { λ r. ⌜ (r ≡ true → Each (λ nodes. Holds nodes width (now (parents .entry)) (now (codes .entry))) (λ nodes. visitRefusal (readsVisit node from (map permission (now (inside .entry)))) nodes ≡ 0)) ⌝ }
 {
+    let lines = permission::init_lines();
     let table = permission::outcomes();
-    if reads_all(inside) {
+    if all_read(inside, &lines) {
         let all = Reach {
             node,
             spared: parents.len(),
@@ -294,7 +289,6 @@ fn reads_quiet(
         what: Accesses::AtInit,
     };
     let unmarked = [0u8; 1];
-    let lines = permission::init_lines();
     visit::is_quiet(&unmarked, parents, codes, inside, &lines, &table, v)
 }
 
@@ -331,8 +325,9 @@ pub fn apply_reads(
     requires { ⌜ (node < length (now parents)) × (from + length (now inside) ≤ width) ⌝ }
     ensures { λ _. ⌜ Each (λ nodes. Holds nodes width (now (parents .entry)) (now (codes .entry))) (λ nodes. now (codes .exit) ≡ rowsOf (visited (readsVisit node from (map permission (now (inside .entry)))) nodes)) ⌝ }
 {
+    let lines = permission::init_lines();
     let table = permission::outcomes();
-    if reads_all(inside) {
+    if all_read(inside, &lines) {
         let all = Reach {
             node,
             spared: parents.len(),
@@ -352,7 +347,6 @@ pub fn apply_reads(
             what: Accesses::AtInit,
         };
         let unmarked = [0u8; 1];
-        let lines = permission::init_lines();
         visit::apply(&unmarked, parents, codes, inside, &lines, &table, v);
     }
 }
@@ -407,6 +401,17 @@ fn lacks_protector(protectors: &[u8], codes: &[u8], width: usize, node: usize) -
     has_unprotected(&codes[start..end])
 }
 
+// The accesses of the end of a row's protectors.
+fn end_accesses(row: &[u8]) -> Accesses
+    ensures { λ r. ⌜ EndsWith (now (row .entry)) r ⌝ }
+{
+    let lines = permission::end_lines();
+    if all_read(row, &lines) {
+        return Accesses::Each(AccessKind::Read);
+    }
+    Accesses::AtEnd
+}
+
 // On a live allocation, 16 to 23. The node's row is left in the lent row, for the change.
 fn release_refusal(
     marks: &[u8],
@@ -428,13 +433,14 @@ fn release_refusal(
     if lacks_protector(protectors, codes, width, node) {
         return 16;
     }
+    let what = end_accesses(&lent[..width]);
     let v = Reach {
         node,
         spared: node, // and its descendants
         width,
         from: 0,
         len: width,
-        what: Accesses::AtEnd,
+        what,
     };
     let lines = permission::end_lines();
     let table = permission::outcomes();
@@ -457,13 +463,14 @@ fn apply_release(
     let start = node * width;
     let end = start + width;
     unprotect_row(&mut codes[start..end]);
+    let what = end_accesses(&lent[..width]);
     let v = Reach {
         node,
         spared: node,
         width,
         from: 0,
         len: width,
-        what: Accesses::AtEnd,
+        what,
     };
     let lines = permission::end_lines();
     let table = permission::outcomes();

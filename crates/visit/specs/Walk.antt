@@ -42,10 +42,6 @@ accessesAt AtInit n starts = map initAccessCode (take n starts)
 abbrev pub planned : Reach → List ℕ → List (Option AccessKind)
 planned v starts = accessesAt (v .what) (v .len) starts
 
--- of a retag, by its bytes' first codes
-abbrev pub readsAt : List ℕ → List (Option AccessKind)
-readsAt inside = map initAccessCode inside
-
 -- ---- what a visit looks up
 -- the line of the k-th byte's access is what `lines` has for its code
 abbrev pub Looked : Accesses → List ℕ → Type 0
@@ -56,6 +52,11 @@ abbrev pub Lines : Accesses → List ℕ → Type 0
 Lines (Each a) lines = Unit {0}
 Lines AtEnd lines = lines ≡ endLines
 Lines AtInit lines = lines ≡ initLines
+
+-- the accesses of the end of a row's protectors, said by each code or at once
+pub record EndsWith (row : List ℕ) (what : Accesses) : Type 0 where
+  pub same : accessesAt what (length row) row ≡ map endAccessCode row
+  pub lines : Lines what endLines
 
 pub record Tabled (v : Reach) (lines table : List ℕ) : Type 0 where
   pub accesses : Lines (v .what) lines

@@ -59,7 +59,7 @@ fn start_at(starts: &[u8], k: usize) -> u8
 }
 
 // What `lines` has for that code.
-fn lent_line(lines: &[u8; 16], starts: &[u8], k: usize) -> usize
+pub fn lent_line(lines: &[u8; 16], starts: &[u8], k: usize) -> usize
     ensures { λ r. ⌜ r ≡ lineAt (now (lines .entry)) (getD (now (starts .entry)) k 0) ⌝ }
 {
     let code = start_at(starts, k);

@@ -2,7 +2,10 @@
 use mathlib.Core.Bool.{false≢true}
 use mathlib.Core.Path.{refl, sym, _∙_}
 use native.Mathlib.Nat.{le-refl}
+use Rattle.permission.specs.Codes.{initAccessCode, initLines}
+use Rattle.permission.proofs.Lines.{init-line}
 use Rattle.tree.proofs.Meaning.{means-refusal}
+use Rattle.tree.proofs.Inits.{all-read, told-by}
 use Rattle.tree.proofs.Visits.{held-ready, means-reads, means-all}
 use Rattle.visit.proofs.Sweeps.{unmarked, quiet-none}
 use native.Mathlib.Omega.{arith}
@@ -13,41 +16,41 @@ use Rattle.tree.proofs.reads_quiet.Reads as reads
 use Rattle.tree.proofs.reads_quiet.Lts as lts
 use Rattle.permission.proofs.init_lines.Reads as init-lines-reads
 use Rattle.permission.proofs.outcomes.Reads as outcomes-reads
+use Rattle.tree.proofs.all_read.Reads as all-read-reads
 use Rattle.visit.proofs.is_quiet.Reads as is-quiet-reads
 use Rattle.visit.proofs.look_at_nodes.Reads as look-at-nodes-reads
-use Rattle.tree.proofs.reads_all.Reads as reads-all-reads
+
+init-lines-requires : tie.Need-init-lines-requires
+init-lines-requires c κs = search needs
 
 outcomes-requires : tie.Need-outcomes-requires
 outcomes-requires c κs = search needs
 
-reads-all-requires : tie.Need-reads-all-requires
-reads-all-requires c κs = search needs
+all-read-requires : tie.Need-all-read-requires
+all-read-requires c κs = search needs
 
 look-at-nodes-requires : tie.Need-look-at-nodes-requires
-look-at-nodes-requires c κs = let s = c .before .before .before .before .before .before .before in ((c .before .before .before .outcomes .ensures, record { same = refl; none = le-refl _ }), held-ready _ (s .pre .0 .0) _ _ (s .pre .0 .1) (s .pre .1 .0) (s .pre .1 .1))
+look-at-nodes-requires c κs = let s = c .before .before .before .before .before .before .before .before .before in ((c .before .before .before .before .outcomes .ensures, record { same = refl; none = le-refl _ }), held-ready _ (s .pre .0 .0) _ _ (s .pre .0 .1) (s .pre .1 .0) (s .pre .1 .1))
 
 returns : tie.Need-returns
 returns c =
-    let s = c .before .before .before .before .before .before .before .before .before in
+    let s = c .before .before .before .before .before .before .before .before .before .before .before in
     λ e nodes holds.
-    sym (means-refusal _ _ _ _ (means-all (s .args .parents .now) (holds .earlier) (holds .root) (s .args .width) (s .args .node) (s .args .from) (s .args .inside .now) (s .args .codes .now) (c .before .before .before .before .reads-all .ensures (c .before .before .before .if1 .taken))) nodes (s .args .codes .now) holds)
+    sym (means-refusal _ _ _ _ (means-all (s .args .parents .now) (holds .earlier) (holds .root) (s .args .width) (s .args .node) (s .args .from) (s .args .inside .now) (s .args .codes .now) (all-read initAccessCode (c .before .before .before .before .before .before .before .init-lines .result) (told-by initAccessCode initLines (c .before .before .before .before .before .before .before .init-lines .result) init-line (c .before .before .before .before .before .before .before .init-lines .ensures)) (s .args .inside .now) (c .before .before .before .before .all-read .ensures (c .before .before .before .if1 .taken)))) nodes (s .args .codes .now) holds)
     ∙ quiet-none _ (s .args .parents .now) (s .args .codes .now) (s .args .codes .now) (held-ready _ (s .pre .0 .0) _ _ (s .pre .0 .1) (s .pre .1 .0) (s .pre .1 .1)) (holds .root) (c .before .look-at-nodes .ensures (s .args .codes .now) .quiet (c .if2 .taken))
 
 returns-2 : tie.Need-returns-2
 returns-2 c = λ e. absurd (false≢true e)
 
-init-lines-requires : tie.Need-init-lines-requires
-init-lines-requires c κs = search needs
-
 slice-aggregate-is-quiet : tie.Need-slice-aggregate-is-quiet
 slice-aggregate-is-quiet c = search needs
 
 is-quiet-requires : tie.Need-is-quiet-requires
-is-quiet-requires c κs = let s = c .before .before .before .before .before .before .before .before .before .before in ((record { accesses = c .before .before .before .init-lines .ensures; outcomes = c .before .before .before .before .before .before .outcomes .ensures }, unmarked (s .args .parents .now) (s .pre .0 .1 .earlier) _ (s .pre .0 .1 .root)), held-ready _ (s .pre .0 .0) _ _ (s .pre .0 .1) (s .pre .1 .0) (s .pre .1 .1))
+is-quiet-requires c κs = let s = c .before .before .before .before .before .before .before .before .before .before .before in ((record { accesses = c .before .before .before .before .before .before .before .init-lines .ensures; outcomes = c .before .before .before .before .before .before .outcomes .ensures }, unmarked (s .args .parents .now) (s .pre .0 .1 .earlier) _ (s .pre .0 .1 .root)), held-ready _ (s .pre .0 .0) _ _ (s .pre .0 .1) (s .pre .1 .0) (s .pre .1 .1))
 
 returns-3 : tie.Need-returns-3
 returns-3 c =
-    let s = c .before .before .before .before .before .before .before .before .before .before .before in
+    let s = c .before .before .before .before .before .before .before .before .before .before .before .before in
     λ e nodes holds.
     sym (means-refusal _ _ _ _ (means-reads (s .args .parents .now) (holds .earlier) (holds .root) (s .args .width) (s .args .node) (s .args .from) (s .args .inside .now)) nodes (s .args .codes .now) holds)
     ∙ quiet-none _ (s .args .parents .now) (s .args .inside .now) (s .args .codes .now) (held-ready _ (s .pre .0 .0) _ _ (s .pre .0 .1) (s .pre .1 .0) (s .pre .1 .1)) (holds .root) (c .is-quiet .ensures e)
@@ -56,12 +59,12 @@ pub reads-quiet-spec : {M : Type 1} → statement M
 reads-quiet-spec =
     tie.close
     (tie.spec
+    init-lines-requires
     outcomes-requires
-    reads-all-requires
+    all-read-requires
     look-at-nodes-requires
     returns
     returns-2
-    init-lines-requires
     slice-aggregate-is-quiet
     is-quiet-requires
     returns-3)
