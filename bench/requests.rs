@@ -99,8 +99,8 @@ fn load(node: u32, bytes: u32) -> Vec<u32> {
     vec![through(2, 0, node, 0), 0, address(0), bytes]
 }
 
-fn store(node: u32, bytes: u32) -> Vec<u32> {
-    let mut request = vec![through(3, 0, node, 0), 0, address(0), bytes];
+fn store(allocation: u32, node: u32, bytes: u32) -> Vec<u32> {
+    let mut request = vec![through(3, allocation, node, 0), 0, address(allocation), bytes];
     request.resize(4 + bytes as usize, 0x8000_0007);
     request
 }
@@ -134,9 +134,10 @@ fn rows() -> Vec<Row> {
             }
             let shape = if nodes == 1 { "" } else if chain { ", a chain" } else { ", children of the root" };
             let last = nodes - 1;
-            for (kind, request) in [("load", load(last, bytes)), ("store", store(last, bytes))] {
+            for (kind, request) in [("load", load(last, bytes)), ("store", store(0, last, bytes))] {
                 rows.push(Row { name: format!("{kind} of {bytes} bytes, {nodes} nodes{shape}"), before: trees(1, bytes, nodes, chain), requests: vec![request; 200] });
             }
+            rows.extend(first_stores(bytes, nodes, chain, shape));
             rows.push(retags(bytes, nodes, chain, shape));
         }
     }
@@ -144,6 +145,13 @@ fn rows() -> Vec<Row> {
         rows.push(end_calls(entries, bytes));
     }
     rows
+}
+
+/// The rows above repeat an access, and after the first time it changes no code. Here each is the first of its allocation.
+fn first_stores(bytes: u32, nodes: u32, chain: bool, shape: &str) -> Option<Row> {
+    let allocations = if nodes == 1024 { return None } else { (4096 / bytes).min(32768 / (bytes * nodes)).min(16) };
+    let requests = (0..allocations).map(|a| store(a, nodes - 1, bytes)).collect();
+    Some(Row { name: format!("first store of {bytes} bytes, {nodes} nodes{shape}{}", among(allocations)), before: trees(allocations, bytes, nodes, chain), requests })
 }
 
 fn among(allocations: u32) -> String {
@@ -224,12 +232,12 @@ fn main() {
     let oracle = arguments.next().expect("usage: requests ORACLE [ROW..]");
     let wanted: Vec<String> = arguments.collect();
     let mut lent = Lent::new();
-    println!("{:<64} {:>12} {:>14} {:>8}", "request", "port, ns", "the Rust, ns", "times");
+    println!("{:<72} {:>12} {:>14} {:>8}", "request", "port, ns", "the Rust, ns", "times");
     for row in rows() {
         if !wanted.is_empty() && !wanted.iter().any(|w| row.name.contains(w.as_str())) {
             continue;
         }
         let (port, rust) = (port(&mut lent, &row), rust(&oracle, &row));
-        println!("{:<64} {:>12.1} {:>14.1} {:>8.1}", row.name, port, rust, rust / port);
+        println!("{:<72} {:>12.1} {:>14.1} {:>8.1}", row.name, port, rust, rust / port);
     }
 }
