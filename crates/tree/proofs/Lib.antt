@@ -4,4 +4,5 @@ pub mod Meaning
 pub mod Inits
 pub mod Visits
 pub mod Releases
+pub mod Ends
 pub mod Strong

@@ -98,6 +98,26 @@ module _ {A : Type 0} (f : ℕ → A → A) (d : A) where
       let i : j < length l = omega (arith, below-length (length l) l) in
       below-here (length l) j l i i ∙ sym (each-at f d d l j i))
 
+-- ---- what becomes of a node that is spared, and of another
+module _ (w : Visit) (ps : List ℕ) where
+  pub after-spared : (n : ℕ) (x : Node) → isSpared ps (w .spared) n ≡ true → definition.nodeAfter w ps n x ≡ x
+  unfolding definition.nodeAfter
+  after-spared n x e = rw e
+
+  after-visited : (n : ℕ) (x : Node) → isSpared ps (w .spared) n ≡ false
+      → definition.nodeAfter w ps n x .permissions ≡ definition.rowAfter (w .accessAt) (relation ps n (w .accessed)) (x .permissions)
+  unfolding definition.nodeAfter
+  after-visited n x e = rw e
+
+  pub after-wide : (n : ℕ) (x : Node) → length (definition.nodeAfter w ps n x .permissions) ≡ length (x .permissions)
+  unfolding definition.nodeAfter
+  after-wide n x = go (isSpared ps (w .spared) n)
+    where
+      go : (b : Bool)
+          → length (if b then x .permissions else definition.rowAfter (w .accessAt) (relation ps n (w .accessed)) (x .permissions)) ≡ length (x .permissions)
+      go true = refl
+      go false = each-length (λ b p. nextBy (w .accessAt b) (relation ps n (w .accessed)) p) 0 (x .permissions)
+
 -- ---- a visit
 -- what v, by the codes lent with it, asks for is the visit w
 pub record Means (v : Reach) (starts ps : List ℕ) (w : Visit) : Type 0 where
@@ -121,25 +141,6 @@ module _ (v : Reach) (starts ps : List ℕ) (w : Visit) (means : Means v starts 
       ∙ sym (map-append code (take (v .from) row) (accessesAfter r (planned v starts) (drop (v .from) row)))
       ∙ ap (map code) (sym (places-after r (w .accessAt) (v .from) (planned v starts) (means .places) row))
 
-  -- what becomes of a node that is spared, and of another
-  after-spared : (n : ℕ) (x : Node) → isSpared ps (w .spared) n ≡ true → definition.nodeAfter w ps n x ≡ x
-  unfolding definition.nodeAfter
-  after-spared n x e = rw e
-
-  after-visited : (n : ℕ) (x : Node) → isSpared ps (w .spared) n ≡ false
-      → definition.nodeAfter w ps n x .permissions ≡ definition.rowAfter (w .accessAt) (relation ps n (w .accessed)) (x .permissions)
-  unfolding definition.nodeAfter
-  after-visited n x e = rw e
-
-  after-wide : (n : ℕ) (x : Node) → length (definition.nodeAfter w ps n x .permissions) ≡ length (x .permissions)
-  unfolding definition.nodeAfter
-  after-wide n x = go (isSpared ps (w .spared) n)
-    where
-      go : (b : Bool)
-          → length (if b then x .permissions else definition.rowAfter (w .accessAt) (relation ps n (w .accessed)) (x .permissions)) ≡ length (x .permissions)
-      go true = refl
-      go false = each-length (λ b p. nextBy (w .accessAt b) (relation ps n (w .accessed)) p) 0 (x .permissions)
-
   -- ---- a node
   module _ (nodes : List Node) (wide : Wide (v .width) nodes) (n : ℕ) (l : n < length nodes) where
     node-refusal : parents nodes ≡ ps → nodeRefusal v ps starts (rowsOf nodes) n ≡ definition.nodeRefusal w nodes n
@@ -155,7 +156,7 @@ module _ (v : Reach) (starts ps : List ℕ) (w : Visit) (means : Means v starts 
         ap (λ (row : List ℕ). withRowAt (v .width) n row (rowsOf nodes))
         (ap₂ (λ (a : ℕ) (row : List ℕ). rowAfter v starts (relation ps n a) row) (sym (means .accessed)) (row-held (v .width) nodes wide n l)
         ∙ row-after (relation ps n (w .accessed)) (nodeAt nodes n .permissions)
-        ∙ ap (map code) (sym (after-visited n (nodeAt nodes n) e)))
+        ∙ ap (map code) (sym (after-visited w ps n (nodeAt nodes n) e)))
         ∙ row-changed (v .width) (definition.nodeAfter w ps n) nodes wide n l
 
     node-after : n < length ps → sweptNode v ps starts n (rowsOf nodes) ≡ rowsOf (mutateAt n (definition.nodeAfter w ps n) nodes)
@@ -166,7 +167,7 @@ module _ (v : Reach) (starts ps : List ℕ) (w : Visit) (means : Means v starts 
             → (if isAbove ps (v .spared) n then rowsOf nodes else nodeAfter v ps starts n (rowsOf nodes)) ≡ rowsOf (mutateAt n (definition.nodeAfter w ps n) nodes)
         go true e =
             rw (means .spares n h, e)
-            (ap rowsOf (sym (mutate-same (definition.nodeAfter w ps n) (λ x. x) noNode nodes n (after-spared n (nodeAt nodes n) e) ∙ mutate-id n nodes)))
+            (ap rowsOf (sym (mutate-same (definition.nodeAfter w ps n) (λ x. x) noNode nodes n (after-spared w ps n (nodeAt nodes n) e) ∙ mutate-id n nodes)))
         go false e = rw (means .spares n h, e) (row-visited e)
 
   -- ---- the tree
@@ -176,7 +177,7 @@ module _ (v : Reach) (starts ps : List ℕ) (w : Visit) (means : Means v starts 
   swept-nodes zero nodes wide l k = refl
   swept-nodes (suc n) nodes wide l k =
       ap (swept v ps starts n) (node-after nodes wide n (omega arith) (omega arith))
-      ∙ swept-nodes n (mutateAt n (definition.nodeAfter w ps n) nodes) (wide-changed (v .width) (definition.nodeAfter w ps n) (after-wide n) nodes n wide)
+      ∙ swept-nodes n (mutateAt n (definition.nodeAfter w ps n) nodes) (wide-changed (v .width) (definition.nodeAfter w ps n) (after-wide w ps n) nodes n wide)
       (omega (arith, mutate-length n (definition.nodeAfter w ps n) nodes)) (omega arith)
 
   abbrev visits : List ℕ

@@ -8,6 +8,7 @@ use Rattle.definition.specs.Refusal.{notProtected, strongProtector}
 use Rattle.definition.specs.Permission.AccessKind.{Write}
 use Rattle.definition.specs.Tree.{Node, nodeAt, Visit, accessVisit, visitRefusal, visited}
 use Rattle.definition.specs.Memory.{Liveness, nodePreventsDeallocation}
+use Rattle.definition.specs.Memory.Liveness.{Live}
 use Rattle.definition.specs.Frame.{lacksProtector, releaseVisitRefusal, releasedNodes}
 use Rattle.tree.specs.Table.{rowsOf, marks}
 
@@ -34,6 +35,11 @@ pub record Deallocated (node width : ℕ) (nodes : List Node) (answer : ℕ) (co
 -- ---- the release of one node: 16, and then what the accesses of its protector's end meet
 unfoldable pub releaseRefusal : Liveness → ℕ → List Node → ℕ
 releaseRefusal state n nodes = notProtected when lacksProtector (nodeAt nodes n) or releaseVisitRefusal state n nodes
+
+-- the latter, and what is left
+pub record Ended (n : ℕ) (nodes : List Node) (answer : ℕ) (codes : List ℕ) : Type 0 where
+  pub refusal : answer ≡ releaseVisitRefusal Live n nodes
+  pub table : codes ≡ rowsOf (unlessRefused (releaseVisitRefusal Live n nodes) nodes (releasedNodes Live n nodes))
 
 abbrev pub afterRelease : Liveness → ℕ → List Node → List Node
 afterRelease state n nodes = unlessRefused (releaseRefusal state n nodes) nodes (releasedNodes state n nodes)

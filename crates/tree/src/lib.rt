@@ -10,7 +10,7 @@ ghost use mathlib.Core.Path.{_≡_};
 ghost use mathlib.Core.Bool.{true, not};
 ghost use mathlib.Core.Option.{some};
 ghost use mathlib.Core.List.{_++_, map};
-ghost use Prim.Native.Nat.{ℕ, _+_, _≤_, _<_};
+ghost use Prim.Native.Nat.{ℕ, _+_, _*_, _≤_, _<_};
 ghost use lib.ListN.{length, getD, take, drop};
 ghost use Rattle.definition.specs.Notation.{any};
 ghost use Rattle.definition.specs.Permission.{permission};
@@ -18,14 +18,14 @@ ghost use Rattle.definition.specs.Permission.AccessKind.{Write};
 ghost use Rattle.definition.specs.Tree.{nodeAt, accessVisit, visitRefusal, visited};
 ghost use Rattle.definition.specs.Memory.{nodePreventsDeallocation};
 ghost use Rattle.definition.specs.Memory.Liveness.{Live, Dead};
-ghost use Rattle.definition.specs.Frame.{lacksProtector, releasedNodes};
+ghost use Rattle.definition.specs.Frame.{lacksProtector};
 ghost use Rattle.definition.proofs.Retags.{readsRefusal, readsVisit};
 ghost use Rattle.permission.specs.Codes.{lineAt, accessKind, nodeRelation, maybeAccess, nextCode, preventsCode, isProtectedCode, unprotectedCode};
 ghost use Rattle.tree.specs.Table.{rowsOf, Holds, HoldsMarks, HoldsAll, Some, Each};
-ghost use Rattle.visit.specs.Walk.{stepped, rowAt, EndsWith};
+ghost use Rattle.visit.specs.Walk.{stepped, rowAt, withRowAt, EndsWith};
 ghost use Rattle.visit.specs.Sweep.{Spares};
 ghost use Rattle.visit.specs.Plan.{Zeros};
-ghost use Rattle.tree.specs.Requests.{Visited, Deallocated, releaseRefusal, Released};
+ghost use Rattle.tree.specs.Requests.{Visited, Deallocated, Ended, Released};
 
 // ---- load, store
 
@@ -289,7 +289,10 @@ fn reads_quiet(
         what: Accesses::AtInit,
     };
     let unmarked = [0u8; 1];
-    visit::is_quiet(&unmarked, parents, codes, inside, &lines, &table, v)
+    if visit::look(&unmarked, parents, codes, inside, &lines, &table, v) < 2 {
+        return true;
+    }
+    false
 }
 
 // A retag's reads through a node, of the bytes from `from` on whose start codes are `inside`, but for Cell: the first refusal, byte by byte over the
@@ -387,6 +390,15 @@ fn unprotect_row(row: &mut [u8])
     }
 }
 
+fn unprotect_node(codes: &mut [u8], width: usize, node: usize)
+    requires { ⌜ node * width + width ≤ length (now codes) ⌝ }
+    ensures { λ _. ⌜ now (codes .exit) ≡ withRowAt width node (map unprotectedCode (rowAt width node (now (codes .entry)))) (now (codes .entry)) ⌝ }
+{
+    let start = node * width;
+    let end = start + width;
+    unprotect_row(&mut codes[start..end]);
+}
+
 // 16's test: the node is not marked protected, or its row holds an unprotected code.
 fn lacks_protector(protectors: &[u8], codes: &[u8], width: usize, node: usize) -> bool
     requires { ⌜ Some (λ nodes. HoldsMarks nodes width (now protectors) (now codes)) ⌝ }
@@ -412,27 +424,20 @@ fn end_accesses(row: &[u8]) -> Accesses
     Accesses::AtEnd
 }
 
-// On a live allocation, 16 to 23. The node's row is left in the lent row, for the change.
-fn release_refusal(
+// The end of a node's protector, on a live allocation: the first refusal of its accesses, with the codes as they were; or 0, with the node unprotected
+// and the accesses made. The lent row has a copy of the node's row, which they do not reach: what a look told holds once that is unprotected.
+fn end_protector(
     marks: &[u8],
     parents: &[u16],
-    protectors: &[u8],
-    codes: &[u8],
-    lent: &mut [u8],
+    codes: &mut [u8],
+    lent: &[u8],
     width: usize,
     node: usize,
 ) -> u8
-    requires { ⌜ Some (λ nodes. HoldsAll nodes width (now parents) (now protectors) (now codes)) × Spares node (now parents) (now marks) ⌝ }
-    requires { ⌜ (node < length (now parents)) × (width ≤ length (now lent)) ⌝ }
-    ensures { λ _. ⌜ now (lent .exit) ≡ rowAt width node (now (codes .entry)) ++ drop width (now (lent .entry)) ⌝ }
-    ensures { λ r. ⌜ Each (λ nodes. HoldsAll nodes width (now (parents .entry)) (now (protectors .entry)) (now (codes .entry))) (λ nodes. r ≡ releaseRefusal Live node nodes) ⌝ }
+    requires { ⌜ Some (λ nodes. Holds nodes width (now parents) (now codes)) × Spares node (now parents) (now marks) ⌝ }
+    requires { ⌜ (node < length (now parents)) × (0 < node) × (take width (now lent) ≡ rowAt width node (now codes)) ⌝ }
+    ensures { λ r. ⌜ Each (λ nodes. Holds nodes width (now (parents .entry)) (now (codes .entry))) (λ nodes. Ended node nodes r (now (codes .exit))) ⌝ }
 {
-    let start = node * width;
-    let end = start + width;
-    copy_row(&codes[start..end], lent);
-    if lacks_protector(protectors, codes, width, node) {
-        return 16;
-    }
     let what = end_accesses(&lent[..width]);
     let v = Reach {
         node,
@@ -444,37 +449,17 @@ fn release_refusal(
     };
     let lines = permission::end_lines();
     let table = permission::outcomes();
-    visit::check(marks, parents, codes, lent, &lines, &table, v)
-}
-
-// The node's row, of which the lent row has a copy, unprotected, and the accesses of its protector's end made.
-fn apply_release(
-    marks: &[u8],
-    parents: &[u16],
-    codes: &mut [u8],
-    lent: &[u8],
-    width: usize,
-    node: usize,
-)
-    requires { ⌜ Some (λ nodes. Holds nodes width (now parents) (now codes)) × Spares node (now parents) (now marks) ⌝ }
-    requires { ⌜ (node < length (now parents)) × (0 < node) × (take width (now lent) ≡ rowAt width node (now codes)) ⌝ }
-    ensures { λ _. ⌜ Each (λ nodes. Holds nodes width (now (parents .entry)) (now (codes .entry))) (λ nodes. now (codes .exit) ≡ rowsOf (releasedNodes Live node nodes)) ⌝ }
-{
-    let start = node * width;
-    let end = start + width;
-    unprotect_row(&mut codes[start..end]);
-    let what = end_accesses(&lent[..width]);
-    let v = Reach {
-        node,
-        spared: node,
-        width,
-        from: 0,
-        len: width,
-        what,
-    };
-    let lines = permission::end_lines();
-    let table = permission::outcomes();
+    let looked = visit::look(marks, parents, codes, lent, &lines, &table, v);
+    let refused = visit::check(parents, codes, lent, &lines, &table, v, looked);
+    if refused != 0 {
+        return refused;
+    }
+    unprotect_node(codes, width, node);
+    if looked == 0 {
+        return 0;
+    }
     visit::apply(marks, parents, codes, lent, &lines, &table, v);
+    0
 }
 
 // The release by marks of the node and its descendants.
@@ -492,12 +477,18 @@ fn release_marked(
     ensures { λ _. ⌜ now (lent .exit) ≡ rowAt width node (now (codes .entry)) ++ drop width (now (lent .entry)) ⌝ }
     ensures { λ r. ⌜ Each (λ nodes. HoldsAll nodes width (now (parents .entry)) (now (protectors .entry)) (now (codes .entry))) (λ nodes. Released Live node nodes r (now (protectors .exit)) (now (codes .exit))) ⌝ }
 {
-    let refused = release_refusal(marks, parents, protectors, codes, lent, width, node);
-    if refused == 0 {
-        apply_release(marks, parents, codes, lent, width, node);
-        protectors[node] = 0;
+    let start = node * width;
+    let end = start + width;
+    copy_row(&codes[start..end], lent);
+    if lacks_protector(protectors, codes, width, node) {
+        return 16;
     }
-    refused
+    let refused = end_protector(marks, parents, codes, lent, width, node);
+    if refused != 0 {
+        return refused;
+    }
+    protectors[node] = 0;
+    0
 }
 
 // How many marks are made: one for each node, or none where there is no room.
@@ -570,8 +561,6 @@ pub fn release_dead(protectors: &[u8], codes: &mut [u8], width: usize, node: usi
     if lacks_protector(protectors, codes, width, node) {
         return 16;
     }
-    let start = node * width;
-    let end = start + width;
-    unprotect_row(&mut codes[start..end]);
+    unprotect_node(codes, width, node);
     0
 }

@@ -35,9 +35,6 @@ same-row w n codes = ap (λ (l : List ℕ). take (n * w) codes ++ l) (take-appen
 pub row-length : (w n : ℕ) (codes : List ℕ) → n * w + w ≤ length codes → length (rowAt w n codes) ≡ w
 row-length w n codes fits = length-take-le w (drop (n * w) codes) (omega (arith, length-drop (n * w) codes))
 
-pub part-length : (w n : ℕ) (codes : List ℕ) → n * w + w ≤ length codes → length (take (n * w + w - n * w) (drop (n * w) codes)) ≡ w
-part-length w n codes fits = ap length (part-row w n codes) ∙ row-length w n codes fits
-
 -- row n copied to the front of a lent row
 module _ (w n : ℕ) (codes lent out : List ℕ) (fits : n * w + w ≤ length codes) where
   pub copied-row : out ≡ take (n * w + w - n * w) (drop (n * w) codes) ++ drop (length (take (n * w + w - n * w) (drop (n * w) codes))) lent

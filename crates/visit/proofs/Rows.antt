@@ -4,7 +4,7 @@ use mathlib.Core.Path.{_≡_, refl, sym, ap, ap₂, subst⁻¹, _∙_}
 use mathlib.Core.Option.{Option, none, some}
 use mathlib.Core.List.{List, [], _∷_, _++_}
 use native.Mathlib.Numerals.{add-one}
-use native.Mathlib.Nat.{add-zero, zero-add, min-le-left}
+use native.Mathlib.Nat.{add-zero, min-le-left}
 use native.Mathlib.Omega.{arith}
 use lib.ListN.{length, getD, take, drop, set, getD-replicate, length-replicate, length-map, length-take, length-append, length-drop, take-append-drop, List·getD-map, drop-of-length-le}
 use lib.Seq.{getD-take, getD-drop, drop-drop, length-take-le, getD-append-add, take-at, drop-at, set-getD}
@@ -12,13 +12,13 @@ use Rattle.definition.specs.Notation.{_or_}
 use Rattle.definition.specs.Permission.{AccessKind, NodeRelation}
 use Rattle.definition.specs.Permission.AccessKind.{Read, Write}
 use Rattle.definition.proofs.Lists.{loop-get, loop-set}
-use Rattle.permission.proofs.Lines.{outcome-at, refused-at, passes-at, next-at, stays-at, end-line, init-line}
+use Rattle.permission.proofs.Lines.{outcome-at, refused-at, passes-at, next-at, stays-at, past-refusal, past-next, end-line, init-line}
 use Rattle.permission.specs.Codes.{accessKind, refusalCode, nextCode, endAccessCode, initAccessCode, outcome, outcomeTable, lineIn, lineAt, lineOf}
 use Rattle.permission.specs.declared.AccessKind as declared
 use Rattle.visit.specs.declared.Accesses.{Accesses}
 use Rattle.visit.specs.declared.Reach.{Reach}
 use Rattle.visit.specs.declared.Accesses.the-variants.{Each, AtEnd, AtInit}
-use Rattle.visit.specs.Walk.{accessAt, accessesAt, Looked, Lines, Tabled, EachOf, codesRefusal, codesAfter}
+use Rattle.visit.specs.Walk.{accessAt, accessesAt, Looked, Lines, Tabled, EachOf, codesRefusal, codesAfter, Looks}
 use Rattle.visit.proofs.Steps.{no-refusal, no-change}
 
 pub or-positive : (n y : ℕ) → 0 < n → (n or y) ≡ n
@@ -76,9 +76,26 @@ module _ (r : NodeRelation) where
   codes-length [] (c ∷ cs) = refl
   codes-length (x ∷ xs) (c ∷ cs) = ap suc (codes-length xs cs)
 
+-- ---- a look-up of a code's outcome
+module _ (x : Option AccessKind) (r : NodeRelation) (table : List ℕ) (t : table ≡ outcomeTable) (c line i d : ℕ) (e : line ≡ lineOf x r) (small : c < 16) (at : i ≡ c) (u : d ≡ getD table (line + i) 0) where
+  looked-up : d ≡ outcome x r c
+  looked-up = u ∙ ap₂ (λ (l : List ℕ) (k : ℕ). getD l k 0) t (ap₂ _+_ e at) ∙ outcome-at x r c small
+
+  look-refused : 15 < d → d ≡ refusalCode x r c
+  look-refused h = looked-up ∙ refused-at x r c small (omega (arith, looked-up))
+
+  look-passes : d ≤ 15 → 0 ≡ refusalCode x r c
+  look-passes h = sym (passes-at x r c small (omega (arith, looked-up)))
+
+  pub look-next : d ≤ 15 → d ≡ nextCode x r c
+  look-next h = looked-up ∙ sym (next-at x r c small (omega (arith, looked-up)))
+
+  pub look-stays : 15 < d → c ≡ nextCode x r c
+  look-stays h = sym (stays-at x r c small (omega (arith, looked-up)))
+
 -- ---- the bytes of a row that are visited: n of them from `from` on
 module _ (what : Accesses) (n from : ℕ) (starts : List ℕ) (r : NodeRelation) where
-  abbrev plan : List (Option AccessKind)
+  abbrev pub plan : List (Option AccessKind)
   plan = accessesAt what n starts
 
   -- what is left of the check at the k-th byte
@@ -93,13 +110,13 @@ module _ (what : Accesses) (n from : ℕ) (starts : List ℕ) (r : NodeRelation)
 
     -- a byte's refusal, 0 for none
     module _ (k d : ℕ) (l : k < n) (e : d ≡ refusalCode (accessAt what starts k) r (getD row (from + k) 0)) where
-      pub check-next : d ≡ 0 → refusalLeft (k + 1) row ≡ refusalLeft k row
+      check-next : d ≡ 0 → refusalLeft (k + 1) row ≡ refusalLeft k row
       check-next z = sym (check-step k l ∙ rw (sym e ∙ z, add-one k))
 
-      pub check-here : 0 < d → d ≡ refusalLeft k row
+      check-here : 0 < d → d ≡ refusalLeft k row
       check-here p = sym (check-step k l ∙ rw (sym e) (or-positive d (refusalLeft (suc k) row) p))
 
-  pub check-done : (row : List ℕ) → refusalLeft n row ≡ 0
+  check-done : (row : List ℕ) → refusalLeft n row ≡ 0
   check-done row = rw (drop-of-length-le plan {i = n} (planned-length what n starts)) (nothing-refused r (drop n (drop from row)))
 
   -- the row that the change leaves; of the bytes before the k-th it is there already
@@ -162,6 +179,51 @@ module _ (what : Accesses) (n from : ℕ) (starts : List ℕ) (r : NodeRelation)
       pub turn-stays : getD now (from + k) 0 ≡ nextCode (accessAt what starts k) r (getD now (from + k) 0) → after ≡ now → after ≡ changedTo (k + 1) row
       turn-stays t s = turn (s ∙ sym (ap (set now (from + k)) (sym t) ∙ set-getD now (from + k) 0))
 
+  -- ---- a look at the bytes: what is left of the check at the k-th is the answer of the whole, and unless a change was noted the codes so far stay
+  abbrev pub LooksTo : List ℕ → ℕ → ℕ → Type 0
+  LooksTo row k noted = (refusalLeft k row ≡ refusalLeft 0 row) × (noted ≡ 0 → row ≡ changedTo k row)
+
+  module _ (row : List ℕ) (fits : from + n ≤ length row) where
+    pub looks-start : (noted : ℕ) → LooksTo row 0 noted
+    looks-start noted = (refl, λ z. changed-none row fits)
+
+    pub looks-done : (k noted : ℕ) → k ≡ n → noted ≤ 1 → LooksTo row k noted → Looks plan r from row noted
+    looks-done k noted e small told =
+        record {
+          refused = λ h. absurd (omega arith);
+          passes = λ h. sym (told .0) ∙ ap (λ (i : ℕ). refusalLeft i row) e ∙ check-done row;
+          stays = λ z. told .1 z ∙ ap (λ (i : ℕ). changedTo i row) e ∙ changed-all row fits;
+        }
+
+    module _ (k : ℕ) (l : k < n) (noted : ℕ) (told : LooksTo row k noted) where
+      abbrev pub access : Option AccessKind
+      access = accessAt what starts k
+
+      abbrev pub code : ℕ
+      code = getD row (from + k) 0
+
+      looks-on : (noted′ : ℕ) → 0 ≡ refusalCode access r code → (noted′ ≡ 0 → (noted ≡ 0) × (code ≡ nextCode access r code)) → LooksTo row (k + 1) noted′
+      looks-on noted′ e same = (check-next row fits k 0 l e refl ∙ told .0, λ z. turn-stays row fits k l row row (told .1 (same z .0)) (same z .1) refl)
+
+      -- a number that is no code
+      pub looks-past : (noted′ : ℕ) → 15 ≤ code → noted′ ≡ noted → LooksTo row (k + 1) noted′
+      looks-past noted′ h e = looks-on noted′ (sym (past-refusal access r code h)) (λ z. (omega arith, sym (past-next access r code h)))
+
+      -- a code, whose outcome is looked up
+      module _ (table : List ℕ) (t : table ≡ outcomeTable) (line i d : ℕ) (e : line ≡ lineOf access r) (small : code < 16) (at : i ≡ code) (u : d ≡ getD table (line + i) 0) where
+        pub looks-found : d ≤ 15 → (noted′ : ℕ) → (noted′ ≡ 0 → (noted ≡ 0) × (d ≡ code)) → LooksTo row (k + 1) noted′
+        looks-found h noted′ same =
+            looks-on noted′ (look-passes access r table t code line i d e small at u h)
+            (λ z. (same z .0, sym (same z .1) ∙ look-next access r table t code line i d e small at u h))
+
+        pub looks-refused : 15 < d → Looks plan r from row d
+        looks-refused h =
+            record {
+              refused = λ q. check-here row fits k d l (look-refused access r table t code line i d e small at u h) (omega arith) ∙ told .0;
+              passes = λ q. absurd (omega arith);
+              stays = λ q. absurd (omega arith);
+            }
+
 -- ---- the line of a byte's access, by the code that tells it
 module _ (what : Accesses) (lines : List ℕ) (h : Lines what lines) where
   pub looked-end : what ≡ AtEnd → Looked what lines
@@ -182,20 +244,3 @@ pub line-small : (x : Option AccessKind) → lineIn x ≤ 32
 line-small none = omega arith
 line-small (some Read) = omega arith
 line-small (some Write) = omega arith
-
--- ---- a look-up of a code's outcome
-module _ (x : Option AccessKind) (r : NodeRelation) (table : List ℕ) (t : table ≡ outcomeTable) (c line i d : ℕ) (e : line ≡ lineOf x r) (small : c < 16) (at : i ≡ c) (u : d ≡ getD table (line + i) 0) where
-  looked-up : d ≡ outcome x r c
-  looked-up = u ∙ ap₂ (λ (l : List ℕ) (k : ℕ). getD l k 0) t (ap₂ _+_ e at) ∙ outcome-at x r c small
-
-  pub look-refused : 15 < d → d ≡ refusalCode x r c
-  look-refused h = looked-up ∙ refused-at x r c small (omega (arith, looked-up))
-
-  pub look-passes : d ≤ 15 → 0 ≡ refusalCode x r c
-  look-passes h = sym (passes-at x r c small (omega (arith, looked-up)))
-
-  pub look-next : d ≤ 15 → d ≡ nextCode x r c
-  look-next h = looked-up ∙ sym (next-at x r c small (omega (arith, looked-up)))
-
-  pub look-stays : 15 < d → c ≡ nextCode x r c
-  look-stays h = sym (stays-at x r c small (omega (arith, looked-up)))

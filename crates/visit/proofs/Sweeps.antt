@@ -3,7 +3,7 @@
 use Prim.Native.Nat.{ℕ, zero, suc, _+_, _-_, _≤_, _<_}
 use mathlib.Core.Path.{_≡_, refl, sym, ap, ap₂, subst, subst⁻¹, _∙_}
 use mathlib.Core.Bool.{Bool, true, false, not}
-use mathlib.Core.Option.{Option, none, some}
+use mathlib.Core.Option.{none, some}
 use mathlib.Core.List.{List, [], _∷_, _++_}
 use native.Mathlib.Decide.{ℕ-discrete, decLt}
 use native.Mathlib.Omega.{arith}
@@ -14,7 +14,7 @@ use lib.Seq.{getD-set-same, getD-set-other, take-at}
 use Rattle.definition.specs.Notation.{if_then_else_, _or_, firstRefusal, filter}
 use Rattle.definition.specs.Permission.{NodeRelation}
 use Rattle.definition.specs.Permission.NodeRelation.{Local, Foreign}
-use Rattle.definition.specs.Tree.{isAbove, isSpared, preorder, relation, visitingOrder}
+use Rattle.definition.specs.Tree.{isAbove, preorder, relation, visitingOrder}
 use Rattle.definition.specs.Valid.{All}
 use Rattle.definition.proofs.Trees.{Parents, parent-earlier, above-itself, above-parent, not-above-smaller}
 use Rattle.definition.proofs.Order.{none-spared, walk-none, walk-some, visits-only-nodes}
@@ -23,9 +23,9 @@ use Rattle.permission.specs.declared.AccessKind as declared
 use Rattle.permission.specs.Codes.{accessKind}
 use Rattle.visit.specs.declared.Accesses.{Accesses}
 use Rattle.visit.specs.declared.Reach.{Reach}
-use Rattle.visit.specs.Walk.{Ready, EachOf, Looks, eachAfter, accessesAt, codesRefusal, codesAfter, rowAt, withRowAt, subtree, nodeRefusal, nodeAfter, walkRefusal}
+use Rattle.visit.specs.Walk.{Ready, EachOf, Looks, planned, eachAfter, accessesAt, codesAfter, rowAt, withRowAt, subtree, nodeRefusal, nodeAfter, walkRefusal}
 use Rattle.visit.proofs.Places.{same-row}
-use Rattle.visit.specs.Sweep.{Spares, markOf, Climbed, relationOn, sweptRefusal, sweptNode, swept, Quiet}
+use Rattle.visit.specs.Sweep.{Spares, markOf, Climbed, relationOn, sweptRefusal, sweptNode, swept, Quiet, LooksNode, LooksAt}
 
 -- ---- the path
 module _ (ps : List ℕ) (tree : Parents ps) (accessed : ℕ) where
@@ -78,11 +78,11 @@ module _ (ps : List ℕ) (tree : Parents ps) (accessed : ℕ) where
 
 -- ---- node by node
 module _ (v : Reach) (ps starts : List ℕ) (n : ℕ) where
-  pub refusal-spared : (codes : List ℕ) → isAbove ps (v .spared) n ≡ true → 0 ≡ sweptRefusal v ps starts codes n
+  refusal-spared : (codes : List ℕ) → isAbove ps (v .spared) n ≡ true → 0 ≡ sweptRefusal v ps starts codes n
   unfolding sweptRefusal
   refusal-spared codes e = rw e
 
-  pub refusal-visited : (codes : List ℕ) → isAbove ps (v .spared) n ≡ false → nodeRefusal v ps starts codes n ≡ sweptRefusal v ps starts codes n
+  refusal-visited : (codes : List ℕ) → isAbove ps (v .spared) n ≡ false → nodeRefusal v ps starts codes n ≡ sweptRefusal v ps starts codes n
   unfolding sweptRefusal
   refusal-visited codes e = rw e
 
@@ -101,18 +101,30 @@ module _ (v : Reach) (ps starts : List ℕ) (n : ℕ) where
       before : (n : ℕ) → 0 < n → n ≡ suc (n - 1)
       before n z = omega arith
 
+-- what a look at its row tells, in the relation by where the path is met
+module _ (v : Reach) (ps starts : List ℕ) (n : ℕ) where
+  pub looks-spared : (codes : List ℕ) → isAbove ps (v .spared) n ≡ true → (answer : ℕ) → LooksNode v ps starts codes n answer
+  looks-spared codes e answer = record { quiet = λ h. sym (refusal-spared v ps starts n codes e); stays = λ z. node-spared v ps starts n codes e }
+
+  module _ (tree : Parents ps) (x : ℕ) (c : Climbed ps (v .node) x n) where
+    pub looks-visited : (codes : List ℕ) → isAbove ps (v .spared) n ≡ false → (r : NodeRelation) → r ≡ relationOn x n → (answer : ℕ)
+        → Looks (planned v starts) r (v .from) (rowAt (v .width) n codes) answer → LooksNode v ps starts codes n answer
+    unfolding nodeRefusal nodeAfter
+    looks-visited codes free r e answer told =
+        let here = subst (λ (r : NodeRelation). Looks (planned v starts) r (v .from) (rowAt (v .width) n codes) answer) (e ∙ met ps tree (v .node) x n c) told in
+        record {
+          quiet = λ h. sym (refusal-visited v ps starts n codes free) ∙ here .passes h;
+          stays = λ z.
+              sym (same-row (v .width) n codes)
+              ∙ ap (λ (row : List ℕ). withRowAt (v .width) n row codes) (here .stays z)
+              ∙ node-visited v ps starts n codes free;
+        }
+
 -- of one access at all its bytes, which spares none
 module _ (v : Reach) (kind : declared.AccessKind) (ps starts codes : List ℕ) (tree : Parents ps) (each : EachOf v kind ps) (x n : ℕ) (l : n < length ps)
     (c : Climbed ps (v .node) x n) where
   unspared : isAbove ps (v .spared) n ≡ false
   unspared = not-above-smaller ps tree (v .spared) n (omega (arith, each .none))
-
-  pub each-refusal : codesRefusal (relationOn x n) (replicate (v .len) (some (accessKind kind))) (drop (v .from) (rowAt (v .width) n codes)) ≡ sweptRefusal v ps starts codes n
-  unfolding nodeRefusal
-  each-refusal =
-      ap₂ (λ (r : NodeRelation) (what : Accesses). codesRefusal r (accessesAt what (v .len) starts) (drop (v .from) (rowAt (v .width) n codes)))
-      (met ps tree (v .node) x n c) (sym (each .same))
-      ∙ refusal-visited v ps starts n codes unspared
 
   pub each-change : withRowAt (v .width) n (eachAfter v kind (relationOn x n) (rowAt (v .width) n codes)) codes ≡ sweptNode v ps starts n codes
   unfolding nodeAfter
@@ -121,23 +133,14 @@ module _ (v : Reach) (kind : declared.AccessKind) (ps starts codes : List ℕ) (
       (met ps tree (v .node) x n c) (sym (each .same))
       ∙ node-visited v ps starts n codes unspared
 
-  -- what a look at the node's row tells
-  module _ (r : NodeRelation) (e : r ≡ relationOn x n) (answer : ℕ) (told : Looks kind r (v .from) (v .len) (rowAt (v .width) n codes) answer) where
-    pub look-quiet : answer ≤ 15 → sweptRefusal v ps starts codes n ≡ 0
-    look-quiet h =
-        sym
-        (ap (λ (r : NodeRelation). codesRefusal r (replicate (v .len) (some (accessKind kind))) (drop (v .from) (rowAt (v .width) n codes))) e ∙ each-refusal)
-        ∙ told .passes h
-
-    pub look-stays : answer ≡ 0 → codes ≡ sweptNode v ps starts n codes
-    look-stays z =
-        sym (same-row (v .width) n codes)
-        ∙ ap (λ (row : List ℕ). withRowAt (v .width) n row codes) (told .stays z)
-        ∙ ap (λ (r : NodeRelation). withRowAt (v .width) n (eachAfter v kind r (rowAt (v .width) n codes)) codes) e
-        ∙ each-change
+  pub each-looks : (r : NodeRelation) → r ≡ relationOn x n → (answer : ℕ) → Looks (replicate (v .len) (some (accessKind kind))) r (v .from) (rowAt (v .width) n codes) answer
+      → LooksNode v ps starts codes n answer
+  each-looks r e answer told =
+      looks-visited v ps starts n tree x c codes unspared r e answer
+      (subst (λ (what : Accesses). Looks (accessesAt what (v .len) starts) r (v .from) (rowAt (v .width) n codes) answer) (sym (each .same)) told)
 
 -- what holds of the nodes from n on, and of the one before
-pub from-next : (P : ℕ → Type 0) (n bound : ℕ) → ((k : ℕ) → n ≤ k → k < bound → P k) → P (n - 1) → (k : ℕ) → n - 1 ≤ k → k < bound → P k
+from-next : (P : ℕ → Type 0) (n bound : ℕ) → ((k : ℕ) → n ≤ k → k < bound → P k) → P (n - 1) → (k : ℕ) → n - 1 ≤ k → k < bound → P k
 from-next P n bound later here k l h =
     elim (ℕ-discrete k (n - 1)) [
       | yes e ↦ subst⁻¹ P e here
@@ -151,10 +154,29 @@ QuietFrom v ps starts codes n = (k : ℕ) → n ≤ k → k < length ps → swep
 abbrev pub StaysFrom : Reach → List ℕ → List ℕ → List ℕ → ℕ → Type 0
 StaysFrom v ps starts codes n = (k : ℕ) → n ≤ k → k < length ps → codes ≡ sweptNode v ps starts k codes
 
-pub swept-stays : (v : Reach) (ps starts codes : List ℕ) (n : ℕ) → ((k : ℕ) → k < n → codes ≡ sweptNode v ps starts k codes) → codes ≡ swept v ps starts n codes
+swept-stays : (v : Reach) (ps starts codes : List ℕ) (n : ℕ) → ((k : ℕ) → k < n → codes ≡ sweptNode v ps starts k codes) → codes ≡ swept v ps starts n codes
 unfolding swept
 swept-stays v ps starts codes zero h = refl
 swept-stays v ps starts codes (suc n) h = swept-stays v ps starts codes n (λ k l. h k (omega arith)) ∙ ap (swept v ps starts n) (h n (omega arith))
+
+-- what a look at the nodes from n on told: they are not refused, and unless a change was noted they stay
+abbrev pub LooksFrom : Reach → List ℕ → List ℕ → List ℕ → ℕ → ℕ → Type 0
+LooksFrom v ps starts codes n noted = QuietFrom v ps starts codes n × (noted ≡ 0 → StaysFrom v ps starts codes n)
+
+module _ (v : Reach) (ps starts codes : List ℕ) (n noted : ℕ) (told : LooksFrom v ps starts codes n noted) where
+  pub looks-next : (noted′ answer : ℕ) → LooksNode v ps starts codes (n - 1) answer → answer ≤ 15 → (noted′ ≡ 0 → (noted ≡ 0) × (answer ≡ 0))
+      → LooksFrom v ps starts codes (n - 1) noted′
+  looks-next noted′ answer here h same = (
+    from-next (λ k. sweptRefusal v ps starts codes k ≡ 0) n (length ps) (told .0) (here .quiet h),
+    λ z. from-next (λ k. codes ≡ sweptNode v ps starts k codes) n (length ps) (told .1 (same z .0)) (here .stays (same z .1)),
+  )
+
+  pub looks-all : n ≡ 0 → LooksAt v ps starts codes noted
+  looks-all e =
+      record {
+        quiet = λ h k i. told .0 k (omega arith) i;
+        stays = λ z. swept-stays v ps starts codes (length ps) (λ k i. told .1 z k (omega arith) i);
+      }
 
 -- ---- no refusal
 first-zero : {A : Type 0} (P : A → Type 0) (f : A → ℕ) → ((x : A) → P x → f x ≡ 0) → (l : List A) → All P l → firstRefusal f l ≡ 0

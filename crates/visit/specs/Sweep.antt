@@ -36,6 +36,11 @@ sweptRefusal v ps starts codes n = if isAbove ps (v .spared) n then 0 else nodeR
 unfoldable pub sweptNode : Reach → List ℕ → List ℕ → ℕ → List ℕ → List ℕ
 sweptNode v ps starts n codes = if isAbove ps (v .spared) n then codes else nodeAfter v ps starts n codes
 
+-- what a look at the node tells: up to 15 it is not refused, and at 0 no code changes
+pub record LooksNode (v : Reach) (ps starts codes : List ℕ) (n answer : ℕ) : Type 0 where
+  pub quiet : answer ≤ 15 → sweptRefusal v ps starts codes n ≡ 0
+  pub stays : answer ≡ 0 → codes ≡ sweptNode v ps starts n codes
+
 -- ---- at all of them
 -- none is refused
 abbrev pub Quiet : Reach → List ℕ → List ℕ → List ℕ → Type 0

@@ -1,13 +1,11 @@
 -- A visit as the code makes it, over the tables. That it is the definition's is shown in proofs/Meaning.antt.
-use Prim.Native.Nat.{ℕ, zero, suc, _+_, _*_, _≤_, _<_}
+use Prim.Native.Nat.{ℕ, _+_, _*_, _≤_, _<_}
 use mathlib.Core.Path.{_≡_}
-use mathlib.Core.Bool.{Bool, true, false}
 use mathlib.Core.Option.{Option, none, some}
 use mathlib.Core.List.{List, [], _∷_, _++_, map}
 use lib.ListN.{length, getD, take, drop, replicate}
-use Rattle.definition.specs.Notation.{_or_, firstRefusal, any}
+use Rattle.definition.specs.Notation.{_or_, firstRefusal}
 use Rattle.definition.specs.Permission.{AccessKind, NodeRelation}
-use Rattle.definition.specs.Permission.AccessKind.{Write}
 use Rattle.definition.specs.Tree.{relation}
 use Rattle.definition.proofs.Trees.{Parents}
 use Rattle.definition.proofs.Order.{walk}
@@ -89,11 +87,11 @@ rowAfter v starts r row = take (v .from) row ++ codesAfter r (planned v starts) 
 abbrev pub eachAfter : Reach → declared.AccessKind → NodeRelation → List ℕ → List ℕ
 eachAfter v a r row = take (v .from) row ++ codesAfter r (replicate (v .len) (some (accessKind a))) (drop (v .from) row)
 
--- what a look at a row tells: the first refusal, or that there is none, and perhaps that every code stays
-pub record Looks (a : declared.AccessKind) (r : NodeRelation) (from len : ℕ) (row : List ℕ) (answer : ℕ) : Type 0 where
-  pub refused : 15 < answer → answer ≡ codesRefusal r (replicate len (some (accessKind a))) (drop from row)
-  pub passes : answer ≤ 15 → codesRefusal r (replicate len (some (accessKind a))) (drop from row) ≡ 0
-  pub stays : answer ≡ 0 → row ≡ take from row ++ codesAfter r (replicate len (some (accessKind a))) (drop from row)
+-- what a look at a row tells, of accesses from `from` on: the first refusal, or that there is none, and perhaps that every code stays
+pub record Looks (xs : List (Option AccessKind)) (r : NodeRelation) (from : ℕ) (row : List ℕ) (answer : ℕ) : Type 0 where
+  pub refused : 15 < answer → answer ≡ codesRefusal r xs (drop from row)
+  pub passes : answer ≤ 15 → codesRefusal r xs (drop from row) ≡ 0
+  pub stays : answer ≡ 0 → row ≡ take from row ++ codesAfter r xs (drop from row)
 
 -- the visit makes this one, and spares none of these nodes
 pub record EachOf (v : Reach) (a : declared.AccessKind) (ps : List ℕ) : Type 0 where

@@ -1,12 +1,11 @@
 // A visit of one allocation's tree over its tables: each node's parent, and a row of codes for its bytes. It goes to every node but one that is
 // spared and its descendants, parents before children, children in the order they were made, each with its bytes ascending.
-// It is made twice: a check, and, if nothing is refused, the change. So a refusal leaves nothing to undo. Only where something is refused does
-// the order matter, for what comes first: the nodes are gone over from the last to the first, and in the tree's order only to find that.
+// It is made twice: a look, and, if nothing is refused and a code changes, the change. So a refusal leaves nothing to undo. Only where something is
+// refused does the order matter, for what comes first: the nodes are gone over from the last to the first, and in the tree's order only to find that.
 use permission::AccessKind;
 use permission::MaybeAccess;
 use permission::NodeRelation;
 ghost use mathlib.Core.Path.{_≡_};
-ghost use mathlib.Core.Bool.{true};
 ghost use mathlib.Core.Logic.{_⊎_};
 ghost use mathlib.Core.Option.{some};
 ghost use mathlib.Core.List.{List, _++_};
@@ -16,8 +15,8 @@ ghost use Rattle.definition.specs.Tree as definition;
 ghost use Rattle.definition.specs.Tree.{isAbove};
 ghost use Rattle.definition.proofs.Trees.{Parents};
 ghost use Rattle.permission.specs.Codes.{outcomeTable, lineAt, lineOf, accessKind, nodeRelation};
-ghost use Rattle.visit.specs.Walk.{Ready, Looked, Tabled, accessAt, codesRefusal, codesAfter, rowRefusal, rowAfter, rowAt, withRowAt, eachAfter, EachOf, Looks, nodeRefusal, below, subtree, walkRefusal};
-ghost use Rattle.visit.specs.Sweep.{Spares, markOf, relationOn, Climbed, sweptRefusal, sweptNode, swept, Quiet, LooksAt};
+ghost use Rattle.visit.specs.Walk.{Ready, Looked, Tabled, accessAt, planned, codesAfter, rowAfter, rowAt, withRowAt, eachAfter, EachOf, Looks, nodeRefusal, below, subtree, walkRefusal};
+ghost use Rattle.visit.specs.Sweep.{Spares, markOf, relationOn, Climbed, sweptNode, swept, LooksNode, LooksAt};
 ghost use Rattle.visit.specs.Plan.{childFrom, Linked, Marked, Planned, Zeros, Roomy, Unmarked, SameLinks};
 
 // The accesses of a visit: the same at each byte; or, by a lent row of codes, the one that the end of the byte's protector makes, or the
@@ -219,7 +218,7 @@ fn look_each(
 ) -> u8
     requires { ⌜ now table ≡ outcomeTable ⌝ }
     requires { ⌜ from + len ≤ length (now row) ⌝ }
-    ensures { λ r. ⌜ Looks kind (nodeRelation relation) from len (now (row .entry)) r ⌝ }
+    ensures { λ r. ⌜ Looks (replicate len (some (accessKind kind))) (nodeRelation relation) from (now (row .entry)) r ⌝ }
 {
     let line = permission::line_of(MaybeAccess::Access(kind), relation);
     let mut changed = 0;
@@ -227,6 +226,41 @@ fn look_each(
     while k < len {
         let code = row[from + k];
         if code < 16 {
+            let outcome = table[line + index(code)];
+            if 15 < outcome {
+                return outcome;
+            }
+            if outcome != code {
+                changed = 1; // it does not stay
+            }
+        }
+        k += 1;
+    }
+    changed
+}
+
+// The same where each byte may have another access.
+fn look_bytes(
+    row: &[u8],
+    starts: &[u8],
+    lines: &[u8; 16],
+    table: &[u8; 96],
+    v: Reach,
+    relation: NodeRelation,
+) -> u8
+    requires { ⌜ (now table ≡ outcomeTable) × Looked (v .what) (now lines) ⌝ }
+    requires { ⌜ v .from + v .len ≤ length (now row) ⌝ }
+    ensures { λ r. ⌜ Looks (planned v (now (starts .entry))) (nodeRelation relation) (v .from) (now (row .entry)) r ⌝ }
+{
+    let what = v.what;
+    let from = v.from;
+    let len = v.len;
+    let mut changed = 0;
+    let mut k = 0;
+    while k < len {
+        let code = row[from + k];
+        if code < 16 {
+            let line = line_at(what, lines, starts, k, relation);
             let outcome = table[line + index(code)];
             if 15 < outcome {
                 return outcome;
@@ -240,59 +274,8 @@ fn look_each(
     changed
 }
 
-// The first refusal, or 0.
-fn check_each(
-    row: &[u8],
-    table: &[u8; 96],
-    from: usize,
-    len: usize,
-    kind: AccessKind,
-    relation: NodeRelation,
-) -> u8
-    requires { ⌜ now table ≡ outcomeTable ⌝ }
-    requires { ⌜ from + len ≤ length (now row) ⌝ }
-    ensures { λ r. ⌜ r ≡ codesRefusal (nodeRelation relation) (replicate len (some (accessKind kind))) (drop from (now (row .entry))) ⌝ }
-{
-    let looked = look_each(row, table, from, len, kind, relation);
-    if looked < 16 {
-        return 0;
-    }
-    looked
-}
-
-// The same where each byte may have another access.
-fn check_bytes(
-    row: &[u8],
-    starts: &[u8],
-    lines: &[u8; 16],
-    table: &[u8; 96],
-    v: Reach,
-    relation: NodeRelation,
-) -> u8
-    requires { ⌜ (now table ≡ outcomeTable) × Looked (v .what) (now lines) ⌝ }
-    requires { ⌜ v .from + v .len ≤ length (now row) ⌝ }
-    ensures { λ r. ⌜ r ≡ rowRefusal v (now (starts .entry)) (nodeRelation relation) (now (row .entry)) ⌝ }
-{
-    let what = v.what;
-    let from = v.from;
-    let len = v.len;
-    let mut k = 0;
-    while k < len {
-        let code = row[from + k];
-        if code < 16 {
-            let line = line_at(what, lines, starts, k, relation);
-            let outcome = table[line + index(code)];
-            if 15 < outcome {
-                return outcome;
-            }
-        }
-        k += 1;
-    }
-    0
-}
-
-// The first refusal among the visited bytes of a row, or 0.
-fn check_row(
+// What the accesses of a visit come to in a row, told in the same way.
+fn look_row(
     row: &[u8],
     starts: &[u8],
     lines: &[u8; 16],
@@ -302,13 +285,13 @@ fn check_row(
 ) -> u8
     requires { ⌜ Tabled v (now lines) (now table) ⌝ }
     requires { ⌜ v .from + v .len ≤ length (now row) ⌝ }
-    ensures { λ r. ⌜ r ≡ rowRefusal v (now (starts .entry)) (nodeRelation relation) (now (row .entry)) ⌝ }
+    ensures { λ r. ⌜ Looks (planned v (now (starts .entry))) (nodeRelation relation) (v .from) (now (row .entry)) r ⌝ }
 {
     let what = v.what;
     match what {
-        Accesses::Each(kind) => check_each(row, table, v.from, v.len, kind, relation),
-        Accesses::AtEnd => check_bytes(row, starts, lines, table, v, relation),
-        Accesses::AtInit => check_bytes(row, starts, lines, table, v, relation),
+        Accesses::Each(kind) => look_each(row, table, v.from, v.len, kind, relation),
+        Accesses::AtEnd => look_bytes(row, starts, lines, table, v, relation),
+        Accesses::AtInit => look_bytes(row, starts, lines, table, v, relation),
     }
 }
 
@@ -392,8 +375,8 @@ fn apply_row(
 
 // ---- the rows of a table
 
-// The first refusal in the row of node n, to which the access stands in a relation, or 0.
-fn check_at(
+// What the accesses come to in the row of node n, to which they stand in a relation.
+fn look_at(
     codes: &[u8],
     starts: &[u8],
     lines: &[u8; 16],
@@ -404,12 +387,12 @@ fn check_at(
 ) -> u8
     requires { ⌜ Tabled v (now lines) (now table) ⌝ }
     requires { ⌜ (n * v .width + v .width ≤ length (now codes)) × (v .from + v .len ≤ v .width) ⌝ }
-    ensures { λ r. ⌜ r ≡ rowRefusal v (now (starts .entry)) (nodeRelation relation) (rowAt (v .width) n (now (codes .entry))) ⌝ }
+    ensures { λ r. ⌜ Looks (planned v (now (starts .entry))) (nodeRelation relation) (v .from) (rowAt (v .width) n (now (codes .entry))) r ⌝ }
 {
     let width = v.width;
     let start = n * width;
     let end = start + width;
-    check_row(&codes[start..end], starts, lines, table, v, relation)
+    look_row(&codes[start..end], starts, lines, table, v, relation)
 }
 
 // The row of node n, each byte as its access leaves it.
@@ -432,7 +415,7 @@ fn apply_at(
     apply_row(&mut codes[start..end], starts, lines, table, v, relation);
 }
 
-// The same for one access at all its bytes; the check tells what `look_each` does.
+// The same two for one access at all its bytes.
 fn look_each_at(
     codes: &[u8],
     table: &[u8; 96],
@@ -443,7 +426,7 @@ fn look_each_at(
 ) -> u8
     requires { ⌜ now table ≡ outcomeTable ⌝ }
     requires { ⌜ (n * v .width + v .width ≤ length (now codes)) × (v .from + v .len ≤ v .width) ⌝ }
-    ensures { λ r. ⌜ Looks kind (nodeRelation relation) (v .from) (v .len) (rowAt (v .width) n (now (codes .entry))) r ⌝ }
+    ensures { λ r. ⌜ Looks (replicate (v .len) (some (accessKind kind))) (nodeRelation relation) (v .from) (rowAt (v .width) n (now (codes .entry))) r ⌝ }
 {
     let width = v.width;
     let start = n * width;
@@ -488,7 +471,11 @@ fn check_node(
     ensures { λ r. ⌜ r ≡ nodeRefusal v (now (parents .entry)) (now (starts .entry)) (now (codes .entry)) n ⌝ }
 {
     let relation = planned_relation(plan, parents, n, v.node);
-    check_at(codes, starts, lines, table, v, n, relation)
+    let looked = look_at(codes, starts, lines, table, v, n, relation);
+    if looked < 16 {
+        return 0;
+    }
+    looked
 }
 
 // The first refusal at the descendants of node n, or 0.
@@ -620,7 +607,7 @@ fn check_in_order(
     check_with(&mut scratch, parents, codes, starts, lines, table, v)
 }
 
-// ---- from the last node to the first: whether there is a refusal, and the change, which no order alters
+// ---- from the last node to the first: whether there is a refusal or a change, and the change, which no order alters
 // `path` is where the path from the accessed node to the root meets the nodes that are left: that one is local, those behind it are foreign.
 
 // The spared node and its descendants have a mark. A node that the marks have no number for is looked for in the parents.
@@ -670,8 +657,8 @@ pub fn relation_on(path: usize, n: usize) -> NodeRelation
     }
 }
 
-// The first refusal at node n, or 0; the spared are passed over.
-fn check_swept(
+// What the accesses come to at node n; the spared are passed over.
+fn look_swept(
     marks: &[u8],
     parents: &[u16],
     codes: &[u8],
@@ -685,12 +672,12 @@ fn check_swept(
     requires { ⌜ Tabled v (now lines) (now table) × Spares (v .spared) (now parents) (now marks) ⌝ }
     requires { ⌜ Ready v (now parents) (now codes) ⌝ }
     requires { ⌜ (n < length (now parents)) × Climbed (now parents) (v .node) path n ⌝ }
-    ensures { λ r. ⌜ r ≡ sweptRefusal v (now (parents .entry)) (now (starts .entry)) (now (codes .entry)) n ⌝ }
+    ensures { λ r. ⌜ LooksNode v (now (parents .entry)) (now (starts .entry)) (now (codes .entry)) n r ⌝ }
 {
     if is_spared(marks, parents, v.spared, n) {
         return 0;
     }
-    check_at(codes, starts, lines, table, v, n, relation_on(path, n))
+    look_at(codes, starts, lines, table, v, n, relation_on(path, n))
 }
 
 // The row of node n as the visit leaves it.
@@ -716,36 +703,8 @@ fn apply_swept(
     apply_at(codes, starts, lines, table, v, n, relation_on(path, n));
 }
 
-// No visited node is refused.
-pub fn is_quiet(
-    marks: &[u8],
-    parents: &[u16],
-    codes: &[u8],
-    starts: &[u8],
-    lines: &[u8; 16],
-    table: &[u8; 96],
-    v: Reach,
-) -> bool
-    requires { ⌜ Tabled v (now lines) (now table) × Spares (v .spared) (now parents) (now marks) ⌝ }
-    requires { ⌜ Ready v (now parents) (now codes) ⌝ }
-    ensures { λ r. ⌜ (r ≡ true → Quiet v (now (parents .entry)) (now (starts .entry)) (now (codes .entry))) ⌝ }
-{
-    let mut path = v.node;
-    let mut n = parents.len();
-    while 0 < n {
-        n -= 1;
-        if check_swept(marks, parents, codes, starts, lines, table, v, n, path) != 0 {
-            return false;
-        }
-        if n == path {
-            path = wide(parents[n]);
-        }
-    }
-    true
-}
-
-// The first refusal of a visit, or 0.
-pub fn check(
+// 0: no visited node is refused, and no code changes. 1: none is refused. 2: it is not known.
+pub fn look(
     marks: &[u8],
     parents: &[u16],
     codes: &[u8],
@@ -755,10 +714,43 @@ pub fn check(
     v: Reach,
 ) -> u8
     requires { ⌜ Tabled v (now lines) (now table) × Spares (v .spared) (now parents) (now marks) ⌝ }
-    requires { ⌜ Ready v (now parents) (now codes) × (0 < v .spared) ⌝ }
+    requires { ⌜ Ready v (now parents) (now codes) ⌝ }
+    ensures { λ r. ⌜ LooksAt v (now (parents .entry)) (now (starts .entry)) (now (codes .entry)) r ⌝ }
+{
+    let mut changed = 0;
+    let mut path = v.node;
+    let mut n = parents.len();
+    while 0 < n {
+        n -= 1;
+        let looked = look_swept(marks, parents, codes, starts, lines, table, v, n, path);
+        if 15 < looked {
+            return 2;
+        }
+        if looked != 0 {
+            changed = 1;
+        }
+        if n == path {
+            path = wide(parents[n]);
+        }
+    }
+    changed
+}
+
+// The first refusal of a visit that `look` told so much of, or 0.
+pub fn check(
+    parents: &[u16],
+    codes: &[u8],
+    starts: &[u8],
+    lines: &[u8; 16],
+    table: &[u8; 96],
+    v: Reach,
+    looked: u8,
+) -> u8
+    requires { ⌜ Tabled v (now lines) (now table) ⌝ }
+    requires { ⌜ Ready v (now parents) (now codes) × (0 < v .spared) × LooksAt v (now parents) (now starts) (now codes) looked ⌝ }
     ensures { λ r. ⌜ r ≡ walkRefusal v (now (parents .entry)) (now (starts .entry)) (now (codes .entry)) (subtree (v .spared) 0 (now (parents .entry))) ⌝ }
 {
-    if is_quiet(marks, parents, codes, starts, lines, table, v) {
+    if looked < 2 {
         return 0;
     }
     check_in_order(parents, codes, starts, lines, table, v)
@@ -791,7 +783,7 @@ pub fn apply(
 
 // ---- the same for one access at all its bytes, which spares no node: the visit of a load or a store
 
-// 0: no node is refused, and no code changes. 1: no node is refused. 2: it is not known.
+// What `look` tells.
 pub fn look_at_nodes(
     parents: &[u16],
     codes: &[u8],

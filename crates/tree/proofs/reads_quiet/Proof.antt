@@ -8,7 +8,6 @@ use Rattle.tree.proofs.Meaning.{means-refusal}
 use Rattle.tree.proofs.Inits.{all-read, told-by}
 use Rattle.tree.proofs.Visits.{held-ready, means-reads, means-all}
 use Rattle.visit.proofs.Sweeps.{unmarked, quiet-none}
-use native.Mathlib.Omega.{arith}
 use borrow.Author.Needs.{needs}
 use Rattle.tree.proofs.reads_quiet.Statement.{statement}
 use Rattle.tree.proofs.reads_quiet.Tie as tie
@@ -17,7 +16,7 @@ use Rattle.tree.proofs.reads_quiet.Lts as lts
 use Rattle.permission.proofs.init_lines.Reads as init-lines-reads
 use Rattle.permission.proofs.outcomes.Reads as outcomes-reads
 use Rattle.tree.proofs.all_read.Reads as all-read-reads
-use Rattle.visit.proofs.is_quiet.Reads as is-quiet-reads
+use Rattle.visit.proofs.look.Reads as look-reads
 use Rattle.visit.proofs.look_at_nodes.Reads as look-at-nodes-reads
 
 init-lines-requires : tie.Need-init-lines-requires
@@ -42,18 +41,21 @@ returns c =
 returns-2 : tie.Need-returns-2
 returns-2 c = λ e. absurd (false≢true e)
 
-slice-aggregate-is-quiet : tie.Need-slice-aggregate-is-quiet
-slice-aggregate-is-quiet c = search needs
+slice-aggregate-look : tie.Need-slice-aggregate-look
+slice-aggregate-look c = search needs
 
-is-quiet-requires : tie.Need-is-quiet-requires
-is-quiet-requires c κs = let s = c .before .before .before .before .before .before .before .before .before .before .before in ((record { accesses = c .before .before .before .before .before .before .before .init-lines .ensures; outcomes = c .before .before .before .before .before .before .outcomes .ensures }, unmarked (s .args .parents .now) (s .pre .0 .1 .earlier) _ (s .pre .0 .1 .root)), held-ready _ (s .pre .0 .0) _ _ (s .pre .0 .1) (s .pre .1 .0) (s .pre .1 .1))
+look-requires : tie.Need-look-requires
+look-requires c κs = let s = c .before .before .before .before .before .before .before .before .before .before .before in ((record { accesses = c .before .before .before .before .before .before .before .init-lines .ensures; outcomes = c .before .before .before .before .before .before .outcomes .ensures }, unmarked (s .args .parents .now) (s .pre .0 .1 .earlier) _ (s .pre .0 .1 .root)), held-ready _ (s .pre .0 .0) _ _ (s .pre .0 .1) (s .pre .1 .0) (s .pre .1 .1))
 
 returns-3 : tie.Need-returns-3
 returns-3 c =
-    let s = c .before .before .before .before .before .before .before .before .before .before .before .before in
+    let s = c .before .before .before .before .before .before .before .before .before .before .before .before .before in
     λ e nodes holds.
     sym (means-refusal _ _ _ _ (means-reads (s .args .parents .now) (holds .earlier) (holds .root) (s .args .width) (s .args .node) (s .args .from) (s .args .inside .now)) nodes (s .args .codes .now) holds)
-    ∙ quiet-none _ (s .args .parents .now) (s .args .inside .now) (s .args .codes .now) (held-ready _ (s .pre .0 .0) _ _ (s .pre .0 .1) (s .pre .1 .0) (s .pre .1 .1)) (holds .root) (c .is-quiet .ensures e)
+    ∙ quiet-none _ (s .args .parents .now) (s .args .inside .now) (s .args .codes .now) (held-ready _ (s .pre .0 .0) _ _ (s .pre .0 .1) (s .pre .1 .0) (s .pre .1 .1)) (holds .root) (c .before .look .ensures .quiet (c .if3 .taken))
+
+returns-4 : tie.Need-returns-4
+returns-4 c = λ e. absurd (false≢true e)
 
 pub reads-quiet-spec : {M : Type 1} → statement M
 reads-quiet-spec =
@@ -65,6 +67,7 @@ reads-quiet-spec =
     look-at-nodes-requires
     returns
     returns-2
-    slice-aggregate-is-quiet
-    is-quiet-requires
-    returns-3)
+    slice-aggregate-look
+    look-requires
+    returns-3
+    returns-4)

@@ -1,24 +1,21 @@
 -- 16, or the row unprotected.
 use Prim.Native.Nat.{_+_, _*_, _≤_}
-use mathlib.Core.List.{map}
 use mathlib.Core.Path.{refl, sym, _∙_}
-use native.Mathlib.Omega.{arith}
-use borrow.Author.Needs.{needs}
 use lib.ListN.{length}
 use Rattle.definition.specs.Memory.Liveness.{Dead}
-use Rattle.permission.specs.Codes.{unprotectedCode}
-use Rattle.tree.proofs.Releases.{unprotected-table, dead-marks, release-16, release-visits, release-accepted, release-refused}
-use Rattle.visit.proofs.Places.{put-back}
 use Rattle.tree.proofs.Held.{held-fits, marks-count}
+use Rattle.tree.proofs.Releases.{unprotected-table, dead-marks, release-16, release-visits, release-accepted, release-refused}
+use borrow.Author.Needs.{needs}
+use native.Mathlib.Omega.{arith}
 use Rattle.tree.proofs.release_dead.Statement.{statement}
 use Rattle.tree.proofs.release_dead.Tie as tie
 use Rattle.tree.proofs.release_dead.Reads as reads
 use Rattle.tree.proofs.release_dead.Lts as lts
 use Rattle.tree.proofs.lacks_protector.Reads as lacks-protector-reads
-use Rattle.tree.proofs.unprotect_row.Reads as unprotect-row-reads
+use Rattle.tree.proofs.unprotect_node.Reads as unprotect-node-reads
 
 -- the node's row ends within the table
-ends : (s : lts.Start (lacks-protector-reads.Asked, lacks-protector-reads.Learnt, unprotect-row-reads.Asked, unprotect-row-reads.Learnt) reads.Pre reads.Post) → s .args .node * s .args .width + s .args .width ≤ length (s .args .codes .now)
+ends : (s : lts.Start (lacks-protector-reads.Asked, lacks-protector-reads.Learnt, unprotect-node-reads.Asked, unprotect-node-reads.Learnt) reads.Pre reads.Post) → s .args .node * s .args .width + s .args .width ≤ length (s .args .codes .now)
 ends s = held-fits (s .pre .0 .0) (s .args .width) (s .args .codes .now) (s .pre .0 .1 .table) (s .args .node) (omega (arith, marks-count (s .pre .0 .0) (s .args .protectors .now) (s .pre .0 .1 .marked)))
 
 lacks-protector-requires : tie.Need-lacks-protector-requires
@@ -34,23 +31,8 @@ returns c =
     release-refused Dead nodes (s .args .node) 16 (s .args .protectors .now) _
     (release-16 Dead nodes (s .args .node) (sym (c .before .lacks-protector .ensures nodes held) ∙ c .if1 .taken)) (λ q. absurd (omega arith)) (held .marked) (held .table .rows)
 
-mul-start : tie.Need-mul-start
-mul-start c = omega (arith, ends (c .before .before .before .before .before))
-
-add-end : tie.Need-add-end
-add-end c = omega (arith, ends (c .before .before .before .before .before))
-
-sub-unprotect-row : tie.Need-sub-unprotect-row
-sub-unprotect-row c = search needs
-
-part-unprotect-row-start : tie.Need-part-unprotect-row-start
-part-unprotect-row-start c = search needs
-
-part-unprotect-row-end : tie.Need-part-unprotect-row-end
-part-unprotect-row-end c = ends (c .before .before .before .before .before)
-
-unprotect-row-requires : tie.Need-unprotect-row-requires
-unprotect-row-requires c κs = search needs
+unprotect-node-requires : tie.Need-unprotect-node-requires
+unprotect-node-requires c κs = ends (c .before .before .before .before .before .before)
 
 same-length-2 : tie.Need-same-length-2
 same-length-2 c = search needs
@@ -59,13 +41,10 @@ returns-2 : tie.Need-returns-2
 returns-2 c =
     let s = c .before .before .before .before .before .before .before .before .before in
     let n = s .args .node in
-    let width = s .args .width in
-    let codes = s .args .codes .now in
     λ nodes held.
     release-accepted Dead nodes n 0 (s .args .protectors .now) _
     (release-visits Dead nodes n (sym (c .before .before .before .before .before .lacks-protector .ensures nodes held) ∙ c .before .before .before .before .if1 .left)) refl (held .marked ∙ dead-marks nodes n)
-    (put-back (map unprotectedCode) width n codes _ (c .before .before .unprotect-row .ensures)
-    ∙ unprotected-table Dead nodes width codes (held .table) n (omega (arith, marks-count nodes (s .args .protectors .now) (held .marked))))
+    (c .before .before .unprotect-node .ensures ∙ unprotected-table Dead nodes (s .args .width) (s .args .codes .now) (held .table) n (omega (arith, marks-count nodes (s .args .protectors .now) (held .marked))))
 
 pub release-dead-spec : {M : Type 1} → statement M
 release-dead-spec =
@@ -74,11 +53,6 @@ release-dead-spec =
     lacks-protector-requires
     same-length
     returns
-    mul-start
-    add-end
-    sub-unprotect-row
-    part-unprotect-row-start
-    part-unprotect-row-end
-    unprotect-row-requires
+    unprotect-node-requires
     same-length-2
     returns-2)

@@ -1,20 +1,15 @@
 -- Nothing is refused, or the order tells what is.
 use mathlib.Core.Path.{sym}
 use Rattle.visit.proofs.Sweeps.{quiet-none}
-use native.Mathlib.Omega.{arith}
 use borrow.Author.Needs.{needs}
 use Rattle.visit.proofs.check.Statement.{statement}
 use Rattle.visit.proofs.check.Tie as tie
 use Rattle.visit.proofs.check.Reads as reads
 use Rattle.visit.proofs.check.Lts as lts
 use Rattle.visit.proofs.check_in_order.Reads as check-in-order-reads
-use Rattle.visit.proofs.is_quiet.Reads as is-quiet-reads
-
-is-quiet-requires : tie.Need-is-quiet-requires
-is-quiet-requires c κs = search needs
 
 returns : tie.Need-returns
-returns c = let s = c .before .before .before .before .before .before in sym (quiet-none (s .args .v) (s .args .parents .now) (s .args .starts .now) (s .args .codes .now) (s .pre .1 .0) (s .pre .1 .1) (c .before .is-quiet .ensures (c .if1 .taken)))
+returns c = let s = c .before .before .before .before in sym (quiet-none (s .args .v) (s .args .parents .now) (s .args .starts .now) (s .args .codes .now) (s .pre .1 .0) (s .pre .1 .1) (s .pre .1 .2 .quiet (c .if1 .taken)))
 
 check-in-order-requires : tie.Need-check-in-order-requires
 check-in-order-requires c κs = search needs
@@ -23,4 +18,4 @@ returns-2 : tie.Need-returns-2
 returns-2 c = search needs
 
 pub check-spec : {M : Type 1} → statement M
-check-spec = tie.close (tie.spec is-quiet-requires returns check-in-order-requires returns-2)
+check-spec = tie.close (tie.spec returns check-in-order-requires returns-2)

@@ -1,12 +1,9 @@
--- The invariant: the nodes gone over are not refused, and unless a change was noted they stay.
-use Prim.Native.Nat.{ℕ, _-_, _≤_}
+-- The invariant: what the nodes gone over told.
+use Prim.Native.Nat.{ℕ, _-_}
 use mathlib.Core.List.{List}
 use mathlib.Core.Logic.{⊎-elim}
-use mathlib.Core.Path.{_≡_}
-use lib.ListN.{length}
-use Rattle.visit.specs.Sweep.{sweptRefusal, sweptNode}
 use Rattle.visit.proofs.Places.{row-in}
-use Rattle.visit.proofs.Sweeps.{Sweeping, sweeping-start, sweeping-up, sweeping-on, QuietFrom, StaysFrom, from-next, look-quiet, look-stays, swept-stays}
+use Rattle.visit.proofs.Sweeps.{Sweeping, sweeping-start, sweeping-up, sweeping-on, LooksFrom, each-looks, looks-next, looks-all}
 use borrow.Author.Needs.{needs}
 use native.Mathlib.Omega.{arith}
 use Rattle.visit.proofs.look_at_nodes.Statement.{statement}
@@ -18,13 +15,13 @@ use Rattle.visit.proofs.relation_on.Reads as relation-on-reads
 use Rattle.visit.proofs.wide.Reads as wide-reads
 
 abbrev Inv-loop : tie.InvT-loop
-Inv-loop parents codes table v kind changed₀ path₀ n₀ changed path n = Sweeping parents (v .node) path n × (changed ≤ 1) × ((starts : List ℕ) → QuietFrom v parents starts codes n) × (changed ≡ 0 → (starts : List ℕ) → StaysFrom v parents starts codes n)
+Inv-loop parents codes table v kind changed₀ path₀ n₀ changed path n = Sweeping parents (v .node) path n × ((starts : List ℕ) → LooksFrom v parents starts codes n changed)
 
 abbrev μ-loop : tie.MeasureT-loop
 μ-loop parents codes table v kind changed₀ path₀ n₀ changed path n = n
 
 loop-holds : tie.Need-loop-holds Inv-loop μ-loop
-loop-holds c = let s = c .before .before in (sweeping-start (s .args .parents .now) (s .pre .1 .tree) (s .args .v .node) (s .pre .1 .node), omega arith, λ starts k l h. absurd (omega arith), λ z starts k l h. absurd (omega arith))
+loop-holds c = let s = c .before .before in (sweeping-start (s .args .parents .now) (s .pre .1 .tree) (s .args .v .node) (s .pre .1 .node), λ starts. (λ k l h. absurd (omega arith), λ z k l h. absurd (omega arith)))
 
 sub-n : tie.Need-sub-n Inv-loop μ-loop
 sub-n c = search needs
@@ -53,18 +50,13 @@ loop-less c = omega arith
 loop-again : tie.Need-loop-again Inv-loop μ-loop
 loop-again c =
     let s = c .before .before .before .before .before .before .before .before .before .before .before in
-    let l = c .before .before .before .before .before .before .before .before .loop in (
+    let l = c .before .before .before .before .before .before .before .before .loop in
+    let looked = c .before .before .before .before .before .look-each-at in (
       sweeping-up (s .args .parents .now) (s .pre .1 .tree) (s .args .v .node) (l .path) (l .n) _ (l .inv .0) (omega arith) (c .before .before .if3 .taken) (c .wide .ensures),
-      ⊎-elim (λ w. omega (arith, w .1)) (λ w. omega (arith, w .1, l .inv .1)) (c .before .before .before .if2 .came),
       λ starts.
-          from-next (λ k. sweptRefusal (s .args .v) (s .args .parents .now) starts (s .args .codes .now) k ≡ 0) (l .n) (length (s .args .parents .now)) (l .inv .2 starts)
-          (look-quiet (s .args .v) (s .args .kind) (s .args .parents .now) starts (s .args .codes .now) (s .pre .1 .tree) (s .pre .0 .1) (l .path) (l .n - 1) (omega (arith, l .inv .0 .0)) (l .inv .0 .1 (omega arith)) _ (c .before .before .before .before .before .before .relation-on .ensures) (c .before .before .before .before .before .look-each-at .result) (c .before .before .before .before .before .look-each-at .ensures) (omega (arith, c .before .before .before .before .if1 .left))),
-      λ z starts.
-          ⊎-elim (λ w. absurd (omega (arith, w .1)))
-          (λ w.
-          from-next (λ k. s .args .codes .now ≡ sweptNode (s .args .v) (s .args .parents .now) starts k (s .args .codes .now)) (l .n) (length (s .args .parents .now)) (l .inv .3 (omega (arith, w .1)) starts)
-          (look-stays (s .args .v) (s .args .kind) (s .args .parents .now) starts (s .args .codes .now) (s .pre .1 .tree) (s .pre .0 .1) (l .path) (l .n - 1) (omega (arith, l .inv .0 .0)) (l .inv .0 .1 (omega arith)) _ (c .before .before .before .before .before .before .relation-on .ensures) (c .before .before .before .before .before .look-each-at .result) (c .before .before .before .before .before .look-each-at .ensures) (w .0 .left)))
-          (c .before .before .before .if2 .came),
+          looks-next (s .args .v) (s .args .parents .now) starts (s .args .codes .now) (l .n) (l .changed) (l .inv .1 starts) _ (looked .result)
+          (each-looks (s .args .v) (s .args .kind) (s .args .parents .now) starts (s .args .codes .now) (s .pre .1 .tree) (s .pre .0 .1) (l .path) (l .n - 1) (omega (arith, l .inv .0 .0)) (l .inv .0 .1 (omega arith)) _ (c .before .before .before .before .before .before .relation-on .ensures) (looked .result) (looked .ensures))
+          (omega (arith, c .before .before .before .before .if1 .left)) (λ z. ⊎-elim (λ w. absurd (omega (arith, w .1))) (λ w. (omega (arith, w .1), w .0 .left)) (c .before .before .before .if2 .came)),
     )
 
 loop-less-2 : tie.Need-loop-less-2 Inv-loop μ-loop
@@ -73,29 +65,20 @@ loop-less-2 c = omega arith
 loop-again-2 : tie.Need-loop-again-2 Inv-loop μ-loop
 loop-again-2 c =
     let s = c .before .before .before .before .before .before .before .before .before in
-    let l = c .before .before .before .before .before .before .loop in (
+    let l = c .before .before .before .before .before .before .loop in
+    let looked = c .before .before .before .look-each-at in (
       sweeping-on (s .args .parents .now) (s .pre .1 .tree) (s .args .v .node) (l .path) (l .n) (l .inv .0) (omega arith) (c .if3 .left),
-      ⊎-elim (λ w. omega (arith, w .1)) (λ w. omega (arith, w .1, l .inv .1)) (c .before .if2 .came),
       λ starts.
-          from-next (λ k. sweptRefusal (s .args .v) (s .args .parents .now) starts (s .args .codes .now) k ≡ 0) (l .n) (length (s .args .parents .now)) (l .inv .2 starts)
-          (look-quiet (s .args .v) (s .args .kind) (s .args .parents .now) starts (s .args .codes .now) (s .pre .1 .tree) (s .pre .0 .1) (l .path) (l .n - 1) (omega (arith, l .inv .0 .0)) (l .inv .0 .1 (omega arith)) _ (c .before .before .before .before .relation-on .ensures) (c .before .before .before .look-each-at .result) (c .before .before .before .look-each-at .ensures) (omega (arith, c .before .before .if1 .left))),
-      λ z starts.
-          ⊎-elim (λ w. absurd (omega (arith, w .1)))
-          (λ w.
-          from-next (λ k. s .args .codes .now ≡ sweptNode (s .args .v) (s .args .parents .now) starts k (s .args .codes .now)) (l .n) (length (s .args .parents .now)) (l .inv .3 (omega (arith, w .1)) starts)
-          (look-stays (s .args .v) (s .args .kind) (s .args .parents .now) starts (s .args .codes .now) (s .pre .1 .tree) (s .pre .0 .1) (l .path) (l .n - 1) (omega (arith, l .inv .0 .0)) (l .inv .0 .1 (omega arith)) _ (c .before .before .before .before .relation-on .ensures) (c .before .before .before .look-each-at .result) (c .before .before .before .look-each-at .ensures) (w .0 .left)))
-          (c .before .if2 .came),
+          looks-next (s .args .v) (s .args .parents .now) starts (s .args .codes .now) (l .n) (l .changed) (l .inv .1 starts) _ (looked .result)
+          (each-looks (s .args .v) (s .args .kind) (s .args .parents .now) starts (s .args .codes .now) (s .pre .1 .tree) (s .pre .0 .1) (l .path) (l .n - 1) (omega (arith, l .inv .0 .0)) (l .inv .0 .1 (omega arith)) _ (c .before .before .before .before .relation-on .ensures) (looked .result) (looked .ensures))
+          (omega (arith, c .before .before .if1 .left)) (λ z. ⊎-elim (λ w. absurd (omega (arith, w .1))) (λ w. (omega (arith, w .1), w .0 .left)) (c .before .if2 .came)),
     )
 
 returns-2 : tie.Need-returns-2 Inv-loop μ-loop
 returns-2 c =
     let s = c .before .before .before .before in
     let l = c .before .loop in
-    λ starts.
-    record {
-      quiet = λ h k i. l .inv .2 starts k (omega arith) i;
-      stays = λ z. swept-stays (s .args .v) (s .args .parents .now) starts (s .args .codes .now) (length (s .args .parents .now)) (λ k i. l .inv .3 z starts k (omega arith) i);
-    }
+    λ starts. looks-all (s .args .v) (s .args .parents .now) starts (s .args .codes .now) (l .n) (l .changed) (l .inv .1 starts) (omega arith)
 
 pub look-at-nodes-spec : {M : Type 1} → statement M
 look-at-nodes-spec =

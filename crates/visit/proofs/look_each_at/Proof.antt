@@ -1,11 +1,12 @@
 -- The part that is lent is the row.
 use Prim.Native.Nat.{ℕ}
 use mathlib.Core.List.{List}
+use mathlib.Core.Option.{some}
 use mathlib.Core.Path.{subst}
-use Rattle.permission.specs.Codes.{nodeRelation}
+use lib.ListN.{replicate}
+use Rattle.permission.specs.Codes.{accessKind, nodeRelation}
 use Rattle.visit.specs.Walk.{Looks}
 use Rattle.visit.proofs.Places.{part-row}
-use native.Mathlib.Omega.{arith}
 use borrow.Author.Needs.{needs}
 use Rattle.visit.proofs.look_each_at.Statement.{statement}
 use Rattle.visit.proofs.look_each_at.Tie as tie
@@ -34,7 +35,7 @@ look-each-requires c κs = search needs
 returns : tie.Need-returns
 returns c =
     let s = c .before .before .before in
-    subst (λ (row : List ℕ). Looks (s .args .kind) (nodeRelation (s .args .relation)) (s .args .v .from) (s .args .v .len) row (c .look-each .result)) (part-row (s .args .v .width) (s .args .n) (s .args .codes .now))
+    subst (λ (row : List ℕ). Looks (replicate (s .args .v .len) (some (accessKind (s .args .kind)))) (nodeRelation (s .args .relation)) (s .args .v .from) row (c .look-each .result)) (part-row (s .args .v .width) (s .args .n) (s .args .codes .now))
     (c .look-each .ensures)
 
 pub look-each-at-spec : {M : Type 1} → statement M

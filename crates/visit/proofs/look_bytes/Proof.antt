@@ -1,27 +1,24 @@
--- The invariant: what is left of the check is the answer of the whole.
-use Prim.Native.Nat.{ℕ, _+_, _-_, _≤_}
-use mathlib.Core.Option.{Option}
+-- The invariant: what the bytes so far told.
+use Prim.Native.Nat.{_-_, _≤_}
 use mathlib.Core.Logic.{⊎-elim}
-use mathlib.Core.Path.{_≡_, refl, sym, ap, _∙_}
+use mathlib.Core.Path.{refl}
 use native.Mathlib.Omega.{arith}
 use borrow.Author.Needs.{needs}
-use lib.ListN.{getD}
-use Rattle.definition.specs.Permission.{AccessKind}
-use Rattle.permission.proofs.Lines.{line-end, past-refusal}
-use Rattle.permission.specs.Codes.{nodeRelation, maybeAccess, lineOf}
+use Rattle.permission.proofs.Lines.{line-end}
+use Rattle.permission.specs.Codes.{nodeRelation}
 use Rattle.visit.specs.Walk.{accessAt}
-use Rattle.visit.proofs.Rows.{refusalLeft, check-next, check-here, check-done, look-refused, look-passes}
-use Rattle.visit.proofs.check_bytes.Statement.{statement}
-use Rattle.visit.proofs.check_bytes.Tie as tie
+use Rattle.visit.proofs.Rows.{LooksTo, looks-start, looks-found, looks-past, looks-refused, looks-done}
+use Rattle.visit.proofs.look_bytes.Statement.{statement}
+use Rattle.visit.proofs.look_bytes.Tie as tie
 
 abbrev Inv-loop : tie.InvT-loop
-Inv-loop row starts lines table relation what from len k₀ k = (k ≤ len) × (refusalLeft what len from starts (nodeRelation relation) k row ≡ refusalLeft what len from starts (nodeRelation relation) k₀ row)
+Inv-loop row starts lines table relation what from len changed₀ k₀ changed k = (k ≤ len) × (changed ≤ 1) × LooksTo what len from starts (nodeRelation relation) row k changed
 
 abbrev μ-loop : tie.MeasureT-loop
-μ-loop row starts lines table relation what from len k₀ k = len - k
+μ-loop row starts lines table relation what from len changed₀ k₀ changed k = len - k
 
 loop-holds : tie.Need-loop-holds Inv-loop μ-loop
-loop-holds c = search needs
+loop-holds c = let s = c .before .before in (omega arith, omega arith, looks-start (s .args .v .what) (s .args .v .len) (s .args .v .from) (s .args .starts .now) (nodeRelation (s .args .relation)) (s .args .row .now) (s .pre .1) 0)
 
 add-code : tie.Need-add-code Inv-loop μ-loop
 add-code c = search needs
@@ -49,16 +46,9 @@ returns : tie.Need-returns Inv-loop μ-loop
 returns c =
     let s = c .before .before .before .before .before .before .before .before .before .before in
     let l = c .before .before .before .before .before .before .before .loop in
-    let what = s .args .v .what in
-    let from = s .args .v .from in
-    let starts = s .args .starts .now in
-    let row = s .args .row .now in
-    let r = nodeRelation (s .args .relation) in
     let line = c .before .before .before .line-at in
-    check-here what (s .args .v .len) from starts r row (s .pre .1) (l .k) _ (omega arith)
-    (look-refused (accessAt what starts (l .k)) r (s .args .table .now) (s .pre .0 .0) (getD row (from + l .k) 0) (line .result) (c .before .before .index .result) _
-    (line .ensures) (c .before .before .before .before .if1 .taken) (c .before .before .index .ensures) refl (c .if2 .taken)) (omega arith)
-    ∙ l .inv .1
+    looks-refused (s .args .v .what) (s .args .v .len) (s .args .v .from) (s .args .starts .now) (nodeRelation (s .args .relation)) (s .args .row .now) (s .pre .1) (l .k) (omega arith) (l .changed) (l .inv .2)
+    (s .args .table .now) (s .pre .0 .0) (line .result) (c .before .before .index .result) _ (line .ensures) (c .before .before .before .before .if1 .taken) (c .before .before .index .ensures) refl (c .if2 .taken)
 
 add-k : tie.Need-add-k Inv-loop μ-loop
 add-k c = search needs
@@ -72,35 +62,33 @@ loop-again c =
     let l = c .before .before .before .loop in
     let what = s .args .v .what in
     let from = s .args .v .from in
+    let len = s .args .v .len in
     let starts = s .args .starts .now in
     let row = s .args .row .now in
     let r = nodeRelation (s .args .relation) in
-    let code = getD row (from + l .k) 0 in (
+    let table = s .args .table .now in (
       omega arith,
+      ⊎-elim (λ w. omega (arith, w .6)) (⊎-elim (λ w. omega (arith, w .6, l .inv .1)) (λ w. omega (arith, w .1, l .inv .1))) (c .if1 .came),
       ⊎-elim
           (λ w.
-          check-next what (s .args .v .len) from starts r row (s .pre .1) (l .k) 0 (omega arith)
-          (look-passes (accessAt what starts (l .k)) r (s .args .table .now) (s .pre .0 .0) code (w .1 .result) (w .2 .result) _
-          (w .1 .ensures) (w .0 .taken) (w .2 .ensures) refl (omega (arith, w .4 .left))) refl)
-          (λ w. check-next what (s .args .v .len) from starts r row (s .pre .1) (l .k) 0 (omega arith) (sym (past-refusal (accessAt what starts (l .k)) r code (omega arith))) refl)
-          (c .if1 .came)
-          ∙ l .inv .1,
+          looks-found what len from starts r row (s .pre .1) (l .k) (omega arith) (l .changed) (l .inv .2) table (s .pre .0 .0) (w .1 .result) (w .2 .result) _ (w .1 .ensures) (w .0 .taken) (w .2 .ensures) refl
+          (omega (arith, w .4 .left)) _ (λ z. absurd (omega (arith, w .6))))
+          (⊎-elim
+          (λ w.
+          looks-found what len from starts r row (s .pre .1) (l .k) (omega arith) (l .changed) (l .inv .2) table (s .pre .0 .0) (w .1 .result) (w .2 .result) _ (w .1 .ensures) (w .0 .taken) (w .2 .ensures) refl
+          (omega (arith, w .4 .left)) _ (λ z. (omega (arith, w .6), w .5 .left)))
+          (λ w. looks-past what len from starts r row (s .pre .1) (l .k) (omega arith) (l .changed) (l .inv .2) _ (omega (arith, w .0 .left)) (w .1)))
+          (c .if1 .came),
     )
 
 returns-2 : tie.Need-returns-2 Inv-loop μ-loop
 returns-2 c =
     let s = c .before .before .before .before in
     let l = c .before .loop in
-    let what = s .args .v .what in
-    let from = s .args .v .from in
-    let len = s .args .v .len in
-    let starts = s .args .starts .now in
-    let r = nodeRelation (s .args .relation) in
-    let e : l .k ≡ len = omega arith in
-    sym (check-done what len from starts r (s .args .row .now)) ∙ ap (λ (k : ℕ). refusalLeft what len from starts r k (s .args .row .now)) (sym e) ∙ l .inv .1
+    looks-done (s .args .v .what) (s .args .v .len) (s .args .v .from) (s .args .starts .now) (nodeRelation (s .args .relation)) (s .args .row .now) (s .pre .1) (l .k) (l .changed) (omega arith) (l .inv .1) (l .inv .2)
 
-pub check-bytes-spec : {M : Type 1} → statement M
-check-bytes-spec =
+pub look-bytes-spec : {M : Type 1} → statement M
+look-bytes-spec =
     tie.close
     (tie.spec
     Inv-loop
