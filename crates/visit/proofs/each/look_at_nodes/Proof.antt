@@ -1,0 +1,101 @@
+-- The invariant: what the nodes gone over told.
+use Prim.Native.Nat.{ℕ, _-_}
+use mathlib.Core.List.{List}
+use mathlib.Core.Logic.{⊎-elim}
+use Rattle.visit.proofs.Places.{row-in}
+use Rattle.visit.proofs.Sweeps.{Sweeping, sweeping-start, sweeping-up, sweeping-on, LooksFrom, each-looks, looks-next, looks-all}
+use borrow.Author.Needs.{needs}
+use native.Mathlib.Omega.{arith}
+use Rattle.visit.proofs.each.look_at_nodes.Statement.{statement}
+use Rattle.visit.proofs.each.look_at_nodes.Tie as tie
+use Rattle.visit.proofs.each.look_at_nodes.Reads as reads
+use Rattle.visit.proofs.each.look_at_nodes.Lts as lts
+use Rattle.visit.proofs.row.look_each_at.Reads as look-each-at-reads
+use Rattle.visit.proofs.path.relation_on.Reads as relation-on-reads
+use Rattle.visit.proofs.wide.Reads as wide-reads
+
+abbrev Inv-loop : tie.InvT-loop
+Inv-loop parents codes table v kind changed₀ path₀ n₀ changed path n = Sweeping parents (v .node) path n × ((starts : List ℕ) → LooksFrom v parents starts codes n changed)
+
+abbrev μ-loop : tie.MeasureT-loop
+μ-loop parents codes table v kind changed₀ path₀ n₀ changed path n = n
+
+loop-holds : tie.Need-loop-holds Inv-loop μ-loop
+loop-holds c = let s = c .before .before in (sweeping-start (s .args .parents .now) (s .pre .1 .tree) (s .args .v .node) (s .pre .1 .node), λ starts. (λ k l h. absurd (omega arith), λ z k l h. absurd (omega arith)))
+
+sub-n : tie.Need-sub-n Inv-loop μ-loop
+sub-n c = search needs
+
+relation-on-requires : tie.Need-relation-on-requires Inv-loop μ-loop
+relation-on-requires c κs = search needs
+
+look-each-at-requires : tie.Need-look-each-at-requires Inv-loop μ-loop
+look-each-at-requires c κs = let s = c .before .before .before .before .before in let l = c .before .before .loop in (s .pre .0 .0, (row-in (s .args .v) (s .args .parents .now) (s .args .codes .now) (l .n - 1) (s .pre .1) (omega (arith, l .inv .0 .0)), s .pre .1 .inside))
+
+returns : tie.Need-returns Inv-loop μ-loop
+returns c = λ starts. record { quiet = λ h. absurd (omega arith); stays = λ h. absurd (omega arith) }
+
+mul-wide : tie.Need-mul-wide Inv-loop μ-loop
+mul-wide c = omega (arith, c .before .before .before .before .before .before .loop .inv .0 .0)
+
+shared-slice-read-wide : tie.Need-shared-slice-read-wide Inv-loop μ-loop
+shared-slice-read-wide c = omega (arith, c .before .before .before .before .before .before .before .loop .inv .0 .0)
+
+wide-requires : tie.Need-wide-requires Inv-loop μ-loop
+wide-requires c κs = search needs
+
+loop-less : tie.Need-loop-less Inv-loop μ-loop
+loop-less c = omega arith
+
+loop-again : tie.Need-loop-again Inv-loop μ-loop
+loop-again c =
+    let s = c .before .before .before .before .before .before .before .before .before .before .before in
+    let l = c .before .before .before .before .before .before .before .before .loop in
+    let looked = c .before .before .before .before .before .look-each-at in (
+      sweeping-up (s .args .parents .now) (s .pre .1 .tree) (s .args .v .node) (l .path) (l .n) _ (l .inv .0) (omega arith) (c .before .before .if3 .taken) (c .wide .ensures),
+      λ starts.
+          looks-next (s .args .v) (s .args .parents .now) starts (s .args .codes .now) (l .n) (l .changed) (l .inv .1 starts) _ (looked .result)
+          (each-looks (s .args .v) (s .args .kind) (s .args .parents .now) starts (s .args .codes .now) (s .pre .1 .tree) (s .pre .0 .1) (l .path) (l .n - 1) (omega (arith, l .inv .0 .0)) (l .inv .0 .1 (omega arith)) _ (c .before .before .before .before .before .before .relation-on .ensures) (looked .result) (looked .ensures))
+          (omega (arith, c .before .before .before .before .if1 .left)) (λ z. ⊎-elim (λ w. absurd (omega (arith, w .1))) (λ w. (omega (arith, w .1), w .0 .left)) (c .before .before .before .if2 .came)),
+    )
+
+loop-less-2 : tie.Need-loop-less-2 Inv-loop μ-loop
+loop-less-2 c = omega arith
+
+loop-again-2 : tie.Need-loop-again-2 Inv-loop μ-loop
+loop-again-2 c =
+    let s = c .before .before .before .before .before .before .before .before .before in
+    let l = c .before .before .before .before .before .before .loop in
+    let looked = c .before .before .before .look-each-at in (
+      sweeping-on (s .args .parents .now) (s .pre .1 .tree) (s .args .v .node) (l .path) (l .n) (l .inv .0) (omega arith) (c .if3 .left),
+      λ starts.
+          looks-next (s .args .v) (s .args .parents .now) starts (s .args .codes .now) (l .n) (l .changed) (l .inv .1 starts) _ (looked .result)
+          (each-looks (s .args .v) (s .args .kind) (s .args .parents .now) starts (s .args .codes .now) (s .pre .1 .tree) (s .pre .0 .1) (l .path) (l .n - 1) (omega (arith, l .inv .0 .0)) (l .inv .0 .1 (omega arith)) _ (c .before .before .before .before .relation-on .ensures) (looked .result) (looked .ensures))
+          (omega (arith, c .before .before .if1 .left)) (λ z. ⊎-elim (λ w. absurd (omega (arith, w .1))) (λ w. (omega (arith, w .1), w .0 .left)) (c .before .if2 .came)),
+    )
+
+returns-2 : tie.Need-returns-2 Inv-loop μ-loop
+returns-2 c =
+    let s = c .before .before .before .before in
+    let l = c .before .loop in
+    λ starts. looks-all (s .args .v) (s .args .parents .now) starts (s .args .codes .now) (l .n) (l .changed) (l .inv .1 starts) (omega arith)
+
+pub look-at-nodes-spec : {M : Type 1} → statement M
+look-at-nodes-spec =
+    tie.close
+    (tie.spec
+    Inv-loop
+    μ-loop
+    loop-holds
+    sub-n
+    relation-on-requires
+    look-each-at-requires
+    returns
+    mul-wide
+    shared-slice-read-wide
+    wide-requires
+    loop-less
+    loop-again
+    loop-less-2
+    loop-again-2
+    returns-2)

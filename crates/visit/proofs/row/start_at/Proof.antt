@@ -1,0 +1,20 @@
+-- Past the lent codes it is 0.
+use mathlib.Core.Path.{sym}
+use lib.ListN.{List·getD-eq-default}
+use borrow.Author.Needs.{needs}
+use Rattle.visit.proofs.row.start_at.Statement.{statement}
+use Rattle.visit.proofs.row.start_at.Tie as tie
+use Rattle.visit.proofs.row.start_at.Reads as reads
+use Rattle.visit.proofs.row.start_at.Lts as lts
+
+shared-slice-read-result : tie.Need-shared-slice-read-result
+shared-slice-read-result c = search needs
+
+returns : tie.Need-returns
+returns c = search needs
+
+returns-2 : tie.Need-returns-2
+returns-2 c = sym (List·getD-eq-default (c .before .args .starts .now) 0 (c .if1 .left))
+
+pub start-at-spec : {M : Type 1} → statement M
+start-at-spec = tie.close (tie.spec shared-slice-read-result returns returns-2)
