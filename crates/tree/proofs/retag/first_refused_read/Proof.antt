@@ -1,0 +1,109 @@
+-- The invariant: the first refusal of the reads that are left is that of all.
+use Prim.Native.Nat.{_-_, _≤_}
+use mathlib.Core.List.{List}
+use mathlib.Core.Logic.{⊎-elim}
+use mathlib.Core.Path.{_≡_, refl, sym, ap, _∙_}
+use native.Mathlib.Omega.{arith}
+use borrow.Author.Needs.{needs}
+use lib.ListN.{length}
+use Rattle.definition.specs.Tree.{Node}
+use Rattle.permission.specs.Codes.{accessKind, maybeAccess}
+use Rattle.tree.specs.Table.{Holds}
+use Rattle.tree.proofs.Inits.{readsLeft, reads-all, reads-skipped, reads-passed, reads-refused, reads-end}
+use Rattle.tree.proofs.retag.first_refused_read.Statement.{statement}
+use Rattle.tree.proofs.retag.first_refused_read.Tie as tie
+
+abbrev Inv-loop : tie.InvT-loop
+Inv-loop parents codes inside width node from k₀ k =
+    (k ≤ length inside) × ((nodes : List Node) → Holds nodes width parents codes → readsLeft node from inside nodes k ≡ readsLeft node from inside nodes k₀)
+
+abbrev μ-loop : tie.MeasureT-loop
+μ-loop parents codes inside width node from k₀ k = length inside - k
+
+loop-holds : tie.Need-loop-holds Inv-loop μ-loop
+loop-holds c = (omega arith, λ nodes holds. refl)
+
+shared-slice-read-init-access : tie.Need-shared-slice-read-init-access Inv-loop μ-loop
+shared-slice-read-init-access c = search needs
+
+init-access-requires : tie.Need-init-access-requires Inv-loop μ-loop
+init-access-requires c κs = search needs
+
+enum-told : tie.Need-enum-told Inv-loop μ-loop
+enum-told c = search needs
+
+enum-known-kind : tie.Need-enum-known-kind Inv-loop μ-loop
+enum-known-kind c = search needs
+
+add-at : tie.Need-add-at Inv-loop μ-loop
+add-at c = search needs
+
+access-refusal-requires : tie.Need-access-refusal-requires Inv-loop μ-loop
+access-refusal-requires c κs =
+    let s = c .before .before .before .before .before .before .before .before .before .before in
+    (s .pre .0, (s .pre .1 .0, omega arith))
+
+returns : tie.Need-returns Inv-loop μ-loop
+returns c =
+    let s = c .before .before .before .before .before .before .before .before .before .before .before .before in
+    let l = c .before .before .before .before .before .before .before .before .loop in
+    let node = s .args .node in
+    let from = s .args .from in
+    let inside = s .args .inside .now in
+    λ nodes holds.
+    reads-refused node from inside nodes (l .k) (omega arith) _ (c .before .before .before .before .before .init-access .ensures) (accessKind (c .before .before .before .kind .given .0 .0)) (c .before .access-refusal .result)
+    (ap maybeAccess (c .before .before .before .kind .given .1)) (c .before .access-refusal .ensures nodes holds) (c .if1 .taken)
+    ∙ l .inv .1 nodes holds
+    ∙ reads-all node from inside nodes
+
+add-k : tie.Need-add-k Inv-loop μ-loop
+add-k c = search needs
+
+loop-less : tie.Need-loop-less Inv-loop μ-loop
+loop-less c = search needs
+
+loop-again : tie.Need-loop-again Inv-loop μ-loop
+loop-again c =
+    let s = c .before .before .before .before .before .before .before .before in
+    let l = c .before .before .before .before .loop in
+    let node = s .args .node in
+    let from = s .args .from in
+    let inside = s .args .inside .now in (
+      omega arith,
+      λ nodes holds.
+          ⊎-elim
+          (λ w. reads-skipped node from inside nodes (l .k) (omega arith) _ (c .before .init-access .ensures) (ap maybeAccess (w .1 .given .1)))
+          (λ w.
+          reads-passed node from inside nodes (l .k) (omega arith) _ (c .before .init-access .ensures) (accessKind (w .1 .given .0 .0)) (w .3 .result)
+          (ap maybeAccess (w .1 .given .1)) (w .3 .ensures nodes holds) (w .4 .left))
+          (c .match .came)
+          ∙ l .inv .1 nodes holds,
+    )
+
+returns-2 : tie.Need-returns-2 Inv-loop μ-loop
+returns-2 c =
+    let s = c .before .before .before .before .before in
+    let l = c .before .loop in
+    let node = s .args .node in
+    let from = s .args .from in
+    let inside = s .args .inside .now in
+    λ nodes holds. sym (reads-end node from inside nodes (l .k) (omega arith)) ∙ l .inv .1 nodes holds ∙ reads-all node from inside nodes
+
+pub first-refused-read-spec : {M : Type 1} → statement M
+first-refused-read-spec =
+    tie.close
+    (tie.spec
+    Inv-loop
+    μ-loop
+    loop-holds
+    shared-slice-read-init-access
+    init-access-requires
+    enum-told
+    enum-known-kind
+    add-at
+    access-refusal-requires
+    returns
+    add-k
+    loop-less
+    loop-again
+    returns-2)

@@ -1,0 +1,104 @@
+// A deallocation: a write to all bytes, and the test for strong protectors on what it leaves.
+use crate::accesses::access_refusal;
+use crate::accesses::apply_access;
+use permission::AccessKind;
+use permission::MaybeAccess;
+use permission::NodeRelation;
+use permission::Outcome;
+ghost use mathlib.Core.Path.{_≡_};
+ghost use mathlib.Core.Option.{some};
+ghost use Prim.Native.Nat.{_<_};
+ghost use lib.ListN.{length};
+ghost use Rattle.definition.specs.Notation.{any};
+ghost use Rattle.definition.specs.Permission.AccessKind.{Write};
+ghost use Rattle.definition.specs.Tree.{accessVisit, visited};
+ghost use Rattle.definition.specs.Memory.{nodePreventsDeallocation};
+ghost use Rattle.permission.specs.Codes.{nodeRelation, maybeAccess, nextCode, preventsCode};
+ghost use Rattle.tree.specs.Table.{HoldsAll, Some, Each};
+ghost use Rattle.visit.specs.Walk.{stepped};
+ghost use Rattle.tree.specs.Requests.{Deallocated};
+
+fn step(code: u8, access: MaybeAccess, relation: NodeRelation) -> Outcome
+    ensures { λ r. ⌜ r ≡ stepped (maybeAccess access) (nodeRelation relation) code ⌝ }
+{
+    match access {
+        MaybeAccess::Nothing => Outcome::Becomes(code),
+        MaybeAccess::Access(a) => permission::transition(code, a, relation),
+    }
+}
+
+fn code_prevents_after_write(code: u8, relation: NodeRelation) -> bool
+    ensures { λ r. ⌜ r ≡ preventsCode (nextCode (some Write) (nodeRelation relation) code) ⌝ }
+{
+    match step(code, MaybeAccess::Access(AccessKind::Write), relation) {
+        Outcome::Becomes(c) => permission::prevents_deallocation(c),
+        Outcome::Refused(_) => permission::prevents_deallocation(code),
+    }
+}
+
+// A code of a row prevents deallocation, as a write leaves it.
+fn row_prevents_after_write(row: &[u8], relation: NodeRelation) -> bool
+    ensures { λ r. ⌜ r ≡ any (λ c. preventsCode (nextCode (some Write) (nodeRelation relation) c)) (now (row .entry)) ⌝ }
+{
+    let mut i = 0;
+    while i < row.len() {
+        if code_prevents_after_write(row[i], relation) {
+            return true;
+        }
+        i += 1;
+    }
+    false
+}
+
+// A node under a strong protector prevents deallocation, on the codes as the write to all bytes through a node will leave them.
+fn strong_protector_after_write(
+    parents: &[u16],
+    protectors: &[u8],
+    codes: &[u8],
+    width: usize,
+    node: usize,
+) -> bool
+    requires { ⌜ Some (λ nodes. HoldsAll nodes width (now parents) (now protectors) (now codes)) ⌝ }
+    requires { ⌜ node < length (now parents) ⌝ }
+    ensures { λ r. ⌜ Each (λ nodes. HoldsAll nodes width (now (parents .entry)) (now (protectors .entry)) (now (codes .entry))) (λ nodes. r ≡ any nodePreventsDeallocation (visited (accessVisit Write node 0 width) nodes)) ⌝ }
+{
+    let mut path = node;
+    let mut n = parents.len();
+    while 0 < n {
+        n -= 1;
+        if protectors[n] == 2 {
+            let start = n * width;
+            let end = start + width;
+            if row_prevents_after_write(&codes[start..end], visit::relation_on(path, n)) {
+                return true;
+            }
+        }
+        if n == path {
+            path = visit::wide(parents[n]);
+        }
+    }
+    false
+}
+
+// A deallocation's write to all bytes through a node, and 24: a refusal leaves the table as it was.
+pub fn deallocate(
+    parents: &[u16],
+    protectors: &[u8],
+    codes: &mut [u8],
+    width: usize,
+    node: usize,
+) -> u8
+    requires { ⌜ Some (λ nodes. HoldsAll nodes width (now parents) (now protectors) (now codes)) ⌝ }
+    requires { ⌜ node < length (now parents) ⌝ }
+    ensures { λ r. ⌜ Each (λ nodes. HoldsAll nodes width (now (parents .entry)) (now (protectors .entry)) (now (codes .entry))) (λ nodes. Deallocated node width nodes r (now (codes .exit))) ⌝ }
+{
+    let refused = access_refusal(parents, codes, width, node, AccessKind::Write, 0, width);
+    if refused != 0 {
+        return refused;
+    }
+    if strong_protector_after_write(parents, protectors, codes, width, node) {
+        return 24;
+    }
+    apply_access(parents, codes, width, node, AccessKind::Write, 0, width);
+    0
+}
