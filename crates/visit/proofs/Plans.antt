@@ -1,5 +1,5 @@
 -- How a plan is made: the children are linked from the last node down, and the path is marked from the accessed node up.
-use Prim.Native.Nat.{ℕ, suc, _+_, _*_, _≤_, _<_}
+use Prim.Native.Nat.{ℕ, _+_, _*_, _≤_, _<_}
 use mathlib.Core.Path.{_≡_, refl, sym, ap, subst, _∙_}
 use mathlib.Core.Bool.{Bool, true, false, not, _||_, or-true, or-false}
 use mathlib.Core.List.{List, _++_}
@@ -7,15 +7,14 @@ use mathlib.Core.Logic.{_⊎_, inl, inr, ⊎-elim}
 use native.Mathlib.Nat.{le-refl, min-le-left}
 use native.Mathlib.Decide.{ℕ-discrete, decLt}
 use native.Mathlib.Omega.{arith}
-use borrow.Author.Tests.{eq-eqb, ne-eqb}
+use borrow.Author.Tests.{ne-eqb}
 use lib.Dec.{eqb}
 use lib.ListN.{length, getD, take, drop, set, replicate, getD-replicate, length-replicate, length-take, List·getD-eq-default}
 use lib.Seq.{getD-set-same, getD-set-other, getD-take, length-take-le, take-at}
 use Rattle.definition.specs.Notation.{if_then_else_}
 use Rattle.definition.specs.Permission.NodeRelation.{Local, Foreign}
 use Rattle.definition.specs.Tree.{relation, isAbove}
-use Rattle.definition.proofs.Trees.{Parents, parent-earlier, above-itself, above-parent, root-above, not-above-smaller}
-use Rattle.permission.specs.Codes.{outcomeTable}
+use Rattle.definition.proofs.Trees.{Parents, above-itself, above-parent, not-above-smaller}
 use Rattle.visit.specs.declared.Reach.{Reach}
 use Rattle.visit.specs.Plan.{childFrom, Linked, Marked, Planned, Zeros, Roomy, Unmarked, SameLinks}
 use Rattle.visit.proofs.Children.{search-here, search-spared, search-other, search-end, search-from}

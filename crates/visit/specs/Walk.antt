@@ -1,4 +1,4 @@
--- A visit as the code makes it, over the tables. That it is the definition's is shown in proofs/Meaning.antt.
+-- A visit as the code makes it, over the tables. That it is the definition's is shown in the proofs of `tree` (Meaning).
 use Prim.Native.Nat.{ℕ, _+_, _*_, _≤_, _<_}
 use mathlib.Core.Path.{_≡_}
 use mathlib.Core.Option.{Option, none, some}

@@ -8,12 +8,6 @@ use native.Mathlib.Omega.{arith}
 use borrow.Author.Needs.{needs}
 use Rattle.tree.proofs.accesses.access.Statement.{statement}
 use Rattle.tree.proofs.accesses.access.Tie as tie
-use Rattle.tree.proofs.accesses.access.Reads as reads
-use Rattle.tree.proofs.accesses.access.Lts as lts
-use Rattle.permission.proofs.outcomes.Reads as outcomes-reads
-use Rattle.visit.proofs.apply_each_node.Reads as apply-each-node-reads
-use Rattle.visit.proofs.look_at_nodes.Reads as look-at-nodes-reads
-use Rattle.visit.proofs.refusal_after_look.Reads as refusal-after-look-reads
 
 outcomes-requires : tie.Need-outcomes-requires
 outcomes-requires c κs = search needs

@@ -3,15 +3,9 @@ use mathlib.Core.Path.{refl, _∙_}
 use native.Mathlib.Nat.{le-refl}
 use Rattle.tree.proofs.Meaning.{means-refusal}
 use Rattle.tree.proofs.Visits.{held-ready, means-bytes}
-use native.Mathlib.Omega.{arith}
 use borrow.Author.Needs.{needs}
 use Rattle.tree.proofs.accesses.access_refusal.Statement.{statement}
 use Rattle.tree.proofs.accesses.access_refusal.Tie as tie
-use Rattle.tree.proofs.accesses.access_refusal.Reads as reads
-use Rattle.tree.proofs.accesses.access_refusal.Lts as lts
-use Rattle.permission.proofs.outcomes.Reads as outcomes-reads
-use Rattle.visit.proofs.look_at_nodes.Reads as look-at-nodes-reads
-use Rattle.visit.proofs.refusal_after_look.Reads as refusal-after-look-reads
 
 outcomes-requires : tie.Need-outcomes-requires
 outcomes-requires c κs = search needs

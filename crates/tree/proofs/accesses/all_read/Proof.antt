@@ -8,9 +8,6 @@ use borrow.Author.Needs.{needs}
 use native.Mathlib.Omega.{arith}
 use Rattle.tree.proofs.accesses.all_read.Statement.{statement}
 use Rattle.tree.proofs.accesses.all_read.Tie as tie
-use Rattle.tree.proofs.accesses.all_read.Reads as reads
-use Rattle.tree.proofs.accesses.all_read.Lts as lts
-use Rattle.visit.proofs.lent_line.Reads as lent-line-reads
 
 abbrev Inv-loop : tie.InvT-loop
 Inv-loop codes lines k₀ k = (k ≤ length codes) × ReadTo lines codes k

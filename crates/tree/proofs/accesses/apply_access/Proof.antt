@@ -3,14 +3,9 @@ use mathlib.Core.Path.{refl, _∙_}
 use native.Mathlib.Nat.{le-refl}
 use Rattle.tree.proofs.Meaning.{means-after}
 use Rattle.tree.proofs.Visits.{held-ready, means-bytes}
-use native.Mathlib.Omega.{arith}
 use borrow.Author.Needs.{needs}
 use Rattle.tree.proofs.accesses.apply_access.Statement.{statement}
 use Rattle.tree.proofs.accesses.apply_access.Tie as tie
-use Rattle.tree.proofs.accesses.apply_access.Reads as reads
-use Rattle.tree.proofs.accesses.apply_access.Lts as lts
-use Rattle.permission.proofs.outcomes.Reads as outcomes-reads
-use Rattle.visit.proofs.apply_each_node.Reads as apply-each-node-reads
 
 outcomes-requires : tie.Need-outcomes-requires
 outcomes-requires c κs = search needs

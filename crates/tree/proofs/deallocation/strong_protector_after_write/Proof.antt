@@ -19,11 +19,6 @@ use borrow.Author.Needs.{needs}
 use native.Mathlib.Omega.{arith}
 use Rattle.tree.proofs.deallocation.strong_protector_after_write.Statement.{statement}
 use Rattle.tree.proofs.deallocation.strong_protector_after_write.Tie as tie
-use Rattle.tree.proofs.deallocation.strong_protector_after_write.Reads as reads
-use Rattle.tree.proofs.deallocation.strong_protector_after_write.Lts as lts
-use Rattle.visit.proofs.relation_on.Reads as relation-on-reads
-use Rattle.tree.proofs.deallocation.row_prevents_after_write.Reads as row-prevents-after-write-reads
-use Rattle.visit.proofs.wide.Reads as wide-reads
 
 abbrev Inv-loop : tie.InvT-loop
 Inv-loop parents protectors codes width node path₀ n₀ path n = Sweeping parents node path n × ((nodes : List Node) → HoldsAll nodes width parents protectors codes → (k : ℕ) → n ≤ k → k < length nodes → nodePreventsDeallocation (nodeAt (visited (accessVisit Write node 0 width) nodes) k) ≡ false)

@@ -5,14 +5,9 @@ use lib.Seq.{take-length}
 use Rattle.permission.specs.Codes.{endAccessCode, endLines}
 use Rattle.permission.proofs.Lines.{end-line}
 use Rattle.tree.proofs.Inits.{all-read, told-by}
-use native.Mathlib.Omega.{arith}
 use borrow.Author.Needs.{needs}
 use Rattle.tree.proofs.protector.end_accesses.Statement.{statement}
 use Rattle.tree.proofs.protector.end_accesses.Tie as tie
-use Rattle.tree.proofs.protector.end_accesses.Reads as reads
-use Rattle.tree.proofs.protector.end_accesses.Lts as lts
-use Rattle.permission.proofs.end_lines.Reads as end-lines-reads
-use Rattle.tree.proofs.accesses.all_read.Reads as all-read-reads
 
 end-lines-requires : tie.Need-end-lines-requires
 end-lines-requires c κs = search needs

@@ -9,15 +9,6 @@ use native.Mathlib.Omega.{arith}
 use borrow.Author.Needs.{needs}
 use Rattle.tree.proofs.protector.end_protector.Statement.{statement}
 use Rattle.tree.proofs.protector.end_protector.Tie as tie
-use Rattle.tree.proofs.protector.end_protector.Reads as reads
-use Rattle.tree.proofs.protector.end_protector.Lts as lts
-use Rattle.permission.proofs.end_lines.Reads as end-lines-reads
-use Rattle.permission.proofs.outcomes.Reads as outcomes-reads
-use Rattle.tree.proofs.protector.end_accesses.Reads as end-accesses-reads
-use Rattle.tree.proofs.protector.unprotect_node.Reads as unprotect-node-reads
-use Rattle.visit.proofs.apply.Reads as apply-reads
-use Rattle.visit.proofs.check.Reads as check-reads
-use Rattle.visit.proofs.look.Reads as look-reads
 
 slice-aggregate-end-accesses : tie.Need-slice-aggregate-end-accesses
 slice-aggregate-end-accesses c = let s = c .before .before .before .before .before in sym (ap length (s .pre .1 .2) ∙ row-length (s .args .width) (s .args .node) (s .args .codes .now) (node-fits (s .pre .0 .0 .1) (s .args .node) (s .pre .1 .0)))

@@ -1,12 +1,8 @@
 -- A scratch of zeros.
 use Rattle.visit.proofs.Plans.{zeros}
-use native.Mathlib.Omega.{arith}
 use borrow.Author.Needs.{needs}
 use Rattle.tree.proofs.protector.release.Statement.{statement}
 use Rattle.tree.proofs.protector.release.Tie as tie
-use Rattle.tree.proofs.protector.release.Reads as reads
-use Rattle.tree.proofs.protector.release.Lts as lts
-use Rattle.tree.proofs.protector.release_with.Reads as release-with-reads
 
 slice-aggregate-release-with : tie.Need-slice-aggregate-release-with
 slice-aggregate-release-with c = search needs

@@ -13,11 +13,6 @@ use borrow.Author.Needs.{needs}
 use native.Mathlib.Omega.{arith}
 use Rattle.tree.proofs.protector.release_marked.Statement.{statement}
 use Rattle.tree.proofs.protector.release_marked.Tie as tie
-use Rattle.tree.proofs.protector.release_marked.Reads as reads
-use Rattle.tree.proofs.protector.release_marked.Lts as lts
-use Rattle.tree.proofs.protector.copy_row.Reads as copy-row-reads
-use Rattle.tree.proofs.protector.end_protector.Reads as end-protector-reads
-use Rattle.tree.proofs.protector.lacks_protector.Reads as lacks-protector-reads
 
 mul-start : tie.Need-mul-start
 mul-start c = let s = c .before .before .before .before .before in omega (arith, node-fits (s .pre .0 .0 .1 .holds) (s .args .node) (s .pre .1 .0))

@@ -8,11 +8,6 @@ use native.Mathlib.Omega.{arith}
 use borrow.Author.Needs.{needs}
 use Rattle.tree.proofs.protector.release_with.Statement.{statement}
 use Rattle.tree.proofs.protector.release_with.Tie as tie
-use Rattle.tree.proofs.protector.release_with.Reads as reads
-use Rattle.tree.proofs.protector.release_with.Lts as lts
-use Rattle.visit.proofs.mark_spared.Reads as mark-spared-reads
-use Rattle.tree.proofs.protector.marks_size.Reads as marks-size-reads
-use Rattle.tree.proofs.protector.release_marked.Reads as release-marked-reads
 
 marks-size-requires : tie.Need-marks-size-requires
 marks-size-requires c κs = search needs

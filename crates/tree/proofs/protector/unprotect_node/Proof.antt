@@ -5,9 +5,6 @@ use Rattle.visit.proofs.Places.{put-back}
 use borrow.Author.Needs.{needs}
 use Rattle.tree.proofs.protector.unprotect_node.Statement.{statement}
 use Rattle.tree.proofs.protector.unprotect_node.Tie as tie
-use Rattle.tree.proofs.protector.unprotect_node.Reads as reads
-use Rattle.tree.proofs.protector.unprotect_node.Lts as lts
-use Rattle.tree.proofs.protector.unprotect_row.Reads as unprotect-row-reads
 
 mul-start : tie.Need-mul-start
 mul-start c = search needs

@@ -7,17 +7,9 @@ use Rattle.tree.proofs.Meaning.{means-after}
 use Rattle.tree.proofs.Inits.{all-read, told-by}
 use Rattle.tree.proofs.Visits.{held-ready, means-reads, means-all}
 use Rattle.visit.proofs.Sweeps.{unmarked}
-use native.Mathlib.Omega.{arith}
 use borrow.Author.Needs.{needs}
 use Rattle.tree.proofs.retag.apply_reads.Statement.{statement}
 use Rattle.tree.proofs.retag.apply_reads.Tie as tie
-use Rattle.tree.proofs.retag.apply_reads.Reads as reads
-use Rattle.tree.proofs.retag.apply_reads.Lts as lts
-use Rattle.permission.proofs.init_lines.Reads as init-lines-reads
-use Rattle.permission.proofs.outcomes.Reads as outcomes-reads
-use Rattle.tree.proofs.accesses.all_read.Reads as all-read-reads
-use Rattle.visit.proofs.apply.Reads as apply-reads
-use Rattle.visit.proofs.apply_each_node.Reads as apply-each-node-reads
 
 init-lines-requires : tie.Need-init-lines-requires
 init-lines-requires c κs = search needs

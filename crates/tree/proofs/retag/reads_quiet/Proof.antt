@@ -11,13 +11,6 @@ use Rattle.visit.proofs.Sweeps.{unmarked, quiet-none}
 use borrow.Author.Needs.{needs}
 use Rattle.tree.proofs.retag.reads_quiet.Statement.{statement}
 use Rattle.tree.proofs.retag.reads_quiet.Tie as tie
-use Rattle.tree.proofs.retag.reads_quiet.Reads as reads
-use Rattle.tree.proofs.retag.reads_quiet.Lts as lts
-use Rattle.permission.proofs.init_lines.Reads as init-lines-reads
-use Rattle.permission.proofs.outcomes.Reads as outcomes-reads
-use Rattle.tree.proofs.accesses.all_read.Reads as all-read-reads
-use Rattle.visit.proofs.look.Reads as look-reads
-use Rattle.visit.proofs.look_at_nodes.Reads as look-at-nodes-reads
 
 init-lines-requires : tie.Need-init-lines-requires
 init-lines-requires c κs = search needs

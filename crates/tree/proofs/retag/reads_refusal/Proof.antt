@@ -1,14 +1,9 @@
 -- Where the visit of all bytes is not refused, no read is.
 use mathlib.Core.Path.{sym}
 use Rattle.tree.proofs.Inits.{reads-none}
-use native.Mathlib.Omega.{arith}
 use borrow.Author.Needs.{needs}
 use Rattle.tree.proofs.retag.reads_refusal.Statement.{statement}
 use Rattle.tree.proofs.retag.reads_refusal.Tie as tie
-use Rattle.tree.proofs.retag.reads_refusal.Reads as reads
-use Rattle.tree.proofs.retag.reads_refusal.Lts as lts
-use Rattle.tree.proofs.retag.first_refused_read.Reads as first-refused-read-reads
-use Rattle.tree.proofs.retag.reads_quiet.Reads as reads-quiet-reads
 
 reads-quiet-requires : tie.Need-reads-quiet-requires
 reads-quiet-requires c κs = search needs

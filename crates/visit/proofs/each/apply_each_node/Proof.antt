@@ -1,5 +1,5 @@
 -- The invariant: what is left to do gives the table as a whole sweep leaves it.
-use Prim.Native.Nat.{ℕ, _≤_, _-_}
+use Prim.Native.Nat.{ℕ, _-_}
 use mathlib.Core.List.{List}
 use mathlib.Core.Path.{_≡_, refl, sym, ap, _∙_}
 use lib.ListN.{length}
@@ -12,11 +12,6 @@ use borrow.Author.Needs.{needs}
 use native.Mathlib.Omega.{arith}
 use Rattle.visit.proofs.each.apply_each_node.Statement.{statement}
 use Rattle.visit.proofs.each.apply_each_node.Tie as tie
-use Rattle.visit.proofs.each.apply_each_node.Reads as reads
-use Rattle.visit.proofs.each.apply_each_node.Lts as lts
-use Rattle.visit.proofs.row.apply_each_at.Reads as apply-each-at-reads
-use Rattle.visit.proofs.path.relation_on.Reads as relation-on-reads
-use Rattle.visit.proofs.wide.Reads as wide-reads
 
 abbrev Inv-loop : tie.InvT-loop
 Inv-loop parents codes₀ table v kind path₀ n₀ codes path n = Sweeping parents (v .node) path n × (length codes ≡ length codes₀) × ((starts : List ℕ) → swept v parents starts n codes ≡ swept v parents starts (length parents) codes₀)

@@ -8,11 +8,6 @@ use borrow.Author.Needs.{needs}
 use native.Mathlib.Omega.{arith}
 use Rattle.visit.proofs.each.look_at_nodes.Statement.{statement}
 use Rattle.visit.proofs.each.look_at_nodes.Tie as tie
-use Rattle.visit.proofs.each.look_at_nodes.Reads as reads
-use Rattle.visit.proofs.each.look_at_nodes.Lts as lts
-use Rattle.visit.proofs.row.look_each_at.Reads as look-each-at-reads
-use Rattle.visit.proofs.path.relation_on.Reads as relation-on-reads
-use Rattle.visit.proofs.wide.Reads as wide-reads
 
 abbrev Inv-loop : tie.InvT-loop
 Inv-loop parents codes table v kind changed₀ path₀ n₀ changed path n = Sweeping parents (v .node) path n × ((starts : List ℕ) → LooksFrom v parents starts codes n changed)

@@ -3,12 +3,8 @@ use mathlib.Core.Path.{sym}
 use Rattle.visit.proofs.Rows.{each-tabled}
 use Rattle.visit.proofs.Sweeps.{quiet-none}
 use borrow.Author.Needs.{needs}
-use native.Mathlib.Omega.{arith}
 use Rattle.visit.proofs.each.refusal_after_look.Statement.{statement}
 use Rattle.visit.proofs.each.refusal_after_look.Tie as tie
-use Rattle.visit.proofs.each.refusal_after_look.Reads as reads
-use Rattle.visit.proofs.each.refusal_after_look.Lts as lts
-use Rattle.visit.proofs.order.check_in_order.Reads as check-in-order-reads
 
 returns : tie.Need-returns
 returns c = let s = c .before .before .before in sym (quiet-none (s .args .v) (s .args .parents .now) (s .args .codes .now) (s .args .codes .now) (s .pre .1 .0) (s .pre .1 .1) (s .pre .1 .2 .quiet (c .if1 .taken)))

@@ -2,7 +2,6 @@
 use Prim.Native.Nat.{_+_, _-_, ℕ, _<_}
 use mathlib.Core.Path.{_≡_, refl, sym, ap, _∙_}
 use native.Mathlib.Omega.{arith}
-use borrow.Author.Needs.{needs}
 use lib.ListN.{length}
 use Rattle.definition.specs.Notation.{firstRefusal}
 use Rattle.visit.specs.Walk.{walkRefusal, below}

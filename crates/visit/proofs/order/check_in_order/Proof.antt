@@ -1,12 +1,8 @@
 -- A scratch of zeros.
 use Rattle.visit.proofs.Plans.{zeros}
-use native.Mathlib.Omega.{arith}
 use borrow.Author.Needs.{needs}
 use Rattle.visit.proofs.order.check_in_order.Statement.{statement}
 use Rattle.visit.proofs.order.check_in_order.Tie as tie
-use Rattle.visit.proofs.order.check_in_order.Reads as reads
-use Rattle.visit.proofs.order.check_in_order.Lts as lts
-use Rattle.visit.proofs.order.check_with.Reads as check-with-reads
 
 slice-aggregate-check-with : tie.Need-slice-aggregate-check-with
 slice-aggregate-check-with c = search needs

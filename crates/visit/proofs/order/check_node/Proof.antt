@@ -7,10 +7,6 @@ use native.Mathlib.Omega.{arith}
 use borrow.Author.Needs.{needs}
 use Rattle.visit.proofs.order.check_node.Statement.{statement}
 use Rattle.visit.proofs.order.check_node.Tie as tie
-use Rattle.visit.proofs.order.check_node.Reads as reads
-use Rattle.visit.proofs.order.check_node.Lts as lts
-use Rattle.visit.proofs.row.look_at.Reads as look-at-reads
-use Rattle.visit.proofs.plan.planned_relation.Reads as planned-relation-reads
 
 planned-relation-requires : tie.Need-planned-relation-requires
 planned-relation-requires c κs = search needs

@@ -3,15 +3,9 @@ use mathlib.Core.Path.{sym, _∙_}
 use lib.ListN.{drop}
 use lib.Seq.{length-take-le}
 use Rattle.visit.proofs.Plans.{zeros-taken, room-taken, lent-long, planned-lent}
-use native.Mathlib.Omega.{arith}
 use borrow.Author.Needs.{needs}
 use Rattle.visit.proofs.order.check_with.Statement.{statement}
 use Rattle.visit.proofs.order.check_with.Tie as tie
-use Rattle.visit.proofs.order.check_with.Reads as reads
-use Rattle.visit.proofs.order.check_with.Lts as lts
-use Rattle.visit.proofs.order.check_from.Reads as check-from-reads
-use Rattle.visit.proofs.plan.make_plan.Reads as make-plan-reads
-use Rattle.visit.proofs.plan.plan_size.Reads as plan-size-reads
 
 plan-size-requires : tie.Need-plan-size-requires
 plan-size-requires c κs = search needs

@@ -4,13 +4,9 @@ use mathlib.Core.Path.{sym, ap, _∙_}
 use Rattle.definition.specs.Notation.{if_then_else_}
 use Rattle.definition.specs.Permission.NodeRelation.{Local, Foreign}
 use Rattle.definition.specs.Tree as definition
-use native.Mathlib.Omega.{arith}
 use borrow.Author.Needs.{needs}
 use Rattle.visit.proofs.path.relation.Statement.{statement}
 use Rattle.visit.proofs.path.relation.Tie as tie
-use Rattle.visit.proofs.path.relation.Reads as reads
-use Rattle.visit.proofs.path.relation.Lts as lts
-use Rattle.visit.proofs.path.is_above.Reads as is-above-reads
 
 is-above-requires : tie.Need-is-above-requires
 is-above-requires c κs = search needs

@@ -1,12 +1,8 @@
 -- The node is there, or not.
 use mathlib.Core.Path.{sym}
 use borrow.Author.Tests.{eq-eqb, ne-eqb}
-use borrow.Author.Needs.{needs}
-use native.Mathlib.Omega.{arith}
 use Rattle.visit.proofs.path.relation_on.Statement.{statement}
 use Rattle.visit.proofs.path.relation_on.Tie as tie
-use Rattle.visit.proofs.path.relation_on.Reads as reads
-use Rattle.visit.proofs.path.relation_on.Lts as lts
 
 returns : tie.Need-returns
 returns c = sym (rw (eq-eqb (c .before .args .n) (c .before .args .path) (c .if1 .taken)))

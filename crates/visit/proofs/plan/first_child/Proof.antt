@@ -1,6 +1,5 @@
 -- The plan has it, or the search finds it.
 use mathlib.Core.Path.{_∙_}
-use native.Mathlib.Omega.{arith}
 use borrow.Author.Needs.{needs}
 use Rattle.visit.proofs.plan.first_child.Statement.{statement}
 use Rattle.visit.proofs.plan.first_child.Tie as tie

@@ -1,8 +1,6 @@
 -- The links, then the marks, which leave the links as they are. A plan of no nodes says nothing.
 use mathlib.Core.Logic.{⊎-elim}
-use native.Mathlib.Omega.{arith}
 use borrow.Author.Needs.{needs}
-use Rattle.visit.specs.Plan.{Roomy}
 use Rattle.visit.proofs.Plans.{links-kept, no-links, no-marks, roomy-still}
 use Rattle.visit.proofs.plan.make_plan.Statement.{statement}
 use Rattle.visit.proofs.plan.make_plan.Tie as tie

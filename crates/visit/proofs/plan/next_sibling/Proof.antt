@@ -1,7 +1,6 @@
 -- The plan has it, or the search finds it.
 use Prim.Native.Nat.{ℕ, _+_}
 use mathlib.Core.Path.{ap, _∙_}
-use native.Mathlib.Omega.{arith}
 use borrow.Author.Needs.{needs}
 use lib.ListN.{drop}
 use Rattle.visit.specs.Plan.{childFrom}

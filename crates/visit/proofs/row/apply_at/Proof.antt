@@ -2,13 +2,9 @@
 use Rattle.permission.specs.Codes.{nodeRelation}
 use Rattle.visit.specs.Walk.{rowAfter}
 use Rattle.visit.proofs.Places.{put-back}
-use native.Mathlib.Omega.{arith}
 use borrow.Author.Needs.{needs}
 use Rattle.visit.proofs.row.apply_at.Statement.{statement}
 use Rattle.visit.proofs.row.apply_at.Tie as tie
-use Rattle.visit.proofs.row.apply_at.Reads as reads
-use Rattle.visit.proofs.row.apply_at.Lts as lts
-use Rattle.visit.proofs.row.apply_row.Reads as apply-row-reads
 
 mul-start : tie.Need-mul-start
 mul-start c = search needs

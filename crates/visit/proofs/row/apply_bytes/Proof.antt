@@ -1,14 +1,12 @@
 -- The invariant: the bytes before the k-th are as the accesses leave them, the others as they were.
 use Prim.Native.Nat.{ℕ, _+_, _-_, _≤_}
 use mathlib.Core.Logic.{⊎-elim}
-use mathlib.Core.Option.{Option}
 use mathlib.Core.Path.{_≡_, refl, sym, ap, _∙_}
 use native.Mathlib.Omega.{arith}
 use borrow.Author.Needs.{needs}
 use lib.ListN.{length, getD}
-use Rattle.definition.specs.Permission.{AccessKind}
 use Rattle.permission.proofs.Lines.{line-end, past-next}
-use Rattle.permission.specs.Codes.{nodeRelation, maybeAccess, lineOf}
+use Rattle.permission.specs.Codes.{nodeRelation}
 use Rattle.visit.specs.Walk.{accessAt}
 use Rattle.visit.proofs.Rows.{changed-to-length, changedTo, changed-none, changed-all, turn-next, turn-stays, look-next, look-stays}
 use Rattle.visit.proofs.row.apply_bytes.Statement.{statement}

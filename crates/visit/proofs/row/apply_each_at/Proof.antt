@@ -2,13 +2,9 @@
 use Rattle.permission.specs.Codes.{nodeRelation}
 use Rattle.visit.specs.Walk.{eachAfter}
 use Rattle.visit.proofs.Places.{put-back}
-use native.Mathlib.Omega.{arith}
 use borrow.Author.Needs.{needs}
 use Rattle.visit.proofs.row.apply_each_at.Statement.{statement}
 use Rattle.visit.proofs.row.apply_each_at.Tie as tie
-use Rattle.visit.proofs.row.apply_each_at.Reads as reads
-use Rattle.visit.proofs.row.apply_each_at.Lts as lts
-use Rattle.visit.proofs.row.apply_each.Reads as apply-each-reads
 
 mul-start : tie.Need-mul-start
 mul-start c = search needs

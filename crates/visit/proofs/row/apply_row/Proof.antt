@@ -1,13 +1,8 @@
 -- The same access at each byte is looked up in its line; else each byte is asked for its own.
 use Rattle.visit.proofs.Rows.{looked-end, looked-init}
-use native.Mathlib.Omega.{arith}
 use borrow.Author.Needs.{needs}
 use Rattle.visit.proofs.row.apply_row.Statement.{statement}
 use Rattle.visit.proofs.row.apply_row.Tie as tie
-use Rattle.visit.proofs.row.apply_row.Reads as reads
-use Rattle.visit.proofs.row.apply_row.Lts as lts
-use Rattle.visit.proofs.row.apply_bytes.Reads as apply-bytes-reads
-use Rattle.visit.proofs.row.apply_each.Reads as apply-each-reads
 
 enum-known-what : tie.Need-enum-known-what
 enum-known-what c = search needs

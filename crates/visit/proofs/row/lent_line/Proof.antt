@@ -2,15 +2,11 @@
 use borrow.Author.Tests.{lt-ltb, le-ltb}
 use Prim.Native.Nat.{ℕ}
 use mathlib.Core.Path.{sym, ap, _∙_}
-use lib.ListN.{getD, List·getD-eq-default}
+use lib.ListN.{getD}
 use native.Mathlib.Omega.{arith}
 use borrow.Author.Needs.{needs}
 use Rattle.visit.proofs.row.lent_line.Statement.{statement}
 use Rattle.visit.proofs.row.lent_line.Tie as tie
-use Rattle.visit.proofs.row.lent_line.Reads as reads
-use Rattle.visit.proofs.row.lent_line.Lts as lts
-use Rattle.visit.proofs.row.index.Reads as index-reads
-use Rattle.visit.proofs.row.start_at.Reads as start-at-reads
 
 start-at-requires : tie.Need-start-at-requires
 start-at-requires c κs = search needs

@@ -7,9 +7,6 @@ use native.Mathlib.Omega.{arith}
 use borrow.Author.Needs.{needs}
 use Rattle.visit.proofs.row.line_at.Statement.{statement}
 use Rattle.visit.proofs.row.line_at.Tie as tie
-use Rattle.visit.proofs.row.line_at.Reads as reads
-use Rattle.visit.proofs.row.line_at.Lts as lts
-use Rattle.visit.proofs.row.lent_line.Reads as lent-line-reads
 
 lent-line-requires : tie.Need-lent-line-requires
 lent-line-requires c κs = search needs

@@ -8,9 +8,6 @@ use Rattle.visit.proofs.Places.{part-row}
 use borrow.Author.Needs.{needs}
 use Rattle.visit.proofs.row.look_at.Statement.{statement}
 use Rattle.visit.proofs.row.look_at.Tie as tie
-use Rattle.visit.proofs.row.look_at.Reads as reads
-use Rattle.visit.proofs.row.look_at.Lts as lts
-use Rattle.visit.proofs.row.look_row.Reads as look-row-reads
 
 mul-start : tie.Need-mul-start
 mul-start c = search needs

@@ -14,10 +14,6 @@ use borrow.Author.Needs.{needs}
 use native.Mathlib.Omega.{arith}
 use Rattle.visit.proofs.row.look_each.Statement.{statement}
 use Rattle.visit.proofs.row.look_each.Tie as tie
-use Rattle.visit.proofs.row.look_each.Reads as reads
-use Rattle.visit.proofs.row.look_each.Lts as lts
-use Rattle.permission.proofs.line_of.Reads as line-of-reads
-use Rattle.visit.proofs.row.index.Reads as index-reads
 
 abbrev Inv-loop : tie.InvT-loop
 Inv-loop row table from len line changed₀ k₀ changed k =

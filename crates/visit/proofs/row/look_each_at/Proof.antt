@@ -10,9 +10,6 @@ use Rattle.visit.proofs.Places.{part-row}
 use borrow.Author.Needs.{needs}
 use Rattle.visit.proofs.row.look_each_at.Statement.{statement}
 use Rattle.visit.proofs.row.look_each_at.Tie as tie
-use Rattle.visit.proofs.row.look_each_at.Reads as reads
-use Rattle.visit.proofs.row.look_each_at.Lts as lts
-use Rattle.visit.proofs.row.look_each.Reads as look-each-reads
 
 mul-start : tie.Need-mul-start
 mul-start c = search needs

@@ -4,8 +4,6 @@ use lib.ListN.{List·getD-eq-default}
 use borrow.Author.Needs.{needs}
 use Rattle.visit.proofs.row.start_at.Statement.{statement}
 use Rattle.visit.proofs.row.start_at.Tie as tie
-use Rattle.visit.proofs.row.start_at.Reads as reads
-use Rattle.visit.proofs.row.start_at.Lts as lts
 
 shared-slice-read-result : tie.Need-shared-slice-read-result
 shared-slice-read-result c = search needs

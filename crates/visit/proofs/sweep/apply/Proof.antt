@@ -1,6 +1,6 @@
 -- The invariant: what is left to do gives the table as a whole sweep leaves it.
 use Prim.Native.Nat.{ℕ}
-use Prim.Native.Nat.{_≤_, _-_}
+use Prim.Native.Nat.{_-_}
 use mathlib.Core.Path.{_≡_, refl, sym, ap, _∙_}
 use lib.ListN.{length}
 use Rattle.visit.specs.Sweep.{swept}
@@ -10,10 +10,6 @@ use borrow.Author.Needs.{needs}
 use native.Mathlib.Omega.{arith}
 use Rattle.visit.proofs.sweep.apply.Statement.{statement}
 use Rattle.visit.proofs.sweep.apply.Tie as tie
-use Rattle.visit.proofs.sweep.apply.Reads as reads
-use Rattle.visit.proofs.sweep.apply.Lts as lts
-use Rattle.visit.proofs.sweep.apply_swept.Reads as apply-swept-reads
-use Rattle.visit.proofs.wide.Reads as wide-reads
 
 abbrev Inv-loop : tie.InvT-loop
 Inv-loop marks parents codes₀ starts lines table v path₀ n₀ codes path n = Sweeping parents (v .node) path n × (length codes ≡ length codes₀) × (swept v parents starts n codes ≡ swept v parents starts (length parents) codes₀)

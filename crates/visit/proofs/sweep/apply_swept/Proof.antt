@@ -4,15 +4,9 @@ use Rattle.definition.specs.Permission.{NodeRelation}
 use Rattle.visit.specs.Walk.{rowAt, withRowAt, rowAfter, nodeAfter}
 use Rattle.visit.proofs.Places.{row-in}
 use Rattle.visit.proofs.Sweeps.{met, node-spared, node-visited}
-use native.Mathlib.Omega.{arith}
 use borrow.Author.Needs.{needs}
 use Rattle.visit.proofs.sweep.apply_swept.Statement.{statement}
 use Rattle.visit.proofs.sweep.apply_swept.Tie as tie
-use Rattle.visit.proofs.sweep.apply_swept.Reads as reads
-use Rattle.visit.proofs.sweep.apply_swept.Lts as lts
-use Rattle.visit.proofs.row.apply_at.Reads as apply-at-reads
-use Rattle.visit.proofs.sweep.is_spared.Reads as is-spared-reads
-use Rattle.visit.proofs.path.relation_on.Reads as relation-on-reads
 
 is-spared-requires : tie.Need-is-spared-requires
 is-spared-requires c κs = search needs

@@ -4,9 +4,6 @@ use Rattle.visit.proofs.Sweeps.{quiet-none}
 use borrow.Author.Needs.{needs}
 use Rattle.visit.proofs.sweep.check.Statement.{statement}
 use Rattle.visit.proofs.sweep.check.Tie as tie
-use Rattle.visit.proofs.sweep.check.Reads as reads
-use Rattle.visit.proofs.sweep.check.Lts as lts
-use Rattle.visit.proofs.order.check_in_order.Reads as check-in-order-reads
 
 returns : tie.Need-returns
 returns c = let s = c .before .before .before .before in sym (quiet-none (s .args .v) (s .args .parents .now) (s .args .starts .now) (s .args .codes .now) (s .pre .1 .0) (s .pre .1 .1) (s .pre .1 .2 .quiet (c .if1 .taken)))

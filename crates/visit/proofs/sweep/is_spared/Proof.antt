@@ -1,12 +1,8 @@
 -- By its mark, or by climbing.
 use mathlib.Core.Path.{sym}
-use native.Mathlib.Omega.{arith}
 use borrow.Author.Needs.{needs}
 use Rattle.visit.proofs.sweep.is_spared.Statement.{statement}
 use Rattle.visit.proofs.sweep.is_spared.Tie as tie
-use Rattle.visit.proofs.sweep.is_spared.Reads as reads
-use Rattle.visit.proofs.sweep.is_spared.Lts as lts
-use Rattle.visit.proofs.path.is_above.Reads as is-above-reads
 
 shared-slice-read-result : tie.Need-shared-slice-read-result
 shared-slice-read-result c = search needs

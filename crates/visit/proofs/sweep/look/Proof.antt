@@ -5,10 +5,6 @@ use borrow.Author.Needs.{needs}
 use native.Mathlib.Omega.{arith}
 use Rattle.visit.proofs.sweep.look.Statement.{statement}
 use Rattle.visit.proofs.sweep.look.Tie as tie
-use Rattle.visit.proofs.sweep.look.Reads as reads
-use Rattle.visit.proofs.sweep.look.Lts as lts
-use Rattle.visit.proofs.sweep.look_swept.Reads as look-swept-reads
-use Rattle.visit.proofs.wide.Reads as wide-reads
 
 abbrev Inv-loop : tie.InvT-loop
 Inv-loop marks parents codes starts lines table v changed₀ path₀ n₀ changed path n = Sweeping parents (v .node) path n × LooksFrom v parents starts codes n changed

@@ -5,11 +5,6 @@ use Rattle.visit.proofs.Sweeps.{looks-spared, looks-visited}
 use borrow.Author.Needs.{needs}
 use Rattle.visit.proofs.sweep.look_swept.Statement.{statement}
 use Rattle.visit.proofs.sweep.look_swept.Tie as tie
-use Rattle.visit.proofs.sweep.look_swept.Reads as reads
-use Rattle.visit.proofs.sweep.look_swept.Lts as lts
-use Rattle.visit.proofs.row.look_at.Reads as look-at-reads
-use Rattle.visit.proofs.sweep.is_spared.Reads as is-spared-reads
-use Rattle.visit.proofs.path.relation_on.Reads as relation-on-reads
 
 is-spared-requires : tie.Need-is-spared-requires
 is-spared-requires c κs = search needs

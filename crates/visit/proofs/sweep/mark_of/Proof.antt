@@ -8,9 +8,6 @@ use native.Mathlib.Omega.{arith}
 use borrow.Author.Needs.{needs}
 use Rattle.visit.proofs.sweep.mark_of.Statement.{statement}
 use Rattle.visit.proofs.sweep.mark_of.Tie as tie
-use Rattle.visit.proofs.sweep.mark_of.Reads as reads
-use Rattle.visit.proofs.sweep.mark_of.Lts as lts
-use Rattle.visit.proofs.wide.Reads as wide-reads
 
 returns : tie.Need-returns
 returns c = let s = c .before .before .before in sym (rw (eq-eqb (s .args .n) (s .args .spared) (c .if1 .taken)))

@@ -7,9 +7,6 @@ use borrow.Author.Needs.{needs}
 use native.Mathlib.Omega.{arith}
 use Rattle.visit.proofs.sweep.mark_spared.Statement.{statement}
 use Rattle.visit.proofs.sweep.mark_spared.Tie as tie
-use Rattle.visit.proofs.sweep.mark_spared.Reads as reads
-use Rattle.visit.proofs.sweep.mark_spared.Lts as lts
-use Rattle.visit.proofs.sweep.mark_of.Reads as mark-of-reads
 
 abbrev Inv-loop : tie.InvT-loop
 Inv-loop parents marks₀ spared n₀ marks n = (spared ≤ n) × (length marks ≡ length marks₀) × MarkedTo spared parents marks n
