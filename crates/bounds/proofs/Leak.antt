@@ -7,9 +7,9 @@ use borrow.Author.Tests.{lt-ltb}
 use lib.ListN.{length}
 use Rattle.definition.specs.Notation.{any}
 use Rattle.definition.specs.Memory.{Memory, noAllocation, allocationAt, isLiveHeap, leakCheck}
+use Rattle.definition.proofs.Any.{any-at, any-none}
 use Rattle.answer.specs.declared.Answer.the-variants.{Leak, Accepted}
 use Rattle.bounds.specs.Bounds.{LeakAnswer}
-use Rattle.bounds.proofs.Any.{any-at, any-none}
 
 -- none of the first i allocations leaks
 abbrev pub NoneBelow : Memory → ℕ → Type 0

@@ -2,50 +2,36 @@
 use Prim.Native.Nat.{ℕ, _+_, _-_, _*_, _^_, _≤_, _<_}
 use mathlib.Core.Path.{_≡_, refl, sym, ap, _∙_}
 use mathlib.Core.Bool.{Bool, true, false, not, _&&_}
-use mathlib.Core.List.{List, _++_}
+use mathlib.Core.List.{List}
 use native.Mathlib.Omega.{arith}
 use borrow.Author.Tests.{eq-eqb, ne-eqb, le-leb, le-ltb, ltb-true, ltb-false, not-false}
 use lib.Dec.{eqb, leb, ltb}
-use lib.ListN.{length, getD, replicate}
-use lib.Seq.{getD-append-add}
+use lib.ListN.{length, getD}
 use Rattle.definition.specs.Notation.{_when_}
 use Rattle.definition.specs.Memory.{ThinPointer, hasNone, Liveness, isLive, Allocation, size, kindNumber, nodeCount, Memory, noAllocation, allocationAt, wasMade, namesNeverMade, isOutside, checkPtr, target}
 use Rattle.definition.specs.Memory.Liveness.{Live, Dead}
 use Rattle.definition.specs.Valid.{ValidAllocation}
 use Rattle.definition.proofs.ValidMemory.{was-made}
+use Rattle.definition.proofs.Places.{all-at}
 use Rattle.pointer.specs.Pointer.{provenanceOf, thinPointerOf}
 use Rattle.pointer.specs.declared.ThinPointer as pointer
 use Rattle.pointer.specs.declared.Provenance.the-variants.{None, Of}
 use Rattle.tables.specs.declared.Allocation as code
-use Rattle.tables.specs.Encoding.{stateNumber, recordOf, concatMap, pad, held}
+use Rattle.tables.specs.Encoding.{stateNumber, recordOf}
 use Rattle.tables.specs.Held.{Records}
-use Rattle.tables.proofs.Parts.{zero-at, all-at}
-use Rattle.tables.proofs.Sizes.{records-used}
-use Rattle.tables.proofs.Lookup.{state-at, kind-at, address-at, size-at, nodes-at}
+use Rattle.tables.proofs.Lookup.{state-at, kind-at, address-at, size-at, nodes-at, zero-behind}
 use Rattle.bounds.specs.Bounds.{Points}
 use Rattle.bounds.proofs.Tests.{leb-ltb}
-
-pub live-state : (s : Liveness) → eqb (stateNumber s) 1 ≡ isLive s
-live-state Live = refl
-live-state Dead = refl
+pub use Rattle.tables.proofs.Lookup.{live-state}
 
 -- ---- 4: behind the last allocation the records have no nodes
 module _ {m : Memory} {A : List ℕ} (h : Records m A) where
-  nodes-behind : (a : ℕ) → length m ≤ a → getD A (a * 6 + 5) 0 ≡ 0
-  unfolding held pad
-  nodes-behind a l =
-      let Z : List ℕ = replicate (768 - length (concatMap recordOf m)) 0 in
-      let d = a * 6 + 5 - length (concatMap recordOf m) in
-      let e : a * 6 + 5 ≡ length (concatMap recordOf m) + d = omega (arith, records-used m) in
-      ap (λ (t : List ℕ). getD t (a * 6 + 5) 0) (h .allocs) ∙ ap (λ (k : ℕ). getD (concatMap recordOf m ++ Z) k 0) e
-      ∙ getD-append-add (concatMap recordOf m) Z d 0 ∙ zero-at (768 - length (concatMap recordOf m)) d
-
   never-test : (a n : ℕ) → leb (getD A (a * 6 + 5) 0) n ≡ not (wasMade m (record { allocation = a; node = n }))
   never-test a n = go (ltb a (length m)) refl
     where
       go : (t : Bool) → ltb a (length m) ≡ t → leb (getD A (a * 6 + 5) 0) n ≡ not (t && ltb n (nodeCount (allocationAt m a)))
       go true e = ap (λ (k : ℕ). leb k n) (nodes-at h a (ltb-true a (length m) e)) ∙ leb-ltb (nodeCount (allocationAt m a)) n
-      go false e = ap (λ (k : ℕ). leb k n) (nodes-behind a (ltb-false a (length m) e)) ∙ le-leb 0 n (omega arith)
+      go false e = ap (λ (k : ℕ). leb k n) (zero-behind h (a * 6 + 5) (omega (arith, ltb-false a (length m) e))) ∙ le-leb 0 n (omega arith)
 
   pub never-past : (a n : ℕ) → 128 ≤ a → not (wasMade m (record { allocation = a; node = n })) ≡ true
   never-past a n l = rw (le-ltb a (length m) (omega (arith, h .valid .bounded .allocations)))

@@ -8,6 +8,7 @@ use lib.Dec.{leb, ltb}
 use lib.ListN.{length}
 use Rattle.definition.specs.Notation.{sumOf}
 use Rattle.definition.specs.Memory.{Memory, Sizes, size, nodeCount, exceedsBounds}
+use Rattle.definition.proofs.Booleans.{ltb-leb}
 use Rattle.tables.specs.Held.{Used}
 
 -- ---- more than what is left of a bound
@@ -17,13 +18,6 @@ over used bound more h = go (ltb (bound - used) more) refl
     go : (t : Bool) → ltb (bound - used) more ≡ t → t ≡ ltb bound (used + more)
     go true e = sym (lt-ltb bound (used + more) (omega (arith, ltb-true (bound - used) more e)))
     go false e = sym (le-ltb bound (used + more) (omega (arith, ltb-false (bound - used) more e)))
-
-pub ltb-leb : (a b : ℕ) → ltb a b ≡ not (leb b a)
-ltb-leb a b = go (ltb a b) refl
-  where
-    go : (t : Bool) → ltb a b ≡ t → t ≡ not (leb b a)
-    go true e = rw (lt-leb b a (ltb-true a b e))
-    go false e = rw (le-leb b a (ltb-false a b e))
 
 pub leb-ltb : (a b : ℕ) → leb a b ≡ not (ltb b a)
 leb-ltb a b = sym (rw (ltb-leb b a) (twice (leb a b)))

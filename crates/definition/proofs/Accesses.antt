@@ -21,7 +21,8 @@ use Rattle.definition.specs.Tree.{Node, visitRefusal, visited}
 use Rattle.definition.specs.Memory.{Memory, Allocation, noAllocation, allocationAt, size, Provenance, ThinPointer, Answer, givesWords, unlessRefused, wasMade, namesNeverMade, hasNone, isLive, isMisaligned, allocationOf, target, offset, isOutside, checkPtr, MemoryAccess, visitOf, accessRefusalIn, accessRefusal, afterAccessIn, afterAccess, loadedWords, acceptAccess, performAccess}
 use Rattle.definition.proofs.Booleans.{and-left, and-right, or-later, or-left, or-right, when-none}
 use Rattle.definition.proofs.Permissions.{Calm}
-use Rattle.definition.proofs.Lists.{mutate-length, mutate-kept, mutate-commute, mutate-again, write-none, write-length, write-commute, part-before, part-behind}
+use Rattle.definition.proofs.Lists.{mutate-length, mutate-kept, mutate-commute, mutate-again}
+use Rattle.definition.proofs.Writes.{write-none, write-length, write-commute, part-before, part-behind}
 use Rattle.definition.proofs.Visits.{visited-length, visit-refused, visited-commute, visited-again}
 
 -- ---- independent accesses

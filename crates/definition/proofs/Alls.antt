@@ -71,10 +71,14 @@ module _ {A : Type 0} (P : A → Type 0) where
   all-drop (suc n) [] p = tt
   all-drop (suc n) (x ∷ xs) p = all-drop n xs (p .1)
 
-  pub all-at : (l : List A) (n : ℕ) (d : A) → All P l → P d → P (getD l n d)
-  all-at [] n d p h = h
-  all-at (x ∷ xs) zero d p h = p .0
-  all-at (x ∷ xs) (suc n) d p h = all-at xs n d (p .1) h
+  pub all-last : (l : List A) (x : A) → All P (l ++ (x ∷ [])) → P x
+  all-last [] x p = p .0
+  all-last (y ∷ ys) x p = all-last ys x (p .1)
+
+  pub all-getD : (l : List A) (n : ℕ) (d : A) → All P l → P d → P (getD l n d)
+  all-getD [] n d p h = h
+  all-getD (x ∷ xs) zero d p h = p .0
+  all-getD (x ∷ xs) (suc n) d p h = all-getD xs n d (p .1) h
 
 pub all-map : {A B : Type 0} (P : B → Type 0) (f : A → B) → ((x : A) → P (f x)) → (l : List A) → All P (map f l)
 all-map P f h [] = tt
@@ -129,8 +133,3 @@ module _ {A : Type 0} (f : A → A) (d : A) where
     sum-mutated more n [] h = omega arith
     sum-mutated more zero (x ∷ xs) h = omega arith
     sum-mutated more (suc n) (x ∷ xs) h = let rest : sumOf g (mutateAt n f xs) ≤ sumOf g xs + more = sum-mutated more n xs h in omega arith
-
-pub sum-append : {A : Type 0} (g : A → ℕ) (l : List A) (x : A) → sumOf g (l ++ (x ∷ [])) ≡ sumOf g l + g x
-unfolding sumOf
-sum-append g [] x = omega arith
-sum-append g (y ∷ ys) x = let rest : sumOf g (ys ++ (x ∷ [])) ≡ sumOf g ys + g x = sum-append g ys x in omega arith

@@ -5,7 +5,8 @@ use mathlib.Core.Bool.{Bool, true, false, not, _&&_, _||_, false≢true}
 use mathlib.Core.Logic.{⊎-elim}
 use native.Mathlib.Nat.{eq-or-lt-of-le}
 use native.Mathlib.Omega.{arith}
-use lib.Dec.{T}
+use lib.Dec.{T, leb, ltb}
+use borrow.Author.Tests.{le-leb, lt-leb, ltb-true, ltb-false}
 use Rattle.definition.specs.Notation.{if_then_else_, _when_, _or_}
 
 -- ---- `&&`, `||`, `not`
@@ -21,9 +22,25 @@ pub or-neither : (a b : Bool) → a || b ≡ false → (a ≡ false) × (b ≡ f
 or-neither true b e = absurd (false≢true (sym e))
 or-neither false b e = (refl, e)
 
+pub or-taken : (a b : Bool) → a ≡ true → a || b ≡ true
+or-taken true b e = refl
+or-taken false b e = absurd (false≢true e)
+
+pub or-skip : (a b : Bool) → a ≡ false → a || b ≡ b
+or-skip true b e = absurd (false≢true (sym e))
+or-skip false b e = refl
+
 pub not-not-false : (b : Bool) → not b ≡ false → b ≡ true
 not-not-false true e = refl
 not-not-false false e = sym e
+
+-- ---- `ltb` and `leb`
+pub ltb-leb : (a b : ℕ) → ltb a b ≡ not (leb b a)
+ltb-leb a b = go (ltb a b) refl
+  where
+    go : (t : Bool) → ltb a b ≡ t → t ≡ not (leb b a)
+    go true e = rw (lt-leb b a (ltb-true a b e))
+    go false e = rw (le-leb b a (ltb-false a b e))
 
 -- ---- a test that passes, as `T`
 pub T-left : (a b : Bool) → T (a && b) → T a
@@ -55,6 +72,10 @@ or-later (suc x) y y′ h = refl
 pub or-assoc : (x y z : ℕ) → ((x or y) or z) ≡ (x or (y or z))
 or-assoc zero y z = refl
 or-assoc (suc x) y z = refl
+
+pub or-none : (x : ℕ) → (x or 0) ≡ x
+or-none zero = refl
+or-none (suc x) = refl
 
 pub or-left : (x y : ℕ) → (x or y) ≡ 0 → x ≡ 0
 or-left zero y e = refl

@@ -8,7 +8,7 @@ use native.Mathlib.Nat.{zero-add}
 use native.Mathlib.Decide.{ℕ-discrete}
 use native.Mathlib.Omega.{arith}
 use lib.Dec.{eqb}
-use lib.ListN.{length}
+use lib.ListN.{length, getD}
 use borrow.Author.Tests.{eq-eqb, ne-eqb}
 use Rattle.definition.specs.Notation.{if_then_else_, tableFrom, filter, sumOf}
 use Rattle.definition.specs.Valid.{All}
@@ -38,6 +38,13 @@ module _ {A : Type 0} where
   unfolding sumOf
   sum-length [] = refl
   sum-length (x ∷ xs) = omega (arith, sum-length xs)
+
+-- one part of a sum
+pub part-of-sum : {A : Type 0} (g : A → ℕ) (d : A) (l : List A) (n : ℕ) → n < length l → g (getD l n d) ≤ sumOf g l
+unfolding sumOf
+part-of-sum g d [] n h = absurd (omega arith)
+part-of-sum g d (x ∷ xs) zero h = omega arith
+part-of-sum g d (x ∷ xs) (suc n) h = omega (arith, part-of-sum g d xs n (omega arith))
 
 module _ (j : ℕ) where
   pub count-here : (x : ℕ) (xs : List ℕ) → x ≡ j → count j (x ∷ xs) ≡ suc (count j xs)

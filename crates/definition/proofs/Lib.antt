@@ -1,6 +1,9 @@
 -- The laws of the definition.
 -- general: Booleans, lists
 pub mod Booleans
+pub mod Parts
+pub mod Writes
+pub mod Any
 pub mod Lists
 pub mod Counts
 pub mod Alls

@@ -1,13 +1,15 @@
--- Laws of the list words of `Notation`.
+-- Laws of the list words of `Notation`; those of `writeAt` are in `Writes`, those of `any` in `Any`.
 use Prim.Native.Nat.{ℕ, zero, suc, _+_, _≤_, _<_}
 use mathlib.Core.Path.{_≡_, refl, sym, ap, ap₂, _∙_}
-use mathlib.Core.Bool.{Bool, true, false}
 use mathlib.Core.List.{List, [], _∷_, _++_, map}
 use native.Mathlib.Nat.{zero-add, add-zero, add-suc, suc-add}
 use native.Mathlib.Omega.{arith}
 use lib.ListN.{length, getD, take, drop, set}
-use Rattle.definition.specs.Notation.{_or_, if_then_else_, firstRefusal, tableFrom, mapFrom, mutateAt, writeAt, sumOf}
+use lib.Seq.{ext-getD}
+use Rattle.definition.specs.Notation.{_or_, firstRefusal, tableFrom, table, mapFrom, mutateAt}
 use Rattle.definition.proofs.Booleans.{or-assoc}
+-- passed on, for those who name them here
+pub use Rattle.definition.proofs.Writes.{write-none, write-length}
 
 -- ---- the first refusal along a list
 module _ {A : Type 0} where
@@ -75,10 +77,28 @@ module _ {A : Type 0} where
   each-map g f h n [] = refl
   each-map g f h n (x ∷ xs) = ap₂ _∷_ (h n x) (each-map g f h (suc n) xs)
 
+  -- ---- tables
   pub table-length : (f : ℕ → A) (b n : ℕ) → length (tableFrom b n f) ≡ n
   unfolding tableFrom
   table-length f b zero = refl
   table-length f b (suc n) = ap suc (table-length f (suc b) n)
+
+  pub table-at : (f : ℕ → A) (a n b : ℕ) (d : A) → b < n → getD (tableFrom a n f) b d ≡ f (a + b)
+  unfolding tableFrom
+  table-at f a zero b d h = absurd (omega arith)
+  table-at f a (suc n) zero d h = ap f (sym (add-zero a))
+  table-at f a (suc n) (suc b) d h = table-at f (suc a) n b d (omega arith) ∙ ap f (suc-add a b ∙ sym (add-suc a b))
+
+  pub table-map : {B : Type 0} (g : A → B) (f : ℕ → A) (a n : ℕ) → map g (tableFrom a n f) ≡ tableFrom a n (λ b. g (f b))
+  unfolding tableFrom
+  table-map g f a zero = refl
+  table-map g f a (suc n) = ap (λ (l : List _). g (f a) ∷ l) (table-map g f (suc a) n)
+
+  -- a list is a table, if each of its elements is the table's
+  pub is-table : (f : ℕ → A) (n : ℕ) (l : List A) (d : A) → length l ≡ n → ((b : ℕ) → b < n → getD l b d ≡ f b) → l ≡ table n f
+  is-table f n l d e h =
+      ext-getD d l (table n f) (e ∙ sym (table-length f 0 n))
+      (λ b l. h b (omega arith) ∙ sym (table-at f 0 n b d (omega arith) ∙ ap f (zero-add b)))
 
   -- ---- one element
   pub mutate-length : (n : ℕ) (f : A → A) (l : List A) → length (mutateAt n f l) ≡ length l
@@ -124,48 +144,32 @@ module _ {A : Type 0} where
   mutate-again f d (x ∷ xs) zero h = ap (λ (y : A). y ∷ xs) h
   mutate-again f d (x ∷ xs) (suc n) h = ap (λ (l : List A). x ∷ l) (mutate-again f d xs n h)
 
-  -- ---- a run of elements
-  pub write-none : (n : ℕ) (xs : List A) → writeAt n [] xs ≡ xs
-  unfolding writeAt
-  write-none n [] = refl
-  write-none zero (x ∷ xs) = refl
-  write-none (suc n) (x ∷ xs) = ap (λ (l : List A). x ∷ l) (write-none n xs)
+  pub mutate-twice : (n : ℕ) (f g : A → A) (l : List A) → mutateAt n f (mutateAt n g l) ≡ mutateAt n (λ x. f (g x)) l
+  unfolding mutateAt
+  mutate-twice n f g [] = refl
+  mutate-twice zero f g (x ∷ xs) = refl
+  mutate-twice (suc n) f g (x ∷ xs) = ap (λ (l : List A). x ∷ l) (mutate-twice n f g xs)
 
-  pub write-length : (n : ℕ) (ys xs : List A) → length (writeAt n ys xs) ≡ length xs
-  unfolding writeAt
-  write-length n ys [] = refl
-  write-length zero [] (x ∷ xs) = refl
-  write-length zero (y ∷ ys) (x ∷ xs) = ap suc (write-length zero ys xs)
-  write-length (suc n) ys (x ∷ xs) = ap suc (write-length n ys xs)
+  -- what stands before it, the element, and what stands behind it
+  pub mutate-split : (n : ℕ) (f : A → A) (l : List A) (d : A) → n < length l → mutateAt n f l ≡ take n l ++ (f (getD l n d) ∷ drop (suc n) l)
+  unfolding mutateAt
+  mutate-split n f [] d h = absurd (omega arith)
+  mutate-split zero f (x ∷ xs) d h = refl
+  mutate-split (suc n) f (x ∷ xs) d h = ap (λ (l : List A). x ∷ l) (mutate-split n f xs d (omega arith))
 
-  pub write-commute : (n : ℕ) (ys : List A) (k : ℕ) (zs xs : List A) → n + length ys ≤ k
-      → writeAt k zs (writeAt n ys xs) ≡ writeAt n ys (writeAt k zs xs)
-  unfolding writeAt
-  write-commute n ys k zs [] h = refl
-  write-commute zero [] k zs (x ∷ xs) h = sym (write-none zero (writeAt k zs (x ∷ xs)))
-  write-commute zero (y ∷ ys) zero zs (x ∷ xs) h = absurd (omega arith)
-  write-commute zero (y ∷ ys) (suc k) zs (x ∷ xs) h = ap (λ (l : List A). y ∷ l) (write-commute zero ys k zs xs (omega arith))
-  write-commute (suc n) ys zero zs (x ∷ xs) h = absurd (omega arith)
-  write-commute (suc n) ys (suc k) zs (x ∷ xs) h = ap (λ (l : List A). x ∷ l) (write-commute n ys k zs xs (omega arith))
+  pub take-mutate : (k n : ℕ) (f : A → A) (l : List A) → k ≤ n → take k (mutateAt n f l) ≡ take k l
+  unfolding mutateAt
+  take-mutate zero n f l h = refl
+  take-mutate (suc k) n f [] h = refl
+  take-mutate (suc k) zero f (x ∷ xs) h = absurd (omega arith)
+  take-mutate (suc k) (suc n) f (x ∷ xs) h = ap (λ (l : List A). x ∷ l) (take-mutate k n f xs (omega arith))
 
-  -- a part that ends before what is written, and one that starts behind it
-  pub part-before : (o l n : ℕ) (ys xs : List A) → o + l ≤ n → take l (drop o (writeAt n ys xs)) ≡ take l (drop o xs)
-  unfolding writeAt
-  part-before o l n ys [] h = refl
-  part-before zero zero n ys (x ∷ xs) h = refl
-  part-before zero (suc l) zero ys (x ∷ xs) h = absurd (omega arith)
-  part-before zero (suc l) (suc n) ys (x ∷ xs) h = ap (λ (l : List A). x ∷ l) (part-before zero l n ys xs (omega arith))
-  part-before (suc o) l zero ys (x ∷ xs) h = absurd (omega arith)
-  part-before (suc o) l (suc n) ys (x ∷ xs) h = part-before o l n ys xs (omega arith)
-
-  pub part-behind : (o l n : ℕ) (ys xs : List A) → n + length ys ≤ o → take l (drop o (writeAt n ys xs)) ≡ take l (drop o xs)
-  unfolding writeAt
-  part-behind o l n ys [] h = refl
-  part-behind o l zero [] (x ∷ xs) h = refl
-  part-behind zero l zero (y ∷ ys) (x ∷ xs) h = absurd (omega arith)
-  part-behind (suc o) l zero (y ∷ ys) (x ∷ xs) h = part-behind o l zero ys xs (omega arith)
-  part-behind zero l (suc n) ys (x ∷ xs) h = absurd (omega arith)
-  part-behind (suc o) l (suc n) ys (x ∷ xs) h = part-behind o l n ys xs (omega arith)
+  pub drop-mutate : (k n : ℕ) (f : A → A) (l : List A) → n < k → drop k (mutateAt n f l) ≡ drop k l
+  unfolding mutateAt
+  drop-mutate zero n f l h = absurd (omega arith)
+  drop-mutate (suc k) n f [] h = refl
+  drop-mutate (suc k) zero f (x ∷ xs) h = refl
+  drop-mutate (suc k) (suc n) f (x ∷ xs) h = drop-mutate k n f xs (omega arith)
 
   -- ---- a loop in place: the elements before i are new, the others still old
   pub loop-get : (new old : List A) (d : A) (i : ℕ) → length new ≡ length old → i < length old → getD (take i new ++ drop i old) i d ≡ getD old i d
@@ -174,9 +178,14 @@ module _ {A : Type 0} where
   loop-get (x ∷ new) (y ∷ old) d zero e l = refl
   loop-get (x ∷ new) (y ∷ old) d (suc i) e l = loop-get new old d i (omega arith) (omega arith)
 
+  -- a copy of new to the front of old, one element more
+  pub copy-set : (new old : List A) (d : A) (i : ℕ) → i < length new → i < length old
+      → set (take i new ++ drop i old) i (getD new i d) ≡ take (suc i) new ++ drop (suc i) old
+  copy-set new [] d i k l = absurd (omega arith)
+  copy-set [] (y ∷ old) d i k l = absurd (omega arith)
+  copy-set (x ∷ new) (y ∷ old) d zero k l = refl
+  copy-set (x ∷ new) (y ∷ old) d (suc i) k l = ap (λ (l : List A). x ∷ l) (copy-set new old d i (omega arith) (omega arith))
+
   pub loop-set : (new old : List A) (d : A) (i : ℕ) → length new ≡ length old → i < length old
       → set (take i new ++ drop i old) i (getD new i d) ≡ take (suc i) new ++ drop (suc i) old
-  loop-set new [] d i e l = absurd (omega arith)
-  loop-set [] (y ∷ old) d i e l = absurd (omega arith)
-  loop-set (x ∷ new) (y ∷ old) d zero e l = refl
-  loop-set (x ∷ new) (y ∷ old) d (suc i) e l = ap (λ (l : List A). x ∷ l) (loop-set new old d i (omega arith) (omega arith))
+  loop-set new old d i e l = copy-set new old d i (omega arith) l

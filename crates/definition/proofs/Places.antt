@@ -6,10 +6,15 @@ use native.Mathlib.Nat.{zero-add, add-zero}
 use native.Mathlib.Omega.{arith}
 use lib.ListN.{length, getD}
 use Rattle.definition.specs.Notation.{mapFrom, mutateAt}
-use Rattle.definition.specs.Valid.{AllFrom}
+use Rattle.definition.specs.Valid.{All, AllFrom}
 
 module _ {A : Type 0} where
-  -- what holds of each element and its number, holds of the one at place i
+  -- what holds of each element, and of each and its number, holds of the one at place i
+  pub all-at : (P : A → Type 0) (l : List A) (i : ℕ) (d : A) → All P l → i < length l → P (getD l i d)
+  all-at P [] i d a h = absurd (omega arith)
+  all-at P (x ∷ xs) zero d a h = a .0
+  all-at P (x ∷ xs) (suc i) d a h = all-at P xs i d (a .1) (omega arith)
+
   allFrom-place : (P : ℕ → A → Type 0) (d : A) (n : ℕ) (l : List A) → AllFrom n P l → (i : ℕ) → i < length l → P (n + i) (getD l i d)
   allFrom-place P d n [] a i h = absurd (omega arith)
   allFrom-place P d n (x ∷ xs) a zero h = subst (λ (k : ℕ). P k x) (sym (add-zero n)) (a .0)

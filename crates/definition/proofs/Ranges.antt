@@ -136,14 +136,14 @@ module _ (r : NodeRelation) where
       (each-shift (nextAt f) 0 row ∙ places-after (behind f) n xs (behind-places f n xs places) row)
 
 -- ---- which numbers lie in a range
-pub in-range-yes : (from n k : ℕ) → k < n → inRange from n (from + k) ≡ true
-in-range-yes from n k l = rw (le-leb from (from + k) (omega arith), lt-ltb (from + k) (from + n) (omega arith))
+pub within-range : (from n k : ℕ) → from ≤ k → k < from + n → inRange from n k ≡ true
+within-range from n k l h = rw (le-leb from k l) (lt-ltb k (from + n) h)
 
-pub in-range-before : (from n k : ℕ) → k < from → inRange from n k ≡ false
-in-range-before from n k l = rw (lt-leb from k l)
+pub below-range : (from n k : ℕ) → k < from → inRange from n k ≡ false
+below-range from n k h = rw (lt-leb from k h)
 
-pub in-range-behind : (from n k : ℕ) → n ≤ k → inRange from n (from + k) ≡ false
-in-range-behind from n k l = rw (le-leb from (from + k) (omega arith), le-ltb (from + k) (from + n) (omega arith))
+pub behind-range : (from n k : ℕ) → from + n ≤ k → inRange from n k ≡ false
+behind-range from n k h = rw (le-leb from k (omega arith)) (le-ltb k (from + n) h)
 
 -- ---- an access of one kind to n bytes
 abbrev pub accessIn : AccessKind → ℕ → ℕ → ℕ → Option AccessKind
@@ -152,12 +152,12 @@ accessIn a from n b = if inRange from n b then some a else none
 pub range-places : (a : AccessKind) (from n : ℕ) → Places (accessIn a from n) from (replicate n (some a))
 range-places a from n =
     record {
-      before = λ k l. rw (in-range-before from n k l);
+      before = λ k l. rw (below-range from n k l);
       at =
           λ k.
           elim (decLt k n) [
-            | yes l ↦ rw (in-range-yes from n k l) (sym (getD-replicate n k (some a) none l))
-            | no l ↦ rw (in-range-behind from n k (omega arith)) (sym (List·getD-eq-default (replicate n (some a)) none {n = k} (omega (arith, length-replicate n (some a)))))
+            | yes l ↦ rw (within-range from n (from + k) (omega arith) (omega arith)) (sym (getD-replicate n k (some a) none l))
+            | no l ↦ rw (behind-range from n (from + k) (omega arith)) (sym (List·getD-eq-default (replicate n (some a)) none {n = k} (omega (arith, length-replicate n (some a)))))
           ];
     }
 
@@ -190,12 +190,12 @@ accessesFrom from xs k = if inRange from (length xs) k then getD xs (k - from) n
 pub list-places : (from : ℕ) (xs : List (Option AccessKind)) → Places (accessesFrom from xs) from xs
 list-places from xs =
     record {
-      before = λ k l. rw (in-range-before from (length xs) k l);
+      before = λ k l. rw (below-range from (length xs) k l);
       at =
           λ k.
           elim (decLt k (length xs)) [
-            | yes l ↦ rw (in-range-yes from (length xs) k l) (ap (λ (i : ℕ). getD xs i none) (ahead from k))
-            | no l ↦ rw (in-range-behind from (length xs) k (omega arith)) (sym (List·getD-eq-default xs none {n = k} (omega arith)))
+            | yes l ↦ rw (within-range from (length xs) (from + k) (omega arith) (omega arith)) (ap (λ (i : ℕ). getD xs i none) (ahead from k))
+            | no l ↦ rw (behind-range from (length xs) (from + k) (omega arith)) (sym (List·getD-eq-default xs none {n = k} (omega arith)))
           ];
     }
   where

@@ -20,7 +20,7 @@ use Rattle.definition.specs.Retag.{ReborrowSettings, withChild, initRefu
 use Rattle.definition.specs.Valid.{All, ValidAllocation, Valid, ValidFrame, ValidState}
 use Rattle.definition.proofs.Booleans.{not-not-false, or-neither, or-left, or-right, when-none}
 use Rattle.definition.proofs.Lists.{mutate-length}
-use Rattle.definition.proofs.Alls.{if-holds, outcome-holds, all-imp, all-set, all-append, all-at}
+use Rattle.definition.proofs.Alls.{if-holds, outcome-holds, all-imp, all-set, all-append, all-getD}
 use Rattle.definition.proofs.Places.{mutate-here}
 use Rattle.definition.proofs.ValidTrees.{SettingsAgree, withChild-length, withChild-valid, init-valid, init-length}
 use Rattle.definition.proofs.ValidMemory.{MemoryKept, same-kept, Made, was-made, is-made, Succeeds, changed-valid, mutated-kept, release-all-kept, room}
@@ -171,7 +171,7 @@ module _ (w : ReborrowSettings) (agree : SettingsAgree w) (frame : ℕ) (p : Thi
     entered : isYes (w .protected) ≡ true → All (ValidFrame m) (s .frames) → ValidFrame m′ (Open (entries (frameAt s frame) ++ (child ∷ [])))
     entered e fs =
         let es : List Provenance = entries (frameAt s frame) in
-        let old : ValidFrame m′ (frameAt s frame) = all-at (ValidFrame m′) (s .frames) frame Closed (frames-kept m m′ reborrow-memory (s .frames) fs) (closed-valid m′) in
+        let old : ValidFrame m′ (frameAt s frame) = all-getD (ValidFrame m′) (s .frames) frame Closed (frames-kept m m′ reborrow-memory (s .frames) fs) (closed-valid m′) in
         let fits : ltb entryBound (length es + 1) ≡ false = ap (λ (b : Bool). b && ltb entryBound (length es + 1)) (sym e) ∙ h .entry in
         record {
           room = omega (arith, ltb-false entryBound (length es + 1) fits, length-append es (child ∷ []));

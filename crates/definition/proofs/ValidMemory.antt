@@ -21,8 +21,10 @@ use Rattle.definition.specs.Frame.{releasedNodes, afterReleaseIn, afterR
 use Rattle.definition.specs.Request.{badByte}
 use Rattle.definition.specs.Valid.{All, ValidByte, ValidAllocation, Separate, Valid}
 use Rattle.definition.proofs.Booleans.{and-left, and-right, not-not-false, or-neither, or-left, or-right, when-none}
-use Rattle.definition.proofs.Lists.{mutate-length, write-length}
-use Rattle.definition.proofs.Alls.{if-holds, outcome-holds, all-imp, all-mutate, all-append, all-write, all-replicate, none-pass, mutated-least, sum-mutated, sum-append}
+use Rattle.definition.proofs.Lists.{mutate-length}
+use Rattle.definition.proofs.Writes.{write-length}
+use Rattle.definition.proofs.Counts.{sum-append}
+use Rattle.definition.proofs.Alls.{if-holds, outcome-holds, all-imp, all-mutate, all-append, all-write, all-replicate, none-pass, mutated-least, sum-mutated}
 use Rattle.definition.proofs.Visits.{visited-length}
 use Rattle.definition.proofs.ValidTrees.{ValidNodes, visited-valid, dead-valid, released-valid, released-length}
 
@@ -333,6 +335,7 @@ module _ (kind : AllocationKind) (len exponent address : ℕ) where
   new-separate m h = subst (λ (n : ℕ). All (λ a. overlaps address n a ≡ false) m) (sym new-size) h
 
   appended-kept : (m : Memory) → exponent ≤ 29 → Pickable m len exponent address → Room m (ofAllocation len) → Valid m → MemoryKept m (m ++ (new ∷ []))
+  unfolding sumOf
   appended-kept m x h r v =
       record {
         valid =
@@ -342,9 +345,9 @@ module _ (kind : AllocationKind) (len exponent address : ℕ) where
               bounded =
                   record {
                     allocations = omega (arith, r .allocations, length-append m (new ∷ []));
-                    words = omega (arith, r .words, sum-append size m new, new-size);
-                    nodes = omega (arith, r .nodes, sum-append nodeCount m new, new-node);
-                    codes = omega (arith, r .codes, sum-append codeCount m new, new-codes);
+                    words = omega (arith, r .words, sum-append size m (new ∷ []), new-size);
+                    nodes = omega (arith, r .nodes, sum-append nodeCount m (new ∷ []), new-node);
+                    codes = omega (arith, r .codes, sum-append codeCount m (new ∷ []), new-codes);
                   };
             };
         made = made-append m new;

@@ -19,7 +19,8 @@ use Rattle.definition.specs.Memory.Liveness.{Live, Dead}
 use Rattle.definition.specs.Frame.{unprotectNode, releaseVisit, releasedNodes}
 use Rattle.definition.specs.Retag.{ReborrowSettings, startPerm, reborrowSettings, childNode, withChild, initVisit, afterInit}
 use Rattle.definition.specs.Valid.{All, AllFrom, Placed, ValidNode}
-use Rattle.definition.proofs.Lists.{each-length, mutate-length, write-length}
+use Rattle.definition.proofs.Lists.{each-length, mutate-length}
+use Rattle.definition.proofs.Writes.{write-length}
 use Rattle.definition.proofs.Visits.{visited-length}
 use Rattle.definition.proofs.Alls.{if-holds, all-each, all-write, all-replicate, all-map, allFrom-imp, allFrom-each, allFrom-mutate, allFrom-append}
 

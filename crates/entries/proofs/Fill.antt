@@ -1,11 +1,10 @@
 -- The turns of the loop that fills a list with zeros from the front.
 use Prim.Native.Nat.{ℕ, _+_, _<_, _≤_}
 use mathlib.Core.Path.{_≡_, ap, _∙_}
-use mathlib.Core.List.{List, _++_, append-nil}
+use mathlib.Core.List.{List, _++_}
 use native.Mathlib.Omega.{arith}
 use lib.ListN.{length, drop, set, replicate, length-append, length-drop, length-replicate}
-use lib.Seq.{drop-length}
-use Rattle.entries.proofs.Lists.{front-more, replicate-more}
+use Rattle.definition.proofs.Parts.{front-more, replicate-more, fill-all}
 
 pub zeros-more : (d : List ℕ) (i : ℕ) → i < length d → set (replicate i 0 ++ drop i d) i 0 ≡ replicate (i + 1) 0 ++ drop (i + 1) d
 zeros-more d i h =
@@ -16,4 +15,4 @@ pub zeros-length : (d : List ℕ) (i : ℕ) → i ≤ length d → length (repli
 zeros-length d i h = simp (length-append, length-replicate, length-drop) (omega arith)
 
 pub zeros-all : (d : List ℕ) (i : ℕ) → i ≡ length d → replicate i 0 ++ drop i d ≡ replicate (length d) 0
-zeros-all d i e = rw (e, drop-length) (append-nil (replicate (length d) 0))
+zeros-all d i e = fill-all i 0 d (omega arith) ∙ ap (λ (k : ℕ). replicate k 0) e

@@ -11,9 +11,9 @@ use Rattle.definition.specs.Memory.{Provenance}
 use Rattle.definition.specs.Frame.{Frame, isOpen, entries, frameCount, empty}
 use Rattle.definition.specs.Frame.Frame.{Closed, Open}
 use Rattle.definition.specs.Valid.{All}
-use Rattle.definition.proofs.Alls.{all-at, all-take, all-set, all-replicate}
+use Rattle.definition.proofs.Alls.{all-getD, all-take, all-set, all-replicate}
+use Rattle.definition.proofs.Parts.{set-mid, get-mid}
 use Rattle.entries.specs.Buffer.{entryWord, entriesIn, headWord, frameWords, framesHeld, FitsEntry, FitsFrame, HoldsFrames}
-use Rattle.entries.proofs.Lists.{set-mid, get-mid}
 use Rattle.entries.proofs.FrameWords.{closed-fits, words-length, words-back, frame-same, opened-words, opened-fits, closed-words, used, unused, as-used, used-length, used-cleared, pushed-fits, pushed-words}
 
 -- ---- the buffer around frame f
@@ -74,7 +74,7 @@ module _ (fs : List Frame) (buffer : List ℕ) (f : ℕ) (holds : HoldsFrames fs
   inside = omega (arith, holds .count)
 
   pub frame-fits : FitsFrame frame
-  frame-fits = all-at FitsFrame fs f Closed (holds .each) closed-fits
+  frame-fits = all-getD FitsFrame fs f Closed (holds .each) closed-fits
 
   pub buffer-length : length buffer ≡ 2080
   buffer-length = ap length (holds .held) ∙ held-length fs (holds .each) ∙ ap (λ (n : ℕ). n * 65) (holds .count)

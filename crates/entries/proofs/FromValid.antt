@@ -9,7 +9,7 @@ use Rattle.definition.specs.Frame.{Frame, State, entries}
 use Rattle.definition.specs.Valid.{All, Valid, ValidFrame, ValidState}
 use Rattle.definition.proofs.Alls.{all-imp}
 use Rattle.definition.proofs.ValidMemory.{Made, was-made}
-use Rattle.entries.proofs.Lists.{part-of-sum}
+use Rattle.definition.proofs.Counts.{part-of-sum}
 use Rattle.entries.specs.Buffer.{framesHeld, FitsEntry, FitsFrame, HoldsFrames}
 
 pub made-fits : (m : Memory) (e : Provenance) → Valid m → wasMade m e ≡ true → FitsEntry e

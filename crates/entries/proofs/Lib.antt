@@ -1,4 +1,3 @@
-pub mod Lists
 pub mod ByValue
 pub mod Fill
 pub mod FrameWords

@@ -17,6 +17,7 @@ use Rattle.definition.specs.Valid.{All, Valid}
 use Rattle.definition.proofs.Alls.{if-holds, all-imp, none-pass}
 use Rattle.definition.proofs.Booleans.{not-not-false}
 use Rattle.definition.proofs.ValidMemory.{valid-release-all}
+use Rattle.definition.proofs.Parts.{fill-all}
 use Rattle.tables.specs.Encoding.{recordOf, parentsOf, wordsOf, held, encode}
 use Rattle.tables.specs.Held.{buffers, Holds}
 use Rattle.tables.proofs.ReadBack.{holds-allocs, holds-parents, holds-protectors, holds-words, holds-codes, encode-of}
@@ -25,7 +26,7 @@ use Rattle.entries.specs.List.{entriesOf}
 use Rattle.entries.specs.declared.Entries.{Entries}
 use Rattle.entries.proofs.FromValid.{made-fits}
 use Rattle.frame.specs.Release.{HoldsTrees, HoldsNodes, AllMade, unlessRefused, ReleasedAll, afterEndCall, Checked}
-use Rattle.frame.proofs.Releases.{all-kept, same-record, same-parents, same-words, none-left, rest-at}
+use Rattle.frame.proofs.Releases.{all-kept, same-record, same-parents, same-words, rest-at}
 
 -- ---- 4
 abbrev pub isUnmade : Memory → Provenance → Bool
@@ -82,7 +83,7 @@ pub all-released : {m : Memory} {es : List Provenance} {answer : ℕ} {R C : Lis
 all-released {m} {es} k made = made-released (none-unmade m es made) k
 
 pub all-zero : (n : ℕ) (new old : List ℕ) → length old ≡ n → new ≡ replicate n 0 ++ drop n old → new ≡ replicate n 0
-all-zero n new old l e = e ∙ ap (λ (rest : List ℕ). replicate n 0 ++ rest) (none-left old n (omega arith)) ∙ append-nil (replicate n 0)
+all-zero n new old l e = e ∙ fill-all n 0 old (omega arith)
 
 -- ---- the five buffers
 module _ {m : Memory} {A P R W C : List ℕ} (h : Holds m (buffers A P R W C)) where

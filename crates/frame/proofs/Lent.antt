@@ -15,13 +15,12 @@ use Rattle.definition.specs.Memory.{Allocation, Liveness, Memory, Provenance, n
 use Rattle.definition.specs.Memory.Liveness.{Live, Dead}
 use Rattle.definition.specs.Frame.{releasedNodes, releaseRefusalIn, releaseRefusal, afterReleaseIn, afterRelease}
 use Rattle.definition.specs.Valid.{All, AllFrom, ValidNode, ValidAllocation, Valid}
-use Rattle.definition.proofs.Places.{allFrom-at}
+use Rattle.definition.proofs.Places.{allFrom-at, all-at}
 use Rattle.definition.proofs.Trees.{valid-tree}
 use Rattle.definition.proofs.ValidMemory.{Made}
 use Rattle.definition.proofs.ValidTrees.{released-valid, released-length}
 use Rattle.tables.specs.Encoding.{protectorNumber, parentsOf, protectorsOf, wordsOf, rowOf, codesOf, concatMap, held}
 use Rattle.tables.specs.Held.{buffers, Holds, Records, StartsAt}
-use Rattle.tables.proofs.Parts.{all-at}
 use Rattle.tables.proofs.Focus.{length-held, focus-same}
 use Rattle.tables.proofs.Sizes.{length-parents, length-protectors, length-rows, parents-fit, words-fit, codes-fit, codes-at}
 use Rattle.tables.proofs.Lookup.{size-at, nodes-at}

@@ -7,7 +7,6 @@ use native.Mathlib.Omega.{arith}
 use borrow.Author.Tests.{ne-eqb}
 use lib.Dec.{eqb}
 use lib.ListN.{length, getD, drop}
-use lib.Seq.{drop-cons}
 use Rattle.definition.specs.Notation.{if_then_else_, _or_, mutateAt}
 use Rattle.definition.specs.Tree.{Node, parents}
 use Rattle.definition.specs.Memory.{Allocation, Liveness, Memory, Provenance, kindNumber, size, wasMade}
@@ -15,28 +14,23 @@ use Rattle.definition.specs.Memory.Liveness.{Live, Dead}
 use Rattle.definition.specs.Frame.{unprotectNode, releaseVisit, releasedNodes, releaseRefusal, afterReleaseIn, afterRelease, releaseAllRefusal, afterReleaseAll}
 use Rattle.definition.specs.Valid.{Valid}
 use Rattle.definition.proofs.Alls.{if-holds, all-imp}
-use Rattle.definition.proofs.Booleans.{or-left, or-right}
+use Rattle.definition.proofs.Booleans.{or-left, or-right, or-none}
 use Rattle.definition.proofs.Lists.{mutate-map}
 use Rattle.definition.proofs.Visits.{visited-parents}
 use Rattle.definition.proofs.ValidTrees.{released-length}
 use Rattle.definition.proofs.ValidMemory.{release-kept}
-use Rattle.tables.specs.Encoding.{stateNumber, recordOf, parentsOf, wordsOf, concatMap, pad, held}
+use Rattle.definition.proofs.Parts.{drop-next}
+use Rattle.tables.specs.Encoding.{stateNumber, recordOf, parentsOf, wordsOf, held}
 use Rattle.tables.specs.Held.{Records}
+use Rattle.tables.proofs.Focus.{held-kept}
 use Rattle.frame.specs.Release.{HoldsTrees, HoldsNodes, AllMade, unlessRefused, Released, untilRefused, ReleasedUntil, ReleasedAll}
 
 -- ---- what no release changes
-concat-kept : (f : Allocation → List ℕ) (g : Allocation → Allocation) → ((a : Allocation) → f (g a) ≡ f a) → (n : ℕ) (m : Memory)
-    → concatMap f (mutateAt n g m) ≡ concatMap f m
-unfolding concatMap mutateAt
-concat-kept f g e n [] = refl
-concat-kept f g e zero (a ∷ m) = ap (λ (l : List ℕ). l ++ concatMap f m) (e a)
-concat-kept f g e (suc n) (a ∷ m) = ap (λ (l : List ℕ). f a ++ l) (concat-kept f g e n m)
-
 -- a field of the allocations that is the same after every release
 module _ (total : ℕ) (f : Allocation → List ℕ) (same : (n : ℕ) (a : Allocation) → f (afterReleaseIn n a) ≡ f a) where
   one-kept : (m : Memory) (e : Provenance) → held total f (afterRelease m e) ≡ held total f m
-  unfolding held afterRelease
-  one-kept m e = ap (pad total) (concat-kept f (afterReleaseIn (e .node)) (same (e .node)) (e .allocation) m)
+  unfolding afterRelease
+  one-kept m e = held-kept total f (afterReleaseIn (e .node)) (same (e .node)) (e .allocation) m
 
   pub all-kept : (es : List Provenance) (m : Memory) → held total f (afterReleaseAll m es) ≡ held total f m
   unfolding afterReleaseAll
@@ -79,15 +73,7 @@ records-until {m} h es = record { valid = valid-until es m (h .valid); allocs = 
 
 -- ---- a list from place i on
 pub rest-at : {A : Type 0} (l : List A) (i : ℕ) (x d : A) → i < length l → x ≡ getD l i d → drop i l ≡ x ∷ drop (i + 1) l
-rest-at l i x d h q =
-    let k : suc i ≡ i + 1 = omega arith in
-    drop-cons l i d h ∙ ap (λ y. y ∷ drop (suc i) l) (sym q) ∙ ap (λ (j : ℕ). x ∷ drop j l) k
-
-pub none-left : {A : Type 0} (l : List A) (i : ℕ) → length l ≤ i → drop i l ≡ []
-none-left [] zero h = refl
-none-left [] (suc i) h = refl
-none-left (x ∷ xs) zero h = absurd (omega arith)
-none-left (x ∷ xs) (suc i) h = none-left xs i (omega arith)
+rest-at l i x d h q = drop-next l i d h ∙ ap (λ y. y ∷ drop (i + 1) l) (sym q)
 
 -- ---- entry by entry
 -- the releases of `rest` are left, in the memory that the ones before them left
@@ -175,10 +161,6 @@ none-refused {m} {es} {answer} {R} {C} k z =
     record { refusal = k .refusal; nodes = subst (λ (n : Memory). HoldsNodes n R C) u (k .nodes) }
 
 -- ---- one entry at most: the first refusal is met in the memory as it was
-or-none : (r : ℕ) → (r or 0) ≡ r
-or-none zero = refl
-or-none (suc r) = refl
-
 one-at-most : (m : Memory) (es : List Provenance) → length es ≤ 1 → untilRefused m es ≡ unlessRefused (releaseAllRefusal m es) m (afterReleaseAll m es)
 unfolding untilRefused releaseAllRefusal afterReleaseAll
 one-at-most m [] l = refl

@@ -9,7 +9,7 @@ use native.Mathlib.Omega.{arith}
 use borrow.Author.Tests.{ne-eqb}
 use borrow.Rule.Slice.PartMut.{putMid, post-is}
 use lib.Dec.{eqb}
-use lib.ListN.{length, getD, take, drop, replicate, length-append, length-drop, take-append-drop}
+use lib.ListN.{length, getD, take, drop, replicate, length-append, length-drop, take-append-drop, drop-of-length-le}
 use lib.Seq.{length-take-le, take-at, drop-at, take-suc, take-add, take-length, drop-drop}
 use Rattle.definition.specs.Notation.{if_then_else_, mutateAt}
 use Rattle.definition.specs.Memory.{Allocation, Memory, Provenance, wasMade}
@@ -17,16 +17,17 @@ use Rattle.definition.specs.Frame.{releaseRefusal, afterReleaseIn, afterRelease
 use Rattle.definition.specs.Valid.{All}
 use Rattle.definition.proofs.Alls.{if-holds, all-imp, all-append}
 use Rattle.definition.proofs.ValidMemory.{was-made}
+use Rattle.definition.proofs.Lists.{take-mutate, drop-mutate}
+use Rattle.definition.proofs.Places.{all-at}
 use Rattle.tables.specs.Encoding.{protectorsOf, codesOf, concatMap, pad, held}
 use Rattle.tables.specs.Held.{Records, StartsAt, startOf}
 use Rattle.tables.specs.declared.Starts.{Starts}
 use Rattle.tables.proofs.Focus.{concat-append, length-held}
-use Rattle.tables.proofs.Parts.{all-at}
 use Rattle.tables.proofs.Sizes.{protectors-fit, codes-fit}
 use Rattle.entries.specs.Buffer.{entriesIn}
 use Rattle.frame.specs.Release.{HoldsTrees, HoldsNodes, AllMade, Spans, Touched, untilRefused, ReleasedUntil, ReleasedAll}
 use Rattle.frame.proofs.Lent.{records-held}
-use Rattle.frame.proofs.Releases.{records-until, none-left}
+use Rattle.frame.proofs.Releases.{records-until}
 
 -- ---- the least and the greatest number of a list
 -- of the first i; the greatest is one of them all
@@ -86,20 +87,6 @@ pub touched : {A : List ℕ} {es : List Provenance} {first end : ℕ} {from to :
 touched {A} {es} {first} {end} s starts ends = record { first = first; end = end; spans = s; starts = starts; ends = ends }
 
 -- ---- the allocations before and behind them
-take-mutate : {X : Type 0} (a n : ℕ) (g : X → X) (l : List X) → a ≤ n → take a (mutateAt n g l) ≡ take a l
-unfolding mutateAt
-take-mutate zero n g l h = refl
-take-mutate (suc a) n g [] h = refl
-take-mutate (suc a) zero g (x ∷ l) h = absurd (omega arith)
-take-mutate (suc a) (suc n) g (x ∷ l) h = ap (λ t. x ∷ t) (take-mutate a n g l (omega arith))
-
-drop-mutate : {X : Type 0} (b n : ℕ) (g : X → X) (l : List X) → n < b → drop b (mutateAt n g l) ≡ drop b l
-unfolding mutateAt
-drop-mutate zero n g l h = absurd (omega arith)
-drop-mutate (suc b) n g [] h = refl
-drop-mutate (suc b) zero g (x ∷ l) h = refl
-drop-mutate (suc b) (suc n) g (x ∷ l) h = drop-mutate b n g l (omega arith)
-
 -- what no release of entries in Q changes
 until-same : (view : Memory → Memory) (Q : Provenance → Type 0) → ((m : Memory) (e : Provenance) → Q e → view (afterRelease m e) ≡ view m)
     → (es : List Provenance) (m : Memory) → All Q es → view (untilRefused m es) ≡ view m
@@ -175,7 +162,7 @@ put-part start end dst saved h fits enough {new} e =
     let is : new ≡ take n saved =
     e ∙ ap (λ (k : ℕ). take k saved ++ drop (length (take k saved)) (take n (drop start dst))) z
     ∙ ap (λ (k : ℕ). take n saved ++ drop k (take n (drop start dst))) long
-    ∙ ap (λ (x : List ℕ). take n saved ++ x) (none-left (take n (drop start dst)) n short) ∙ append-nil (take n saved)
+    ∙ ap (λ (x : List ℕ). take n saved ++ x) (drop-of-length-le (take n (drop start dst)) short) ∙ append-nil (take n saved)
     in
     ap (putMid start n dst) is ∙ ap (λ (x : List ℕ). take start dst ++ (take n saved ++ x)) (post-is start end dst h)
 

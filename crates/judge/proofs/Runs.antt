@@ -20,12 +20,12 @@ use Rattle.definition.specs.Request.{request, followingLength}
 use Rattle.definition.specs.Run.{step, program, wordsOf}
 use Rattle.definition.specs.Output.{answerLine, answerLines, memoryLines, output, IsOutput}
 use Rattle.definition.proofs.Booleans.{and-left, and-right, or-neither}
+use Rattle.definition.proofs.Writes.{write-length, take-write}
 use Rattle.tables.specs.Encoding.{Buffers}
 use Rattle.tables.specs.Held.{Holds}
 use Rattle.perform.specs.Performed.{HoldsState}
 use Rattle.report.specs.Written.{Written}
 use Rattle.report.proofs.Lengths.{memory-length}
-use Rattle.report.proofs.Writes.{write-length}
 use Rattle.stream.specs.Stream.{requestSize, nextRequest, programFrom}
 use Rattle.stream.proofs.Cuts.{program-from, program-end, program-more, program-last}
 use Rattle.judge.specs.declared.Place.{Place}
@@ -85,15 +85,6 @@ size-most bytes = by (followingLength (request (wordsOf bytes)))
         ]
 
 -- ---- a text behind another
-take-write : (n : ℕ) (ys xs : List ℕ) → n + length ys ≤ length xs → take (n + length ys) (writeAt n ys xs) ≡ take n xs ++ ys
-unfolding writeAt
-take-write zero [] [] h = refl
-take-write zero [] (x ∷ xs) h = refl
-take-write zero (y ∷ ys) [] h = absurd (omega arith)
-take-write zero (y ∷ ys) (x ∷ xs) h = rw zero-add (ap (λ (l : List ℕ). y ∷ l) (rw zero-add at (take-write zero ys xs (omega arith))))
-take-write (suc n) ys [] h = absurd (omega arith)
-take-write (suc n) ys (x ∷ xs) h = rw suc-add (ap (λ (l : List ℕ). x ∷ l) (take-write n ys xs (omega arith)))
-
 pub text-behind : {before : List ℕ} {at : ℕ} (text : List ℕ) {after : List ℕ} {end : ℕ} → Written before at text after end → end ≤ length after → take end after ≡ take at before ++ text
 text-behind {before} {at} text {after} {end} w fits =
     let l : length after ≡ length before = ap length (w .contents) ∙ write-length at text before in

@@ -13,9 +13,11 @@ use lib.Seq.{drop-cons, take-suc, getD-take, length-take-le, getD-set-same, getD
 use borrow.Author.Tests.{le-leb, lt-leb}
 use Rattle.definition.specs.Notation.{if_then_else_, table, writeAt, any, inRange}
 use Rattle.definition.specs.Layout.{UnsafeCell, unsafeCell, cellsFit, isFreeze}
-use Rattle.definition.proofs.Lists.{table-length, write-length, write-none}
+use Rattle.definition.proofs.Lists.{table-length, table-at, table-map, is-table}
+use Rattle.definition.proofs.Writes.{write-none, write-length, write-set, before-write, within-write, behind-write}
+use Rattle.definition.proofs.Any.{any-more}
+use Rattle.definition.proofs.Ranges.{within-range, below-range, behind-range}
 use Rattle.layout.specs.Filled.{maskByte, maskBytes}
-use Rattle.layout.proofs.Lists.{in-range, below-range, behind-range, write-set, before-write, within-write, behind-write, table-at, table-map, is-table}
 
 -- ---- the cells from i on fit
 module _ (end size : ℕ) (ws : List ℕ) (i : ℕ) (h : i < length ws) where
@@ -45,17 +47,6 @@ module _ {A : Type 0} (v : A) (end : ℕ) where
   paint-end i xs h = let e : end - i ≡ 0 = omega arith in rw e (write-none i xs)
 
 -- ---- a mask of cells
-swap : (p q r : Bool) → (if p then true else (if q then true else r)) ≡ (if q then true else (if p then true else r))
-swap true true r = refl
-swap true false r = refl
-swap false true r = refl
-swap false false r = refl
-
-any-more : {A : Type 0} (t : A → Bool) (xs : List A) (x : A) → any t (xs ++ (x ∷ [])) ≡ (if t x then true else any t xs)
-unfolding any
-any-more t [] x = refl
-any-more t (y ∷ ys) x = rw (any-more t ys x) (swap (t y) (t x) (any t ys))
-
 module _ (cs : List UnsafeCell) (c : UnsafeCell) (b : ℕ) where
   cell-in : inRange (c .offset) (c .size) b ≡ true → isFreeze (cs ++ (c ∷ [])) b ≡ false
   unfolding isFreeze
@@ -120,7 +111,7 @@ one-cell n cs c =
         let k : b - c .offset < c .size = omega arith in
         let w : getD (writeAt (c .offset) zeros old) (c .offset + (b - c .offset)) 0 ≡ getD zeros (b - c .offset) 0 =
         within-write (c .offset) zeros old (b - c .offset) 0 (simp length-replicate k) (omega (arith, mask-length n (isFreeze cs))) in
-        rw (cell-in cs c b (in-range (c .offset) (c .size) b l m)) ((rw j at w) ∙ getD-replicate (c .size) (b - c .offset) 0 0 k)
+        rw (cell-in cs c b (within-range (c .offset) (c .size) b l m)) ((rw j at w) ∙ getD-replicate (c .size) (b - c .offset) 0 0 k)
 
 -- cell i, by its word
 pub next-cell : (n : ℕ) (ws : List ℕ) (i start len : ℕ) (mask : List ℕ) → i < length ws

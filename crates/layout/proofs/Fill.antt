@@ -10,11 +10,12 @@ use lib.ListN.{length, getD, take, drop, length-append, length-drop, take-append
 use borrow.Author.Tests.{le-leb, lt-leb, leb-true, leb-false}
 use Rattle.definition.specs.Notation.{if_then_else_, tableFrom, table, writeAt}
 use Rattle.definition.specs.Layout.{FreezeMask, UnsafeCell, isFreeze, boundedMask, sizedMask, tupleMask}
-use Rattle.definition.proofs.Lists.{table-length, write-none}
+use Rattle.definition.proofs.Lists.{table-length}
+use Rattle.definition.proofs.Writes.{write-none, write-parts}
 use Rattle.layout.specs.declared.Mask.{Mask}
 use Rattle.layout.specs.declared.Mask.the-variants.{Of, None, WrongLength}
 use Rattle.layout.specs.Filled.{maskByte, maskBytes, fitting, filled, Fills, elementsMask}
-use Rattle.layout.proofs.Lists.{write-parts, drop-behind}
+use Rattle.layout.proofs.Lists.{drop-behind}
 use Rattle.layout.proofs.Cells.{mask-length, elements}
 
 -- ---- a mask that fits, or not

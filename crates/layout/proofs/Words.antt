@@ -13,11 +13,11 @@ use Rattle.definition.specs.Notation.{if_then_else_}
 use Rattle.definition.specs.Layout.{FreezeMask, UnsafeCell, LayoutStrategy, Header, PointerMeta, unsafeCell, cellsFit, header, pointerMeta, sizedMask, tupleMask, layoutMask, headerMask, nestedMask, freezeMask}
 use Rattle.definition.specs.Layout.LayoutStrategy.{Sized, Slice, TraitObject, Tuple}
 use Rattle.definition.specs.Request.{badMetadata, nonzero}
-use Rattle.definition.proofs.Booleans.{and-left}
+use Rattle.definition.proofs.Booleans.{and-left, ltb-leb}
+use Rattle.definition.proofs.Parts.{part-rest}
 use Rattle.layout.specs.declared.Header as code
 use Rattle.layout.specs.declared.LayoutStrategy as layout
 use Rattle.layout.specs.Filled.{layoutOf, headerOf, isTuple, hasCells, lastMask, tailMask}
-use Rattle.layout.proofs.Lists.{part-rest}
 
 -- ---- the metadata word
 pub bad-none : (ws : List ℕ) → length ws ≡ 0 → badMetadata ws ≡ false
@@ -51,13 +51,6 @@ pub no-header : (tuples : ℕ) (meta : PointerMeta) (ws : List ℕ) → length w
 no-header tuples meta [] e = nested tuples meta []
 no-header tuples meta (w ∷ ws) e = absurd (omega arith)
 
-not-within : (a b : ℕ) → ltb a b ≡ not (leb b a)
-not-within a b = go (leb b a) refl
-  where
-    go : (x : Bool) → leb b a ≡ x → ltb a b ≡ not (leb b a)
-    go true e = rw e (le-ltb a b (leb-true b a e))
-    go false e = rw e (lt-ltb a b (leb-false b a e))
-
 choice : {A : Type 0} (p q : Bool) (x y : A) → (if not p || not q then x else y) ≡ (if p && q then y else x)
 choice true true x y = refl
 choice true false x y = refl
@@ -72,7 +65,7 @@ header-mask : (meta : PointerMeta) (tail : List ℕ → Option FreezeMask) (w : 
 header-mask meta tail w ws =
     let h = header w in
     let cells = map unsafeCell (take (h .cells) ws) in
-    rw (not-within (length ws) (h .cells))
+    rw (ltb-leb (length ws) (h .cells))
     (choice (leb (h .cells) (length ws)) (cellsFit 0 (h .size) cells) none (layoutMask meta tail h cells (drop (h .cells) ws)))
 
 module _ (tuples : ℕ) (meta : PointerMeta) where

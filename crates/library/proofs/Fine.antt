@@ -11,7 +11,7 @@ use Rattle.definition.specs.Memory.{kindNumber}
 use Rattle.definition.specs.Frame.{State}
 use Rattle.definition.specs.Request.{Request, anyName, strayName, nonzero, badByte, isMalformed}
 use Rattle.definition.specs.Request.Kind.{Allocate, Deallocate, Load, Store}
-use Rattle.definition.proofs.Booleans.{or-neither}
+use Rattle.definition.proofs.Booleans.{or-neither, or-skip}
 use Rattle.tables.specs.Decoding.{allocationKind}
 use Rattle.wellformed.proofs.Numbers.{kind-number}
 use Rattle.library.specs.Fields.{badExponent, badAllocation, badStore}
@@ -45,10 +45,6 @@ module _ (bytes : List ℕ) (exponent : ℕ) (e : badStore bytes exponent ≡ fa
   store-bytes = store-tests .1
 
 -- ---- these tests are the definition's of a request's words, where the fields that have no use are zero
-or-skip : (a b : Bool) → a ≡ false → a || b ≡ b
-or-skip true b e = absurd (false≢true (sym e))
-or-skip false b e = refl
-
 or-none : (a b : Bool) → b ≡ false → a || b ≡ a
 or-none true b e = refl
 or-none false b e = e

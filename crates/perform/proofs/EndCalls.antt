@@ -9,7 +9,7 @@ use Rattle.definition.specs.Memory as definition
 use Rattle.definition.specs.Frame.{State, frameAt, entries, endCallRefusal, endCall}
 use Rattle.definition.specs.Frame.Frame.{Closed}
 use Rattle.definition.specs.Valid.{ValidFrame}
-use Rattle.definition.proofs.Alls.{all-at}
+use Rattle.definition.proofs.Alls.{all-getD}
 use Rattle.answer.specs.Answer.{answerOf}
 use Rattle.answer.specs.declared.Answer.{Answer}
 use Rattle.tables.specs.Held.{Trees}
@@ -22,7 +22,7 @@ use Rattle.perform.proofs.States.{frames-held, all-held, trees-of}
 module _ {s : State} {A P R C F : List ℕ} (h : HoldsTrees s A P R C F) (f : ℕ) (words : List ℕ) (is : entriesIn words ≡ entriesAt (s .frames) f) where
   -- every entry of a frame was made
   pub words-made : AllMade (s .memory) (entriesIn words)
-  words-made = subst⁻¹ (AllMade (s .memory)) is (all-at (ValidFrame (s .memory)) (s .frames) f Closed (h .valid .frames) (record { room = omega arith; made = tt }) .made)
+  words-made = subst⁻¹ (AllMade (s .memory)) is (all-getD (ValidFrame (s .memory)) (s .frames) f Closed (h .valid .frames) (record { room = omega arith; made = tt }) .made)
 
   module _ {r : Answer} {R′ C′ : List ℕ} (k : Ended (s .memory) (entriesIn words) r R′ C′) where
     ended : Ended (s .memory) (entries (frameAt s f)) r R′ C′

@@ -21,7 +21,7 @@ use Rattle.definition.specs.Run.{retagWithMask, performRetag}
 use Rattle.definition.specs.Valid.{All, ValidFrame, ValidState}
 use Rattle.definition.proofs.ValidTrees.{settings-agree}
 use Rattle.definition.proofs.ValidFrames.{valid-after, retag-kept, closed-valid}
-use Rattle.definition.proofs.Alls.{all-at}
+use Rattle.definition.proofs.Alls.{all-getD, all-last}
 use Rattle.permission.specs.Codes.{protector, safePointer}
 use Rattle.answer.specs.Answer.{answerOf}
 use Rattle.answer.specs.declared.Answer.{Answer}
@@ -52,11 +52,6 @@ pub framed : (w : ReborrowSettings) (f : ℕ) (o : Option Provenance) (s : State
 framed w f none s = refl
 framed w f (some child) s = refl
 
--- P of the last element
-last-of : {A : Type 0} (P : A → Type 0) (l : List A) (x : A) → All P (l ++ (x ∷ [])) → P x
-last-of P [] x h = h .0
-last-of P (y ∷ l) x h = last-of P l x (h .1)
-
 -- ---- a retag that has a mask
 module _ {s : State} {A P R C F : List ℕ} (h : HoldsTrees s A P R C F) (settings : code.ReborrowSettings) (mask : FreezeMask) (f : ℕ) (inside : f < 32) (p : ThinPointer) where
   abbrev w : ReborrowSettings
@@ -85,7 +80,7 @@ module _ {s : State} {A P R C F : List ℕ} (h : HoldsTrees s A P R C F) (settin
       valid-frame : ValidFrame (retag w f p s .1 .memory) (Open (entriesAt (s .frames) f ++ (child ∷ [])))
       valid-frame =
           subst (λ (x : Frame). ValidFrame (retag w f p s .1 .memory) x) frame-after
-          (all-at (ValidFrame (retag w f p s .1 .memory)) (retag w f p s .1 .frames) f Closed (after-valid .frames) (closed-valid (retag w f p s .1 .memory)))
+          (all-getD (ValidFrame (retag w f p s .1 .memory)) (retag w f p s .1 .frames) f Closed (after-valid .frames) (closed-valid (retag w f p s .1 .memory)))
 
       has-room : length (entriesAt (s .frames) f) < 64
       has-room = omega (arith, valid-frame .room, length-append (entriesAt (s .frames) f) (child ∷ []))
@@ -93,7 +88,7 @@ module _ {s : State} {A P R C F : List ℕ} (h : HoldsTrees s A P R C F) (settin
       fits : FitsEntry child
       fits =
           made-fits (retag w f p s .1 .memory) child (after-valid .memory)
-          (last-of (λ e. wasMade (retag w f p s .1 .memory) e ≡ true) (entriesAt (s .frames) f) child (valid-frame .made))
+          (all-last (λ e. wasMade (retag w f p s .1 .memory) e ≡ true) (entriesAt (s .frames) f) child (valid-frame .made))
 
     pub can-enter : CanEnter (protector (settings .protected)) f (answerOf r [] .pointer) (s .frames) F
     can-enter = record { holds = frames-held h; room = has-room; small = fits }

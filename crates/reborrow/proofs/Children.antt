@@ -14,19 +14,19 @@ use Rattle.definition.specs.Memory.{ThinPointer, Allocation, changed, size, Mem
 use Rattle.definition.specs.Frame.{State}
 use Rattle.definition.specs.Retag.{ReborrowSettings, childNode, withChild, initRefusal, afterInit, ofNode, reborrowRefusal, afterReborrowIn}
 use Rattle.definition.specs.Valid.{Valid}
-use Rattle.definition.proofs.Lists.{write-none, mutate-length}
+use Rattle.definition.proofs.Lists.{mutate-length, mutate-twice}
 use Rattle.definition.proofs.Places.{mutate-here, mutate-same}
 use Rattle.definition.proofs.Trees.{valid-tree}
 use Rattle.definition.proofs.Retags.{readsRefusal, readsVisit, reads-at-once, child-readable, retag-refusal}
 use Rattle.definition.proofs.ValidTrees.{ValidNodes, withChild-valid, settings-agree}
 use Rattle.definition.proofs.ValidMemory.{Succeeds, changed-valid, mutated-kept, room}
+use Rattle.definition.proofs.Writes.{write-none}
 use Rattle.permission.specs.Codes.{protector, safePointer}
 use Rattle.pointer.specs.Pointer.{thinPointerOf}
 use Rattle.pointer.specs.declared.ThinPointer as pointer
 use Rattle.pointer.specs.declared.Provenance.the-variants.{Of}
 use Rattle.tables.specs.Encoding.{protectorNumber, codesOf, held}
 use Rattle.tables.specs.Held.{withNode, Trees, NodeFits}
-use Rattle.tables.proofs.Parts.{mutate-twice}
 use Rattle.reborrow.specs.declared.ReborrowSettings as code
 use Rattle.reborrow.specs.Settings.{settingsOf, startCodes, placeIn, childAt}
 use Rattle.reborrow.specs.declared.TreePart.{TreePart}

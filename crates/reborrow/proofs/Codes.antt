@@ -12,19 +12,16 @@ use Rattle.definition.specs.Permission.{Permission, code, permission}
 use Rattle.definition.specs.Layout.{FreezeMask}
 use Rattle.definition.specs.Retag as definition
 use Rattle.definition.specs.Retag.{startPerm}
-use Rattle.definition.proofs.Lists.{loop-get, loop-set, write-length}
-use Rattle.definition.proofs.Permissions.{permission-code}
+use Rattle.definition.proofs.Lists.{loop-get, loop-set}
+use Rattle.definition.proofs.Writes.{write-length, map-write}
+use Rattle.definition.proofs.Parts.{map-replicate}
 use Rattle.permission.specs.declared.Protected.{Protected}
 use Rattle.permission.specs.declared.SafePointer.{SafePointer}
 use Rattle.permission.specs.Codes.{protector, safePointer}
 use Rattle.tables.specs.Encoding.{rowOf}
-use Rattle.tables.proofs.Parts.{map-replicate}
+use Rattle.tables.proofs.ReadBack.{row-back}
 use Rattle.reborrow.specs.declared.ReborrowSettings.{ReborrowSettings}
 use Rattle.reborrow.specs.Settings.{maskOf, settingsOf, chosenCode, codesFor, startCodes, childAt}
-
-permissions-back : (l : List Permission) → map permission (map code l) ≡ l
-permissions-back [] = refl
-permissions-back (p ∷ l) = ap₂ _∷_ (permission-code p) (permissions-back l)
 
 module _ (settings : ReborrowSettings) (mask : FreezeMask) {codes : List ℕ} (e : codes ≡ startCodes settings mask) where
   pub inside-length : length codes ≡ length (settingsOf settings mask .inside)
@@ -33,7 +30,7 @@ module _ (settings : ReborrowSettings) (mask : FreezeMask) {codes : List ℕ} (e
 
   pub inside-permissions : map permission codes ≡ settingsOf settings mask .inside
   unfolding codesFor
-  inside-permissions = ap (map permission) e ∙ permissions-back (settingsOf settings mask .inside)
+  inside-permissions = ap (map permission) e ∙ row-back (settingsOf settings mask .inside)
 
 -- ---- the loop over a mask
 module _ (freeze cell : ℕ) (bytes : List ℕ) where
@@ -72,13 +69,6 @@ codes-chosen pointer protected {freeze} {cell} f e (b ∷ bytes) = ap₂ _∷_ (
     go false = f
 
 -- ---- a child's row
-map-write : {X : Type 0} (f : X → ℕ) (n : ℕ) (ys xs : List X) → map f (writeAt n ys xs) ≡ writeAt n (map f ys) (map f xs)
-unfolding writeAt
-map-write f n ys [] = refl
-map-write f zero [] (x ∷ xs) = refl
-map-write f zero (y ∷ ys) (x ∷ xs) = ap (λ (l : List ℕ). f y ∷ l) (map-write f zero ys xs)
-map-write f (suc n) ys (x ∷ xs) = ap (λ (l : List ℕ). f x ∷ l) (map-write f n ys xs)
-
 -- it is the codes of the child's permissions
 pub row-of-child : (settings : ReborrowSettings) (mask : FreezeMask) (node from bytes : ℕ) {codes : List ℕ} {outside : ℕ} → codes ≡ startCodes settings mask
     → outside ≡ code (settingsOf settings mask .outside) → writeAt from codes (replicate bytes outside) ≡ rowOf (childAt (settingsOf settings mask) node from bytes)

@@ -11,15 +11,14 @@ use Rattle.definition.specs.Permission.{code}
 use Rattle.definition.specs.Tree.{Node, parents, Visit, nodeAfter, visited}
 use Rattle.definition.specs.Memory.{Allocation, Memory, noAllocation, allocationAt, size, nodeCount, kindNumber, isLive}
 use Rattle.definition.specs.Valid.{All, AllFrom, ValidNode, ValidAllocation, Valid}
-use Rattle.definition.proofs.Lists.{each-map}
-use Rattle.definition.proofs.Places.{mutate-here}
+use Rattle.definition.proofs.Lists.{each-map, take-mutate}
+use Rattle.definition.proofs.Places.{mutate-here, all-at}
 use Rattle.definition.proofs.Trees.{valid-tree}
 use Rattle.definition.proofs.Visits.{visited-length, visited-parents}
 use Rattle.definition.proofs.ValidTrees.{visited-valid}
 use Rattle.tables.specs.Encoding.{protectorNumber, stateNumber, recordOf, parentsOf, protectorsOf, wordsOf, rowOf, codesOf, concatMap, held}
 use Rattle.tables.specs.declared.Allocation as record-read
 use Rattle.tables.specs.Held.{startOf, Records, StartsAt, Used, withNode, Trees, PlaceFor}
-use Rattle.tables.proofs.Parts.{all-at, take-mutate}
 use Rattle.tables.proofs.Focus.{concat-append, focus-used, focus-room, focus-part, focus-same, focus-mutate}
 use Rattle.tables.proofs.Sizes.{length-parents, length-rows, length-codes, parents-used, protectors-used, parents-fit, words-fit, codes-fit, codes-at}
 use Rattle.tables.proofs.Lookup.{nodes-at, start-more}
@@ -167,7 +166,7 @@ module _ {m : Memory} {n : ℕ} (made : n < length m) {r : TreePart} (t : PartOf
   -- and the tree with it
   module _ (x : Node) (wide : length (x .permissions) ≡ size (allocationAt m n)) where
     start-same : (f : Allocation → List ℕ) → startOf f (mutateAt n (withNode x) m) n ≡ startOf f m n
-    start-same f = ap (λ (l : Memory). length (concatMap f l)) (take-mutate n (withNode x) m)
+    start-same f = ap (λ (l : Memory). length (concatMap f l)) (take-mutate n n (withNode x) m (omega arith))
 
     there : allocationAt (mutateAt n (withNode x) m) n ≡ withNode x (allocationAt m n)
     there = mutate-here (withNode x) noAllocation m n made

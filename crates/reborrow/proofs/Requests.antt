@@ -18,6 +18,7 @@ use Rattle.definition.specs.Retag.{ReborrowSettings, reborrowRefusal, afterRebo
 use Rattle.definition.proofs.Alls.{if-holds, outcome-holds}
 use Rattle.definition.proofs.ValidTrees.{settings-agree}
 use Rattle.definition.proofs.ValidFrames.{valid-retag}
+use Rattle.definition.proofs.Writes.{write-back}
 use Rattle.permission.specs.Codes.{protector, safePointer}
 use Rattle.pointer.specs.Pointer.{provenanceOf, thinPointerOf}
 use Rattle.pointer.specs.declared.ThinPointer as pointer
@@ -28,21 +29,10 @@ use Rattle.answer.specs.declared.Answer.the-variants.{Refused, Pointer}
 use Rattle.tables.specs.Encoding.{wordsOf, concatMap, pad, held}
 use Rattle.tables.specs.Held.{buffers, Holds, Trees}
 use Rattle.tables.proofs.ReadBack.{encode-of, holds-words}
+use Rattle.tables.proofs.Focus.{held-kept}
 use Rattle.reborrow.specs.declared.ReborrowSettings as settingsCode
 use Rattle.reborrow.specs.Settings.{maskOf, settingsOf}
 use Rattle.reborrow.specs.Retag.{Added, Retagged, framesWith}
-
--- a part that no change touches
-concat-kept : (f : Allocation → List ℕ) (g : Allocation → Allocation) → ((a : Allocation) → f (g a) ≡ f a) → (n : ℕ) (m : Memory) → concatMap f (mutateAt n g m) ≡ concatMap f m
-unfolding concatMap mutateAt
-concat-kept f g e n [] = refl
-concat-kept f g e zero (a ∷ m) = ap (λ (l : List ℕ). l ++ concatMap f m) (e a)
-concat-kept f g e (suc n) (a ∷ m) = ap (λ (l : List ℕ). f a ++ l) (concat-kept f g e n m)
-
-held-kept : (total : ℕ) (f : Allocation → List ℕ) (g : Allocation → Allocation) → ((a : Allocation) → f (g a) ≡ f a) → (n : ℕ) (m : Memory)
-    → held total f (mutateAt n g m) ≡ held total f m
-unfolding held
-held-kept total f g e n m = ap (pad total) (concat-kept f g e n m)
 
 module _ (w : ReborrowSettings) (frame : ℕ) (p : ThinPointer) (s : State) where
   -- ---- the cases
@@ -158,15 +148,6 @@ without-node-same p s = by (neverMade when namesNeverMade (s .memory) (p .proven
     by zero = refl
     by (suc r) = refl
 
--- what is written at the front stands there
-written : (ys xs : List ℕ) (n : ℕ) → length ys ≡ n → length ys ≤ length xs → take n (writeAt 0 ys xs) ≡ ys
-unfolding writeAt
-written [] xs zero e l = refl
-written [] xs (suc n) e l = absurd (omega arith)
-written (y ∷ ys) [] n e l = absurd (omega arith)
-written (y ∷ ys) (x ∷ xs) zero e l = absurd (omega arith)
-written (y ∷ ys) (x ∷ xs) (suc n) e l = ap (λ (t : List ℕ). y ∷ t) (written ys xs n (omega arith) (omega arith))
-
 -- ---- a mask in a buffer, by a number for each byte: what is read there is the mask
 module _ (byte : Bool → ℕ) (cell : byte false ≡ 0) (freeze : byte true ≡ 0 → ⊥) where
   pub mask-back : (mask : FreezeMask) → maskOf (map byte mask) ≡ mask
@@ -176,4 +157,5 @@ module _ (byte : Bool → ℕ) (cell : byte false ≡ 0) (freeze : byte true ≡
 
   pub mask-in : (mask : FreezeMask) (buffer : List ℕ) → length mask ≤ length buffer → maskOf (take (length mask) (writeAt 0 (map byte mask) buffer)) ≡ mask
   mask-in mask buffer l =
-      ap maskOf (written (map byte mask) buffer (length mask) (length-map mask byte) (omega (arith, length-map mask byte))) ∙ mask-back mask
+      let n = length-map mask byte in
+      ap maskOf (ap (λ (k : ℕ). take k (writeAt 0 (map byte mask) buffer)) (sym n) ∙ write-back (map byte mask) buffer (omega (arith, n))) ∙ mask-back mask

@@ -11,9 +11,9 @@ use Rattle.definition.specs.Memory.{Memory, noAllocation, allocationAt, isLive,
 use Rattle.definition.specs.Permission.{code}
 use Rattle.definition.specs.Tree.{Node}
 use Rattle.definition.specs.Valid.{All, ValidAllocation}
+use Rattle.definition.proofs.Places.{all-at}
 use Rattle.tables.proofs.Focus.{focus-part, focus-room}
 use Rattle.tables.proofs.Lookup.{state-at, kind-at, exponent-at, address-at, size-at, start-more}
-use Rattle.tables.proofs.Parts.{all-at}
 use Rattle.tables.proofs.ReadBack.{liveness-back, kind-back, nodes-back, holds-parents, holds-protectors, holds-words, holds-codes, holds-records}
 use Rattle.tables.proofs.Sizes.{length-parents, length-protectors, length-codes}
 use Rattle.tables.specs.Decoding.{liveness, allocationKind, nodesIn}

@@ -7,9 +7,10 @@ use lib.ListN.{length, drop, getD, length-append}
 use lib.Seq.{drop-length}
 use Rattle.definition.specs.Memory.{Provenance}
 use Rattle.definition.specs.Output.{Text, ascii, decimal, word, words, pointed, ended}
+use Rattle.definition.proofs.Parts.{drop-next}
 use Rattle.report.specs.Written.{Room, Written}
 use Rattle.report.proofs.Numbers.{decimal-length, hex-length}
-use Rattle.report.proofs.Writes.{drop-next, both-written, room-front, room-behind}
+use Rattle.report.proofs.Writes.{both-written, room-front, room-behind}
 
 -- ---- a field, and those behind it
 module _ {out : List ℕ} {at : ℕ} {f : Text} (fs : List Text) where
@@ -49,7 +50,7 @@ words-some (w ∷ ws) e = refl
 pub words-next : (ws : List ℕ) (i : ℕ) → i < length ws
     → ended (map word (drop i ws)) ≡ (ascii " " ++ word (getD ws i 0)) ++ ended (map word (drop (i + 1) ws))
 unfolding ended
-words-next ws i h = ap (λ (l : List ℕ). ended (map word l)) (drop-next ws i h)
+words-next ws i h = ap (λ (l : List ℕ). ended (map word l)) (drop-next ws i 0 h)
 
 pub words-end : (ws : List ℕ) (i : ℕ) → i ≡ length ws → ended (map word (drop i ws)) ≡ ascii "\n"
 unfolding ended

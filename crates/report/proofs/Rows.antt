@@ -2,18 +2,18 @@
 use Prim.Native.Nat.{ℕ, suc, _+_, _-_, _*_, _<_}
 use mathlib.Core.List.{List, [], _∷_, _++_, map}
 use mathlib.Core.Path.{_≡_, refl, ap, ap₂, _∙_}
-use native.Mathlib.Nat.{add-zero, suc-mul}
+use native.Mathlib.Nat.{suc-mul}
 use native.Mathlib.Numerals.{add-one}
 use native.Mathlib.Omega.{arith}
 use lib.ListN.{length, take, drop, getD}
-use lib.Seq.{drop-drop, getD-drop, drop-length}
+use lib.Seq.{drop-drop, drop-length}
 use Rattle.definition.proofs.Permissions.{code-permission}
 use Rattle.definition.specs.Output.{Text, ascii, digit, codes, nodeLine, nodeLines}
 use Rattle.definition.specs.Permission.{permission, code}
 use Rattle.definition.specs.Valid.{All}
+use Rattle.definition.proofs.Parts.{drop-next, getD-first}
 use Rattle.tables.specs.Decoding.{nodesIn}
 use Rattle.report.specs.Memory.{nodeOf}
-use Rattle.report.proofs.Writes.{drop-next}
 
 -- ---- a row
 pub codes-none : (row : List ℕ) → length row ≡ 0 → ascii " -" ≡ ascii " " ++ codes (map permission row)
@@ -31,7 +31,7 @@ codes-some [] h e = absurd (e refl)
 codes-some (c ∷ row) h e = digits (c ∷ row) h
 
 pub codes-next : (row : List ℕ) (i : ℕ) → i < length row → map digit (drop i row) ≡ (digit (getD row i 0) ∷ []) ++ map digit (drop (i + 1) row)
-codes-next row i h = ap (map digit) (drop-next row i h)
+codes-next row i h = ap (map digit) (drop-next row i 0 h)
 
 pub codes-end : (row : List ℕ) (i : ℕ) → i ≡ length row → map digit (drop i row) ≡ []
 codes-end row i e = ap (λ (k : ℕ). map digit (drop k row)) e ∙ ap (map digit) (drop-length row)
@@ -41,15 +41,12 @@ abbrev pub linesFrom : ℕ → ℕ → List ℕ → List ℕ → List ℕ → �
 linesFrom a size P R C k start = nodeLines a k (nodesIn (length P - k) size (drop k P) (drop k R) (drop start C))
 
 module _ (a size : ℕ) (P R C : List ℕ) where
-  first-at : (xs : List ℕ) (k : ℕ) → getD (drop k xs) 0 0 ≡ getD xs k 0
-  first-at xs k = getD-drop k xs 0 0 ∙ ap (λ (i : ℕ). getD xs i 0) (add-zero k)
-
   pub nodes-next : (k start : ℕ) → k < length P
       → linesFrom a size P R C k start ≡ nodeLine a k (nodeOf (getD P k 0) (getD R k 0) (take size (drop start C))) ++ linesFrom a size P R C (k + 1) (start + size)
   unfolding nodesIn nodeLines
   nodes-next k start h =
       let e : length P - k ≡ suc (length P - (k + 1)) = omega arith in
-      rw (e, first-at P k, first-at R k, drop-drop 1 k P, drop-drop 1 k R, drop-drop size start C, ← add-one k)
+      rw (e, getD-first P k 0, getD-first R k 0, drop-drop 1 k P, drop-drop 1 k R, drop-drop size start C, ← add-one k)
 
   pub nodes-all : linesFrom a size P R C 0 0 ≡ nodeLines a 0 (nodesIn (length P) size P R C)
   nodes-all = let z : length P - 0 ≡ length P = omega arith in rw z

@@ -1,48 +1,13 @@
 -- Texts written one behind the other are one text: `Left` says what is left to write of a text, and each text written takes its part off the front.
-use Prim.Native.Nat.{ℕ, zero, suc, _+_, _<_}
+use Prim.Native.Nat.{ℕ, _+_}
 use mathlib.Core.List.{List, [], _∷_, _++_}
 use mathlib.Core.Path.{_≡_, refl, sym, ap, subst, _∙_}
-use native.Mathlib.Nat.{zero-add, suc-add, add-zero}
-use native.Mathlib.Numerals.{add-one}
+use native.Mathlib.Nat.{add-zero}
 use native.Mathlib.Omega.{arith}
-use lib.ListN.{length, drop, getD, set, length-append}
-use lib.Seq.{drop-cons}
+use lib.ListN.{length, set, length-append}
 use Rattle.definition.specs.Notation.{writeAt}
+use Rattle.definition.proofs.Writes.{write-none, write-length, write-one, write-more, write-front}
 use Rattle.report.specs.Written.{Room, Written, WrittenInside}
-
--- ---- `writeAt`
-write-none : (n : ℕ) (xs : List ℕ) → writeAt n [] xs ≡ xs
-unfolding writeAt
-write-none n [] = refl
-write-none zero (x ∷ xs) = refl
-write-none (suc n) (x ∷ xs) = ap (λ (t : List ℕ). x ∷ t) (write-none n xs)
-
-pub write-length : (n : ℕ) (ys xs : List ℕ) → length (writeAt n ys xs) ≡ length xs
-unfolding writeAt
-write-length n ys [] = refl
-write-length zero [] (x ∷ xs) = refl
-write-length zero (y ∷ ys) (x ∷ xs) = ap suc (write-length zero ys xs)
-write-length (suc n) ys (x ∷ xs) = ap suc (write-length n ys xs)
-
-write-one : (n x : ℕ) (xs : List ℕ) → set xs n x ≡ writeAt n (x ∷ []) xs
-unfolding writeAt
-write-one n x [] = refl
-write-one zero x (y ∷ xs) = ap (λ (t : List ℕ). x ∷ t) (sym (write-none zero xs))
-write-one (suc n) x (y ∷ xs) = ap (λ (t : List ℕ). y ∷ t) (write-one n x xs)
-
-write-more : (n : ℕ) (ys zs xs : List ℕ) → writeAt (n + length ys) zs (writeAt n ys xs) ≡ writeAt n (ys ++ zs) xs
-unfolding writeAt
-write-more n ys zs [] = refl
-write-more zero [] zs (x ∷ xs) = rw (zero-add 0)
-write-more zero (y ∷ ys) zs (x ∷ xs) = rw (zero-add (suc (length ys))) (ap (λ (t : List ℕ). y ∷ t) (rw zero-add at (write-more zero ys zs xs)))
-write-more (suc n) ys zs (x ∷ xs) = rw (suc-add n (length ys)) (ap (λ (t : List ℕ). x ∷ t) (write-more n ys zs xs))
-
--- the text behind a place, and then what goes to that place
-write-front : (n x : ℕ) (ys xs : List ℕ) → set (writeAt (n + 1) ys xs) n x ≡ writeAt n (x ∷ ys) xs
-unfolding writeAt
-write-front n x ys [] = refl
-write-front zero x ys (z ∷ xs) = refl
-write-front (suc n) x ys (z ∷ xs) = rw (suc-add n 1) (ap (λ (t : List ℕ). z ∷ t) (write-front n x ys xs))
 
 pub byte-written : (out : List ℕ) (at x : ℕ) → Written out at (x ∷ []) (set out at x) (at + 1)
 byte-written out at x = record { contents = write-one at x out; place = refl }
@@ -93,10 +58,6 @@ inside-as {out} {at} {text} {text′} {after} {end} e w = subst (λ (t : List �
 pub both-inside : {out : List ℕ} {at : ℕ} (s t : List ℕ) {mid : List ℕ} {p : ℕ} {after : List ℕ} {end : ℕ}
     → Written out at s mid p → WrittenInside mid p t after end → WrittenInside out at (s ++ t) after end
 both-inside s t v w = record { written = both-written s t v (w .written); fits = w .fits }
-
--- an element and those behind it
-pub drop-next : (xs : List ℕ) (i : ℕ) → i < length xs → drop i xs ≡ (getD xs i 0 ∷ []) ++ drop (i + 1) xs
-drop-next xs i h = rw (add-one, drop-cons xs i 0)
 
 -- ---- of `whole`, which goes into `before` at `at`, `rest` is left; it goes into `out` at p
 pub record Left (before : List ℕ) (at : ℕ) (whole out : List ℕ) (p : ℕ) (rest : List ℕ) : Type 0 where

@@ -18,7 +18,7 @@ use Rattle.definition.specs.Request.{Request, settingsOf, safePointer, protecto
 use Rattle.definition.specs.Valid.{Valid}
 use Rattle.definition.proofs.Booleans.{or-neither, or-left, or-right, when-none}
 use Rattle.definition.proofs.Alls.{if-holds, outcome-holds}
-use Rattle.definition.proofs.Lists.{write-length}
+use Rattle.definition.proofs.Writes.{write-length}
 use Rattle.definition.proofs.ValidTrees.{settings-agree}
 use Rattle.definition.proofs.ValidFrames.{valid-retag}
 use Rattle.tables.specs.Encoding.{encode}

@@ -15,7 +15,7 @@ use Rattle.definition.specs.Memory as definition
 use Rattle.definition.specs.Frame.{State, Frame, entries, frameAt}
 use Rattle.definition.specs.Frame.Frame.{Closed, Open}
 use Rattle.definition.proofs.Booleans.{and-left, and-right}
-use Rattle.definition.proofs.Lists.{write-none}
+use Rattle.definition.proofs.Writes.{write-none}
 use Rattle.pointer.specs.Pointer.{provenanceOf}
 use Rattle.pointer.specs.declared.Provenance.{Provenance}
 use Rattle.pointer.specs.declared.Provenance.the-variants.{None, Of}

@@ -1,6 +1,6 @@
 -- The focus: where one allocation's part of a buffer stands, and what a change of it is to the memory.
 -- One law serves every buffer: f gives an allocation's part, `total` is the buffer's length.
-use Prim.Native.Nat.{ℕ, suc, _+_, _-_, _≤_, _<_}
+use Prim.Native.Nat.{ℕ, zero, suc, _+_, _-_, _≤_, _<_}
 use mathlib.Core.Path.{_≡_, refl, sym, ap, _∙_}
 use mathlib.Core.List.{List, [], _∷_, _++_, append-assoc, append-nil}
 use native.Mathlib.Omega.{arith}
@@ -9,9 +9,11 @@ use lib.ListN.{length, take, drop, getD, set, replicate, length-append, length-r
 use lib.Seq.{take-append-seam, drop-append-seam, take-length, drop-append-add, split-at, set-append-left, getD-append-add, paste, length-paste}
 use Rattle.definition.specs.Notation.{mutateAt}
 use Rattle.definition.specs.Memory.{Allocation, Memory, noAllocation, allocationAt}
+use Rattle.definition.proofs.Lists.{mutate-split}
+use Rattle.definition.proofs.Parts.{set-after, drop-zeros}
 use Rattle.tables.specs.Encoding.{concatMap, pad, held}
 use Rattle.tables.specs.Held.{startOf, inserted}
-use Rattle.tables.proofs.Parts.{mutate-split, drop-zeros, set-after, paste-after, paste-before, put-between, insert-between}
+use Rattle.tables.proofs.Parts.{paste-after, paste-before, put-between, insert-between}
 
 pub concat-append : {X : Type 0} (f : X → List ℕ) (l r : List X) → concatMap f (l ++ r) ≡ concatMap f l ++ concatMap f r
 unfolding concatMap
@@ -21,6 +23,18 @@ concat-append f (x ∷ l) r = ap (λ (t : List ℕ). f x ++ t) (concat-append f 
 pub length-held : (total : ℕ) (f : Allocation → List ℕ) (m : Memory) → length (concatMap f m) ≤ total → length (held total f m) ≡ total
 unfolding held pad
 length-held total f m h = simp (length-append, length-replicate) (omega arith)
+
+-- a part that a change of one allocation leaves
+concat-kept : (f : Allocation → List ℕ) (g : Allocation → Allocation) → ((a : Allocation) → f (g a) ≡ f a) → (n : ℕ) (m : Memory) → concatMap f (mutateAt n g m) ≡ concatMap f m
+unfolding concatMap mutateAt
+concat-kept f g e n [] = refl
+concat-kept f g e zero (a ∷ m) = ap (λ (l : List ℕ). l ++ concatMap f m) (e a)
+concat-kept f g e (suc n) (a ∷ m) = ap (λ (l : List ℕ). f a ++ l) (concat-kept f g e n m)
+
+pub held-kept : (total : ℕ) (f : Allocation → List ℕ) (g : Allocation → Allocation) → ((a : Allocation) → f (g a) ≡ f a) → (n : ℕ) (m : Memory)
+    → held total f (mutateAt n g m) ≡ held total f m
+unfolding held
+held-kept total f g e n m = ap (pad total) (concat-kept f g e n m)
 
 module _ (total : ℕ) (f : Allocation → List ℕ) (m : Memory) (n : ℕ) (made : n < length m) where
   -- what stands behind allocation n's part

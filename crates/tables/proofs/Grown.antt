@@ -2,7 +2,7 @@
 use Prim.Native.Nat.{ℕ, _+_, _-_, _*_, _≤_, _<_}
 use mathlib.Core.Path.{_≡_, refl, sym, ap, _∙_}
 use mathlib.Core.Bool.{false}
-use mathlib.Core.List.{List, [], _∷_, _++_, append-nil}
+use mathlib.Core.List.{List, [], _∷_, _++_, append-nil, map-append}
 use native.Mathlib.Omega.{arith}
 use borrow.Rule.Slice.PartMut.{putMid, midOf}
 use lib.ListN.{length, drop, getD, set, replicate, length-append, length-replicate}
@@ -15,10 +15,11 @@ use Rattle.definition.specs.Tree.{Node}
 use Rattle.definition.specs.Memory.{AllocationKind, Memory, allocationAt, kindNumber, exceedsBounds, ofAllocation, newAllocation}
 use Rattle.definition.specs.Retag.{ofNode}
 use Rattle.definition.proofs.ValidMemory.{Room, room}
+use Rattle.definition.proofs.Parts.{map-replicate}
 use Rattle.tables.specs.Encoding.{protectorNumber, recordOf, parentsOf, protectorsOf, wordsOf, rowOf, codesOf, concatMap, held, encode}
 use Rattle.tables.specs.Held.{buffers, Holds, startOf, Records, StartsAt, AllocationFits, Appended, inserted, withNode, Trees, NodeFits, PlaceFor, Used, ZerosFrom}
 use Rattle.tables.proofs.Inserts.{held-zeros}
-use Rattle.tables.proofs.Parts.{map-snoc, map-replicate, put-paste}
+use Rattle.tables.proofs.Parts.{put-paste}
 use Rattle.tables.proofs.Focus.{concat-append, length-held, focus-used, focus-same, focus-set, focus-insert, focus-append, focus-append-zeros}
 use Rattle.tables.proofs.Sizes.{length-parents, records-used, words-used, parents-used, protectors-used, codes-used}
 use Rattle.tables.proofs.Lookup.{record-start, start-more, start-all, allocs-length, nodes-at}
@@ -178,14 +179,14 @@ module _ {m : Memory} {a : ℕ} {x : Node} {A P R C : List ℕ} {pa pr : ℕ} (r
     unfolding parentsOf
     new-parents =
         rw (ok .trees .parents, parents-place, ok .is-parent)
-        (focus-insert 1024 parentsOf m a (ok .made) (withNode x) (x .parent ∷ []) parents-room (map-snoc (λ (t : Node). t .parent) (allocationAt m a .nodes) x))
+        (focus-insert 1024 parentsOf m a (ok .made) (withNode x) (x .parent ∷ []) parents-room (map-append (λ (t : Node). t .parent) (allocationAt m a .nodes) (x ∷ [])))
 
     new-protectors : inserted R n (pr ∷ []) ≡ held 1024 protectorsOf (mutateAt a (withNode x) m)
     unfolding protectorsOf
     new-protectors =
         rw (ok .trees .protectors, protectors-place, ok .is-protector)
         (focus-insert 1024 protectorsOf m a (ok .made) (withNode x) (protectorNumber (x .protected) ∷ []) protectors-room
-        (map-snoc (λ (t : Node). protectorNumber (t .protected)) (allocationAt m a .nodes) x))
+        (map-append (λ (t : Node). protectorNumber (t .protected)) (allocationAt m a .nodes) (x ∷ [])))
 
     new-codes : inserted C c row ≡ held 32768 codesOf (mutateAt a (withNode x) m)
     unfolding codesOf concatMap

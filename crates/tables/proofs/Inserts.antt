@@ -1,23 +1,14 @@
 -- Where zeros stand behind the used part, putting in a row moves only what is used.
-use Prim.Native.Nat.{ℕ, zero, suc, _+_, _-_, _≤_}
+use Prim.Native.Nat.{ℕ, _+_, _-_, _≤_}
 use mathlib.Core.Path.{_≡_, refl, sym, ap, ap₂, subst, _∙_}
-use mathlib.Core.List.{List, [], _∷_, _++_, append-assoc}
+use mathlib.Core.List.{List, [], _++_, append-assoc}
 use native.Mathlib.Omega.{arith}
 use lib.ListN.{length, take, drop, replicate, length-append, length-drop, length-take, length-replicate, take-append-drop}
 use lib.Seq.{take-at, drop-at, take-append-add, drop-append-add, drop-drop}
 use Rattle.definition.specs.Memory.{Allocation, Memory}
+use Rattle.definition.proofs.Parts.{take-zeros, drop-zeros}
 use Rattle.tables.specs.Encoding.{concatMap, pad, held}
 use Rattle.tables.specs.Held.{inserted, ZerosFrom}
-
-drop-zeros : (w n : ℕ) → drop {A = ℕ} w (replicate n 0) ≡ replicate (n - w) 0
-drop-zeros zero n = let e : n ≡ n - 0 = omega arith in ap (λ (k : ℕ). replicate k 0) e
-drop-zeros (suc w) zero = let e : 0 ≡ 0 - suc w = omega arith in ap (λ (k : ℕ). replicate k 0) e
-drop-zeros (suc w) (suc n) = let e : n - w ≡ suc n - suc w = omega arith in drop-zeros w n ∙ ap (λ (k : ℕ). replicate k 0) e
-
-take-zeros : (w n : ℕ) → w ≤ n → take {A = ℕ} w (replicate n 0) ≡ replicate w 0
-take-zeros zero n h = refl
-take-zeros (suc w) zero h = absurd (omega arith)
-take-zeros (suc w) (suc n) h = ap (λ (l : List ℕ). 0 ∷ l) (take-zeros w n (omega arith))
 
 module _ (X Y row : List ℕ) (k : ℕ) (room : length row ≤ k) where
   abbrev Z : List ℕ

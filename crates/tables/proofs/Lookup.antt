@@ -1,6 +1,6 @@
 -- What the records say of the memory that they are the records of.
 use Prim.Native.Nat.{ℕ, zero, suc, _+_, _-_, _*_, _≤_, _<_}
-use mathlib.Core.Path.{_≡_, refl, sym, ap, _∙_}
+use mathlib.Core.Path.{_≡_, refl, sym, ap, ap₂, _∙_}
 use mathlib.Core.List.{List, [], _∷_, _++_, append-nil}
 use native.Mathlib.Nat.{add-zero}
 use native.Mathlib.Numerals.{add-one}
@@ -8,15 +8,16 @@ use native.Mathlib.Omega.{arith}
 use borrow.Author.Tests.{eq-eqb, ne-eqb}
 use lib.ListN.{length, take, drop, getD, replicate, length-append}
 use lib.Seq.{take-suc, take-length, length-take-le, getD-append-add, getD-drop, drop-drop}
-use Rattle.definition.specs.Memory.{Liveness, Allocation, Memory, noAllocation, allocationAt, kindNumber, size, nodeCount}
+use Rattle.definition.specs.Memory.{Liveness, Allocation, Memory, noAllocation, allocationAt, kindNumber, size, nodeCount, isLive}
 use Rattle.definition.specs.Memory.Liveness.{Live, Dead}
 use Rattle.definition.specs.Valid.{Valid}
+use Rattle.definition.proofs.Parts.{getD-first, zero-at}
 use Rattle.tables.specs.Encoding.{stateNumber, recordOf, wordsOf, parentsOf, protectorsOf, codesOf, concatMap, pad, held}
 use Rattle.tables.specs.Decoding.{madeIn}
 use Rattle.tables.specs.Held.{startOf, Records, StartsAt, Used}
-use Rattle.tables.proofs.Parts.{zero-at}
 use Rattle.tables.proofs.Focus.{concat-append, focus-get, focus-used, length-held}
 use Rattle.tables.proofs.Sizes.{length-parents, length-protectors, records-used, words-used, parents-used, codes-used, records-fit, words-fit, parents-fit, codes-fit, codes-at}
+use lib.Dec.{eqb}
 
 pub record-start : (m : Memory) (a : ℕ) → a ≤ length m → startOf recordOf m a ≡ a * 6
 record-start m a h = records-used (take a m) ∙ ap (λ (k : ℕ). k * 6) (length-take-le a m h)
@@ -24,6 +25,10 @@ record-start m a h = records-used (take a m) ∙ ap (λ (k : ℕ). k * 6) (lengt
 pub state-made : (s : Liveness) → stateNumber s ≡ 0 → ⊥
 state-made Live e = omega arith
 state-made Dead e = omega arith
+
+pub live-state : (s : Liveness) → eqb (stateNumber s) 1 ≡ isLive s
+live-state Live = refl
+live-state Dead = refl
 
 made-records : (m : Memory) (k z : ℕ) → length m ≤ k → madeIn k (concatMap recordOf m ++ replicate z 0) ≡ length m
 unfolding madeIn concatMap
@@ -42,14 +47,13 @@ module _ {m : Memory} {A : List ℕ} (h : Records m A) where
       ap (madeIn 128) (h .allocs) ∙ made-records m 128 (768 - length (concatMap recordOf m)) (h .valid .bounded .allocations)
 
   -- behind the last record
-  pub state-behind : (a : ℕ) → length m ≤ a → getD A (a * 6) 0 ≡ 0
+  pub zero-behind : (k : ℕ) → length m * 6 ≤ k → getD A k 0 ≡ 0
   unfolding held pad
-  state-behind a l =
-      let Z : List ℕ = replicate (768 - length (concatMap recordOf m)) 0 in
-      let d = a * 6 - length (concatMap recordOf m) in
-      let e : a * 6 ≡ length (concatMap recordOf m) + d = omega (arith, records-used m) in
-      ap (λ (t : List ℕ). getD t (a * 6) 0) (h .allocs) ∙ ap (λ (k : ℕ). getD (concatMap recordOf m ++ Z) k 0) e
-      ∙ getD-append-add (concatMap recordOf m) Z d 0 ∙ zero-at (768 - length (concatMap recordOf m)) d
+  zero-behind k l =
+      let n = length (concatMap recordOf m) in
+      let e : k ≡ n + (k - n) = omega (arith, records-used m) in
+      ap₂ (λ (t : List ℕ) (i : ℕ). getD t i 0) (h .allocs) e
+      ∙ getD-append-add (concatMap recordOf m) (replicate (768 - n) 0) (k - n) 0 ∙ zero-at (768 - n) (k - n)
 
   -- the numbers of one
   module _ (a : ℕ) (made : a < length m) where
@@ -89,7 +93,7 @@ pub front-at : (A : List ℕ) (i q : ℕ) → getD (drop (i * 6) A) q 0 ≡ getD
 front-at A i q = getD-drop (i * 6) A q 0
 
 pub front-state : (A : List ℕ) (i : ℕ) → getD (drop (i * 6) A) 0 0 ≡ getD A (i * 6) 0
-front-state A i = front-at A i 0 ∙ ap (λ (k : ℕ). getD A k 0) (add-zero (i * 6))
+front-state A i = getD-first A (i * 6) 0
 
 pub next-record : (A : List ℕ) (i : ℕ) → drop 6 (drop (i * 6) A) ≡ drop ((i + 1) * 6) A
 next-record A i = let e : i * 6 + 6 ≡ (i + 1) * 6 = omega arith in drop-drop 6 (i * 6) A ∙ ap (λ (k : ℕ). drop k A) e

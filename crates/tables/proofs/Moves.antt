@@ -6,6 +6,7 @@ use native.Mathlib.Numerals.{add-one, add-two, add-three, add-four, add-five}
 use native.Mathlib.Omega.{arith}
 use lib.ListN.{length, take, drop, getD, set, length-take, List·getD-append}
 use lib.Seq.{paste, sets-eq, take-length, take-suc, drop-cons, take-append-le, set-at, append-snoc, length-take-le, getD-take, take-all, drop-at, take-take}
+use Rattle.definition.proofs.Lists.{copy-set}
 
 -- what the loop has at i: the first i as they were, and behind them the rest moved
 abbrev pub moved : List ℕ → ℕ → ℕ → List ℕ
@@ -51,10 +52,7 @@ into-one c t p x h =
 -- a copy of s to the front of d, one more
 pub copy-more : (s d : List ℕ) (i : ℕ) → i < length s → i < length d
     → set (take i s ++ drop i d) i (getD s i 0) ≡ take (i + 1) s ++ drop (i + 1) d
-copy-more s d i hs hd =
-    let le : i ≤ length s = omega arith in
-    rw (add-one, drop-cons d i 0, set-at (take i s) (getD d i 0) (drop (suc i) d) (getD s i 0) i (length-take-le i s le), take-suc s i 0)
-    (sym (append-snoc (take i s) (getD s i 0) (drop (suc i) d)))
+copy-more s d i hs hd = rw add-one (copy-set s d 0 i hs hd)
 
 -- six numbers set one after the other
 pub six-sets : (l : List ℕ) (p a b c d e f : ℕ) → p + 6 ≤ length l

@@ -1,76 +1,19 @@
--- General laws of lists: a part between what stands before and behind it, zeros, and one element of a list.
+-- General laws of lists: a part between what stands before and behind it.
 use Prim.Native.Nat.{ℕ, zero, suc, _+_, _-_, _≤_, _<_}
 use mathlib.Core.Path.{_≡_, refl, sym, ap, _∙_}
-use mathlib.Core.List.{List, [], _∷_, _++_, append-assoc, append-nil, map}
-use native.Mathlib.Nat.{zero-add, suc-add, sub-zero, zero-sub, suc-sub-suc}
+use mathlib.Core.List.{List, [], _∷_, _++_, append-assoc, append-nil}
+use native.Mathlib.Nat.{zero-add, suc-add}
 use native.Mathlib.Omega.{arith}
 use borrow.Rule.Slice.PartMut.{putMid, midOf}
-use lib.ListN.{length, take, drop, getD, set, replicate, length-append, length-drop, length-replicate, drop-of-length-le}
+use lib.ListN.{length, take, drop, replicate, length-append, length-drop, length-replicate, drop-of-length-le}
 use lib.Seq.{take-append-add, drop-append-add, take-append-le, drop-append-le, take-at, drop-at, take-all, take-length, drop-drop, paste, length-take-le, take-take}
-use Rattle.definition.specs.Notation.{mutateAt, writeAt}
-use Rattle.definition.specs.Valid.{All}
+use Rattle.definition.specs.Notation.{writeAt}
+use Rattle.definition.proofs.Parts.{take-zeros}
 use Rattle.tables.specs.Held.{inserted}
-
--- ---- one element
-module _ {X : Type 0} where
-  pub mutate-split : (n : ℕ) (g : X → X) (l : List X) (d : X) → n < length l → mutateAt n g l ≡ take n l ++ (g (getD l n d) ∷ drop (suc n) l)
-  unfolding mutateAt
-  mutate-split n g [] d h = absurd (omega arith)
-  mutate-split zero g (x ∷ l) d h = refl
-  mutate-split (suc n) g (x ∷ l) d h = ap (λ (t : List X). x ∷ t) (mutate-split n g l d (omega arith))
-
-  pub mutate-twice : (n : ℕ) (f g : X → X) (l : List X) → mutateAt n f (mutateAt n g l) ≡ mutateAt n (λ x. f (g x)) l
-  unfolding mutateAt
-  mutate-twice n f g [] = refl
-  mutate-twice zero f g (x ∷ l) = refl
-  mutate-twice (suc n) f g (x ∷ l) = ap (λ (t : List X). x ∷ t) (mutate-twice n f g l)
-
-  pub take-mutate : (n : ℕ) (g : X → X) (l : List X) → take n (mutateAt n g l) ≡ take n l
-  unfolding mutateAt
-  take-mutate zero g l = refl
-  take-mutate (suc n) g [] = refl
-  take-mutate (suc n) g (x ∷ l) = ap (λ (t : List X). x ∷ t) (take-mutate n g l)
-
-  pub mutate-get : (n : ℕ) (g : X → X) (l : List X) (d : X) → n < length l → getD (mutateAt n g l) n d ≡ g (getD l n d)
-  unfolding mutateAt
-  mutate-get n g [] d h = absurd (omega arith)
-  mutate-get zero g (x ∷ l) d h = refl
-  mutate-get (suc n) g (x ∷ l) d h = mutate-get n g l d (omega arith)
-
-  pub all-at : (P : X → Type 0) (l : List X) (n : ℕ) (d : X) → All P l → n < length l → P (getD l n d)
-  all-at P [] n d a h = absurd (omega arith)
-  all-at P (x ∷ l) zero d a h = a .0
-  all-at P (x ∷ l) (suc n) d a h = all-at P l n d (a .1) (omega arith)
-
-pub map-snoc : {X : Type 0} (f : X → ℕ) (l : List X) (x : X) → map f (l ++ (x ∷ [])) ≡ map f l ++ (f x ∷ [])
-map-snoc f [] x = refl
-map-snoc f (y ∷ l) x = ap (λ (t : List ℕ). f y ∷ t) (map-snoc f l x)
-
-pub map-replicate : {X : Type 0} (f : X → ℕ) (n : ℕ) (x : X) → map f (replicate n x) ≡ replicate n (f x)
-map-replicate f zero x = refl
-map-replicate f (suc n) x = ap (λ (t : List ℕ). f x ∷ t) (map-replicate f n x)
-
--- ---- zeros
-pub zero-at : (k i : ℕ) → _≡_ {A = ℕ} (getD (replicate k 0) i 0) 0
-zero-at zero i = refl
-zero-at (suc k) zero = refl
-zero-at (suc k) (suc i) = zero-at k i
-
-pub take-zeros : (k z : ℕ) → k ≤ z → _≡_ {A = List ℕ} (take k (replicate z 0)) (replicate k 0)
-take-zeros zero z h = refl
-take-zeros (suc k) zero h = absurd (omega arith)
-take-zeros (suc k) (suc z) h = ap (λ (l : List ℕ). 0 ∷ l) (take-zeros k z (omega arith))
-
-pub drop-zeros : (k z : ℕ) → _≡_ {A = List ℕ} (drop k (replicate z 0)) (replicate (z - k) 0)
-drop-zeros zero z = ap (λ (t : ℕ). replicate t 0) (sym (sub-zero z))
-drop-zeros (suc k) zero = ap (λ (t : ℕ). replicate t 0) (sym (zero-sub (suc k)))
-drop-zeros (suc k) (suc z) = drop-zeros k z ∙ ap (λ (t : ℕ). replicate t 0) (sym (suc-sub-suc z k))
+-- passed on, for those who name it here
+pub use Rattle.definition.proofs.Places.{all-at}
 
 -- ---- a part x with l before and r behind
-pub set-after : (l x : List ℕ) (j v : ℕ) → set (l ++ x) (length l + j) v ≡ l ++ set x j v
-set-after [] x j v = ap (λ (k : ℕ). set x k v) (zero-add j)
-set-after (y ∷ l) x j v = rw suc-add (ap (λ (t : List ℕ). y ∷ t) (set-after l x j v))
-
 pub paste-after : (l x : List ℕ) (off : ℕ) (s : List ℕ) (n : ℕ) → paste (l ++ x) (length l + off) s n ≡ l ++ paste x off s n
 paste-after l x off s n =
     let e : length l + off + n ≡ length l + (off + n) = omega arith in
@@ -122,10 +65,6 @@ insert-between l x r row z h =
       take-zeros (z - length row) z (omega arith),
     )
     (simp append-assoc)
-
--- all of a row filled
-pub fill-all : (row : List ℕ) (x : ℕ) → replicate (length row) x ++ drop (length row) row ≡ replicate (length row) x
-fill-all row x = let l : length row ≤ length row = omega arith in ap (λ (ys : List ℕ). replicate (length row) x ++ ys) (drop-of-length-le row l) ∙ append-nil _
 
 -- a row put into the gap that a shift leaves
 pub put-gap : (c t row : List ℕ) (p w : ℕ) → length row ≡ w → p + w ≤ length c → putMid p w (take (p + w) c ++ t) row ≡ take p c ++ (row ++ t)

@@ -38,7 +38,7 @@ protector-back No = refl
 protector-back Weak = refl
 protector-back Strong = refl
 
-row-back : (row : List Permission) → map permission (map code row) ≡ row
+pub row-back : (row : List Permission) → map permission (map code row) ≡ row
 row-back [] = refl
 row-back (p ∷ row) = ap₂ _∷_ (permission-code p) (row-back row)
 

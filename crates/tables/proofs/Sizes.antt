@@ -13,8 +13,8 @@ use Rattle.definition.specs.Tree.{Node, nodeAt}
 use Rattle.definition.specs.Memory.{Allocation, Memory, size, nodeCount, codeCount, allocationAt, noAllocation}
 use Rattle.definition.specs.Valid.{All, AllFrom, ValidNode, ValidAllocation, Valid}
 use Rattle.definition.proofs.Alls.{all-imp}
+use Rattle.definition.proofs.Places.{all-at}
 use Rattle.tables.specs.Encoding.{recordOf, parentsOf, protectorsOf, wordsOf, rowOf, codesOf, concatMap}
-use Rattle.tables.proofs.Parts.{all-at}
 
 -- ---- one allocation
 pub length-parents : (a : Allocation) → length (parentsOf a) ≡ nodeCount a

@@ -1,5 +1,4 @@
 -- The laws of the code.
-mod Parts
 pub mod Writing
 pub mod Answers
 pub mod Transcripts

@@ -10,9 +10,10 @@ use lib.Dec.{leb·zero}
 use lib.ListN.{length, take, getD, set, length-append}
 use lib.Seq.{set-out, take-suc}
 use Rattle.definition.specs.Notation.{writeAt}
-use Rattle.definition.proofs.Lists.{write-none, write-length}
+use Rattle.definition.proofs.Writes.{write-none, write-length, write-one, write-more, write-back}
 use Rattle.transcript.specs.Transcript.{WrittenTo}
 use Rattle.transcript.specs.declared.Written.{Written}
+use native.Mathlib.Nat.{zero-add}
 
 -- ---- nothing
 pub written-none : (out : List ℕ) → WrittenTo [] out out (record { at = 0; whole = true })
@@ -20,11 +21,8 @@ written-none out =
     record { contents = sym (write-none 0 out); end = omega arith; fits = sym (leb·zero (length out)) }
 
 -- ---- a word more
-write-more : (text : List ℕ) (x : ℕ) (before : List ℕ) → writeAt 0 (text ++ (x ∷ [])) before ≡ set (writeAt 0 text before) (length text) x
-unfolding writeAt
-write-more text x [] = refl
-write-more [] x (y ∷ ys) = ap (λ (l : List ℕ). x ∷ l) (write-none 0 ys)
-write-more (t ∷ ts) x (y ∷ ys) = ap (λ (l : List ℕ). t ∷ l) (write-more ts x ys)
+write-end : (text : List ℕ) (x : ℕ) (before : List ℕ) → writeAt 0 (text ++ (x ∷ [])) before ≡ set (writeAt 0 text before) (length text) x
+write-end text x before = sym (write-one (length text) x (writeAt 0 text before) ∙ (rw zero-add at (write-more 0 text (x ∷ []) before)))
 
 module _ (text before out : List ℕ) (w : Written) (h : WrittenTo text before out w) (x : ℕ) where
   out-length : length out ≡ length before
@@ -34,7 +32,7 @@ module _ (text before out : List ℕ) (w : Written) (h : WrittenTo text before o
   longer = length-append text (x ∷ [])
 
   contents-more : set out (length text) x ≡ writeAt 0 (text ++ (x ∷ [])) before
-  contents-more = ap (λ (l : List ℕ). set l (length text) x) (h .contents) ∙ sym (write-more text x before)
+  contents-more = ap (λ (l : List ℕ). set l (length text) x) (h .contents) ∙ sym (write-end text x before)
 
   pub written-more : w .at < length out → WrittenTo (text ++ (x ∷ [])) before (set out (w .at) x) (record { at = w .at + 1; whole = w .whole })
   written-more room =
@@ -69,14 +67,8 @@ pub taken-more : (text words : List ℕ) (i : ℕ) → i < length words → (tex
 taken-more text words i h = rw (append-assoc, add-one, take-suc words i 0 h)
 
 -- ---- reading back
-read-back : (text before : List ℕ) → length text ≤ length before → take (length text) (writeAt 0 text before) ≡ text
-unfolding writeAt
-read-back [] before h = refl
-read-back (t ∷ ts) [] h = absurd (omega arith)
-read-back (t ∷ ts) (y ∷ ys) h = ap (λ (l : List ℕ). t ∷ l) (read-back ts ys (omega arith))
-
 pub written-back : (text before out : List ℕ) (w : Written) → WrittenTo text before out w → w .whole ≡ true → take (w .at) out ≡ text
 written-back text before out w h whole =
     let room : length text ≤ length before = leb-true (length text) (length before) (sym (h .fits) ∙ whole) in
     let e : w .at ≡ length text = omega (arith, h .end) in
-    rw (e, h .contents) (read-back text before room)
+    rw (e, h .contents) (write-back text before room)

@@ -11,15 +11,16 @@ use Rattle.definition.specs.Permission.{Permission, Protected, isProtected, isY
 use Rattle.definition.specs.Tree.{Node}
 use Rattle.definition.specs.Memory.{Allocation, Memory, kindNumber, size, nodeCount, codeCount, isLive, rangesOverlap, overlaps}
 use Rattle.definition.specs.Valid.{All, AllFrom, Placed, ValidNode, ValidByte, ValidAllocation, Separate, Valid}
+use Rattle.definition.proofs.Any.{none-any}
 use Rattle.tables.specs.Encoding.{Buffers, stateNumber, protectorNumber, recordOf, parentsOf, protectorsOf, wordsOf, rowOf, codesOf, concatMap, pad, held, encode}
 use Rattle.tables.specs.Decoding.{madeIn}
 use Rattle.tables.specs.Held.{Records, Holds}
 use Rattle.tables.proofs.Focus.{length-held}
 use Rattle.tables.proofs.Sizes.{length-parents, length-protectors, length-codes, records-fit, words-fit, parents-fit, protectors-fit, codes-fit}
-use Rattle.tables.proofs.Lookup.{made-count, state-made}
+use Rattle.tables.proofs.Lookup.{made-count, state-made, live-state}
 use Rattle.wellformed.specs.WellFormed.{Decides, badRecord, badWord, badPlace, badCode, badNodes, badAllocation, badRest, badAllocations, clashes, clashesLater, clashesFirst, anyClash, wellFormed}
-use Rattle.wellformed.proofs.Tests.{none-any, only-zeros}
-use Rattle.wellformed.proofs.Numbers.{live-state, state-small, kind-small, protector-small, unprotected-zero, code-passes}
+use Rattle.wellformed.proofs.Tests.{only-zeros}
+use Rattle.wellformed.proofs.Numbers.{state-small, kind-small, protector-small, unprotected-zero, code-passes}
 use Rattle.wellformed.proofs.Sound.{sound}
 
 -- ---- a node

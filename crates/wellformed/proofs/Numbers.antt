@@ -32,10 +32,6 @@ live-number n = go (eqb n 1)
     go true = refl
     go false = refl
 
-pub live-state : (s : Liveness) → eqb (stateNumber s) 1 ≡ isLive s
-live-state Live = refl
-live-state Dead = refl
-
 pub state-small : (s : Liveness) → stateNumber s ≤ 2
 state-small Live = omega arith
 state-small Dead = omega arith

@@ -19,13 +19,15 @@ use Rattle.definition.specs.Valid.{All, AllFrom, Placed, ValidNode, ValidByte, 
 use Rattle.definition.proofs.Alls.{none-pass}
 use Rattle.definition.proofs.Booleans.{or-neither, and-left, and-right}
 use Rattle.definition.proofs.Permissions.{code-permission}
+use Rattle.definition.proofs.Parts.{take-one}
 use Rattle.tables.specs.Encoding.{Buffers, stateNumber, protectorNumber, recordOf, parentsOf, protectorsOf, wordsOf, rowOf, codesOf, concatMap, pad, held, encode}
 use Rattle.tables.specs.Decoding.{protector, nodesIn, allocationIn, allocationsIn, madeIn, view}
 use Rattle.tables.specs.Held.{Holds}
 use Rattle.tables.proofs.Sizes.{words-used, parents-used, codes-used}
+use Rattle.tables.proofs.Lookup.{live-state}
 use Rattle.wellformed.specs.WellFormed.{badRecord, badWord, badPlace, badCode, badNodes, badAllocation, badRest, badAllocations, clashes, clashesLater, clashesFirst, anyClash, wellFormed}
 use Rattle.wellformed.proofs.Tests.{zeros-only}
-use Rattle.wellformed.proofs.Numbers.{state-number, live-number, live-state, kind-number, protector-number, code-good, mark-good}
+use Rattle.wellformed.proofs.Numbers.{state-number, live-number, kind-number, protector-number, code-good, mark-good}
 
 -- ---- a row
 row-number : (live : Bool) (r : ℕ) (row : List ℕ) → All (λ c. badCode live r c ≡ false) row → map code (map permission row) ≡ row
@@ -66,10 +68,6 @@ record NodesRead (live : Bool) (bytes n k : ℕ) (P R C : List ℕ) (nodes : Lis
   protectors : map (λ (x : Node). protectorNumber (x .protected)) nodes ≡ take k R
   codes : concatMap rowOf nodes ≡ take (k * bytes) C
 
-take-one : (l : List ℕ) (n : ℕ) → suc n ≤ length l → getD l 0 0 ∷ take n (drop 1 l) ≡ take (suc n) l
-take-one [] n h = absurd (omega arith)
-take-one (x ∷ l) n h = refl
-
 nodes-read : (live : Bool) (bytes n k : ℕ) (P R C : List ℕ) → badNodes live bytes n k P R C ≡ false
     → k ≤ length P → k ≤ length R → k * bytes ≤ length C → NodesRead live bytes n k P R C (nodesIn k bytes P R C)
 unfolding badNodes nodesIn concatMap
@@ -89,8 +87,8 @@ nodes-read live bytes n (suc k) P R C h lp lr lc =
     record {
       count = ap suc (s .count);
       valid = (node-valid live bytes n p r row (e2 .0) (length-take-le bytes C (omega arith)) codes, s .valid);
-      parents = ap (λ (t : List ℕ). p ∷ t) (s .parents) ∙ take-one P k lp;
-      protectors = ap₂ _∷_ (protector-number r (place-good n p r (e2 .0))) (s .protectors) ∙ take-one R k lr;
+      parents = ap (λ (t : List ℕ). p ∷ t) (s .parents) ∙ take-one P k 0 lp;
+      protectors = ap₂ _∷_ (protector-number r (place-good n p r (e2 .0))) (s .protectors) ∙ take-one R k 0 lr;
       codes = ap₂ _++_ (row-number live r row codes) (s .codes) ∙ sym (take-add bytes (k * bytes) C) ∙ ap (λ (j : ℕ). take j C) (sym m);
     }
 

@@ -11,26 +11,15 @@ use lib.ListN.{getD, take, drop}
 use lib.Seq.{getD-drop, drop-drop}
 use Rattle.definition.specs.Notation.{any}
 use Rattle.definition.specs.Memory.{rangesOverlap}
+use Rattle.definition.proofs.Parts.{getD-first}
 use Rattle.tables.proofs.Lookup.{front-at, front-state, next-record}
 use Rattle.wellformed.specs.WellFormed.{badPlace, badCode, badNodes, badAllocation, badRest, badAllocations, clashes, clashesLater, clashesFirst, anyClash}
-
--- ---- a test, and the rest
-pub or-taken : (a b : Bool) → a ≡ true → a || b ≡ true
-or-taken true b e = refl
-or-taken false b e = absurd (false≢true e)
-
-pub or-left : (a b : Bool) → a ≡ false → a || b ≡ b
-or-left true b e = absurd (false≢true (sym e))
-or-left false b e = refl
 
 -- ---- nodes
 pub row-in : (n count size : ℕ) → n < count → n * size + size ≤ count * size
 row-in n count size h =
     let m : suc n * size ≤ count * size = mul-le-mul-right size h in
     omega (arith, suc-mul n size)
-
-getD-first : (l : List ℕ) (n : ℕ) → getD (drop n l) 0 0 ≡ getD l n 0
-getD-first l n = getD-drop n l 0 0 ∙ ap (λ (k : ℕ). getD l k 0) (add-zero n)
 
 pub nodes-turn : (live : Bool) (size count n row : ℕ) (P R C : List ℕ) → n < count
     → badNodes live size n (count - n) (drop n P) (drop n R) (drop row C)
@@ -39,7 +28,7 @@ pub nodes-turn : (live : Bool) (size count n row : ℕ) (P R C : List ℕ) → n
 unfolding badNodes
 nodes-turn live size count n row P R C h =
     let k : count - n ≡ suc (count - (n + 1)) = omega arith in
-    rw (k, getD-first P n, getD-first R n, drop-drop 1 n P, drop-drop 1 n R, drop-drop size row C, add-one)
+    rw (k, getD-first P n 0, getD-first R n 0, drop-drop 1 n P, drop-drop 1 n R, drop-drop size row C, add-one)
 
 pub nodes-end : (live : Bool) (size count n : ℕ) (P R C : List ℕ) → count ≤ n → badNodes live size n (count - n) P R C ≡ false
 unfolding badNodes

@@ -6,9 +6,10 @@ use mathlib.Core.List.{List}
 use native.Mathlib.Omega.{arith}
 use lib.ListN.{length, getD, take, drop, length-drop}
 use Rattle.tables.proofs.Lookup.{front-at}
+use Rattle.definition.proofs.Parts.{part-rest}
+use Rattle.definition.proofs.Booleans.{or-taken, or-skip}
 use Rattle.wellformed.specs.WellFormed.{Front, badAllocation, badRest, badAllocations}
-use Rattle.wellformed.proofs.Tests.{rest-is}
-use Rattle.wellformed.proofs.Turns.{or-taken, or-left, allocations-turn, allocations-end}
+use Rattle.wellformed.proofs.Turns.{allocations-turn, allocations-end}
 use Rattle.wellformed.proofs.Sound.{Tested, tested}
 
 module _ (A P R W C : List ℕ) (i node word code : ℕ) where
@@ -19,13 +20,13 @@ module _ (A P R W C : List ℕ) (i node word code : ℕ) where
   parts-allocation : badAllocation (part A (i * 6)) (part P node) (part R node) (part W word) (part C code)
       ≡ badAllocation (drop (i * 6) A) (drop node P) (drop node R) (drop word W) (drop code C)
   unfolding part
-  parts-allocation = rw (rest-is A (i * 6), rest-is P node, rest-is R node, rest-is W word, rest-is C code)
+  parts-allocation = rw (part-rest (i * 6) A, part-rest node P, part-rest node R, part-rest word W, part-rest code C)
 
   -- the front is a record's
   pub walk-front : i * 6 + 6 ≤ length A → length P ≤ 1024 → length W ≤ 4096
       → Front (take (length A - i * 6) (drop (i * 6) A)) (take (length P - node) (drop node P)) (take (length W - word) (drop word W))
   walk-front la lp lw =
-      rw (rest-is A (i * 6), rest-is P node, rest-is W word)
+      rw (part-rest (i * 6) A, part-rest node P, part-rest word W)
       (record { allocs = simp length-drop (omega arith); parents = simp length-drop (omega arith); words = simp length-drop (omega arith) })
 
   module _ (count : ℕ) (r : Bool)
@@ -43,7 +44,7 @@ module _ (A P R W C : List ℕ) (i node word code : ℕ) where
         → badAllocations (count - (i + 1)) (drop ((i + 1) * 6) A) (drop (node + getD A (i * 6 + 5) 0) P) (drop (node + getD A (i * 6 + 5) 0) R)
         (drop (word + getD A (i * 6 + 4) 0) W) (drop (code + getD A (i * 6 + 5) 0 * getD A (i * 6 + 4) 0) C)
         ≡ badAllocations (count - i) (drop (i * 6) A) (drop node P) (drop node R) (drop word W) (drop code C)
-    walk-on h e = sym (allocations-turn count i node word code A P R W C h ∙ or-left _ _ (front ∙ e))
+    walk-on h e = sym (allocations-turn count i node word code A P R W C h ∙ or-skip _ _ (front ∙ e))
 
     -- there is room for its parts
     module _ (e : r ≡ false) where
@@ -68,5 +69,5 @@ module _ (A P R W C : List ℕ) (i node word code : ℕ) where
       (take (length W - word) (drop word W)) (take (length C - code) (drop code C))
       ≡ badAllocations (count - i) (drop (i * 6) A) (drop node P) (drop node R) (drop word W) (drop code C)
   walk-rest count h =
-      rw (rest-is A (i * 6), rest-is P node, rest-is R node, rest-is W word, rest-is C code)
+      rw (part-rest (i * 6) A, part-rest node P, part-rest node R, part-rest word W, part-rest code C)
       (sym (allocations-end count i (drop (i * 6) A) (drop node P) (drop node R) (drop word W) (drop code C) h))

@@ -4,7 +4,8 @@ use mathlib.Core.Path.{_∙_}
 use native.Mathlib.Omega.{arith}
 use borrow.Author.Tests.{le-leb, lt-leb}
 use borrow.Author.Needs.{needs}
-use Rattle.bounds.proofs.Tests.{over, ltb-leb}
+use Rattle.definition.proofs.Booleans.{ltb-leb}
+use Rattle.bounds.proofs.Tests.{over}
 use Rattle.bounds.proofs.is_outside.Statement.{statement}
 use Rattle.bounds.proofs.is_outside.Tie as tie
 

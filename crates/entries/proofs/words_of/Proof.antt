@@ -5,7 +5,7 @@ use native.Mathlib.Omega.{arith}
 use borrow.Author.Needs.{needs}
 use lib.ListN.{length, take, length-set}
 use lib.Seq.{take-all}
-use Rattle.definition.proofs.Alls.{all-at}
+use Rattle.definition.proofs.Alls.{all-getD}
 use Rattle.entries.specs.List.{provenanceOf, noEntry, entriesOf}
 use Rattle.entries.specs.Buffer.{entriesIn, FitsEntry}
 use Rattle.entries.proofs.ByValue.{entries-count}
@@ -38,7 +38,7 @@ entry-word-requires : tie.Need-entry-word-requires Inv-loop μ-loop
 entry-word-requires c κs =
     let t = c .before .before in
     let es = entriesOf (t .before .args .list) in
-    rw (c .entry-at .ensures .1) (all-at FitsEntry es (t .loop .i) (provenanceOf noEntry) (t .before .pre .1) (record { allocation = omega arith; node = omega arith }))
+    rw (c .entry-at .ensures .1) (all-getD FitsEntry es (t .loop .i) (provenanceOf noEntry) (t .before .pre .1) (record { allocation = omega arith; node = omega arith }))
 
 mul-words : tie.Need-mul-words Inv-loop μ-loop
 mul-words c = omega arith

@@ -3,7 +3,7 @@ use Prim.Native.Nat.{_-_, _≤_, _<_}
 use mathlib.Core.Path.{_≡_, refl, sym, ap, _∙_}
 use native.Mathlib.Omega.{arith}
 use borrow.Author.Needs.{needs}
-use lib.ListN.{length, drop}
+use lib.ListN.{length, drop, drop-of-length-le}
 use Rattle.definition.specs.Memory.{Memory}
 use Rattle.definition.specs.Notation.{any}
 use Rattle.entries.proofs.ByValue.{entries-count}
@@ -12,7 +12,6 @@ use Rattle.tables.specs.Held.{Records}
 use Rattle.entries.specs.List.{entriesOf}
 use Rattle.bounds.proofs.never_made.Reads as never-made-reads
 use Rattle.entries.proofs.entry_at.Reads as entry-at-reads
-use Rattle.frame.proofs.Releases.{none-left}
 use Rattle.frame.proofs.EndCall.{isUnmade, unmade-next, unmade-found}
 use Rattle.frame.proofs.any_never_made.Statement.{statement}
 use Rattle.frame.proofs.any_never_made.Tie as tie
@@ -63,7 +62,7 @@ unfolding any
 returns-2 c = λ m h.
     let t = c .before in
     let s = c .before .before .before in
-    sym (t .loop .inv .1 m h ∙ ap (any (isUnmade m)) (none-left (entriesOf (s .args .list)) (t .loop .i) (omega (arith, count-of s))))
+    sym (t .loop .inv .1 m h ∙ ap (any (isUnmade m)) (drop-of-length-le (entriesOf (s .args .list)) {i = t .loop .i} (omega (arith, count-of s))))
 
 pub any-never-made-spec : {M : Type 1} → statement M
 any-never-made-spec =

@@ -3,12 +3,12 @@ use Prim.Native.Nat.{_-_, _≤_, _<_}
 use mathlib.Core.Path.{_≡_, refl}
 use native.Mathlib.Omega.{arith}
 use borrow.Author.Needs.{needs}
-use lib.ListN.{length, drop}
+use lib.ListN.{length, drop, drop-of-length-le}
 use Rattle.definition.specs.Memory.{Memory}
 use Rattle.entries.specs.Buffer.{entriesIn}
 use Rattle.entries.proofs.FrameWords.{word-at, words-count}
 use Rattle.frame.specs.Release.{HoldsTrees, AllMade}
-use Rattle.frame.proofs.Releases.{Turn, turn-first, turn-at, turn-next, turn-stops, turn-done, none-left}
+use Rattle.frame.proofs.Releases.{Turn, turn-first, turn-at, turn-next, turn-stops, turn-done}
 use Rattle.frame.proofs.release_until.Statement.{statement}
 use Rattle.frame.proofs.release_until.Tie as tie
 
@@ -90,7 +90,7 @@ same-length-4 c = search needs
 returns-2 : tie.Need-returns-2 Inv-loop μ-loop
 returns-2 c = λ m h made.
     let words = c .before .before .before .before .before .before .before .args .words .now in
-    turn-done (none-left (entriesIn words) (c .before .loop .i) (omega (arith, words-count words))) (c .before .loop .inv .3 m h made)
+    turn-done (drop-of-length-le (entriesIn words) {i = c .before .loop .i} (omega (arith, words-count words))) (c .before .loop .inv .3 m h made)
 
 pub release-until-spec : {M : Type 1} → statement M
 release-until-spec =

@@ -12,9 +12,10 @@ use borrow.Fn.PlainCycle.{Measures, is, falls, and}
 use Rattle.layout.specs.declared.Mask.the-variants.{Of, None, WrongLength}
 use Rattle.definition.specs.Notation.{table}
 use Rattle.definition.specs.Layout.{unsafeCell, isFreeze, sizedMask, tupleMask}
+use Rattle.definition.proofs.Parts.{part-rest}
 use Rattle.layout.specs.Filled.{metaOf, maskBytes, tailMask, Fills}
 use Rattle.layout.proofs.Fill.{instead, restated, nothing, head-over, tail-none, tail-over, tail-filled, length-within, never-wrong}
-use Rattle.layout.proofs.Lists.{part-rest, replaced, replaced-front, replaced-rest}
+use Rattle.layout.proofs.Lists.{replaced, replaced-front, replaced-rest}
 use Rattle.layout.proofs.Words.{no-header, bad-header, tuple-header, last-header, cells-within, tail-mask}
 use Rattle.layout.proofs.+fill_layout+fill_tuple.{statement}
 use Rattle.layout.proofs.fill_layout.Reads as fill-layout

@@ -4,7 +4,7 @@ use mathlib.Core.List.{List}
 use mathlib.Core.Path.{sym, ap₂, _∙_}
 use borrow.Author.Needs.{needs}
 use Rattle.definition.specs.Layout.{PointerMeta, nestedMask}
-use Rattle.layout.proofs.Lists.{part-rest}
+use Rattle.definition.proofs.Parts.{part-rest}
 use Rattle.layout.proofs.Fill.{instead, nothing}
 use Rattle.layout.proofs.Words.{no-words, some-words}
 use Rattle.layout.proofs.freeze_mask_within.Statement.{statement}

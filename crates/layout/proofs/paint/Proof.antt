@@ -4,7 +4,7 @@ use mathlib.Core.Path.{_≡_, refl, sym, _∙_}
 use lib.ListN.{length, replicate, length-set}
 use borrow.Author.Needs.{needs}
 use Rattle.definition.specs.Notation.{writeAt}
-use Rattle.layout.proofs.Lists.{write-past}
+use Rattle.definition.proofs.Writes.{write-past}
 use Rattle.layout.proofs.Cells.{paint-here, paint-end}
 use Rattle.layout.proofs.paint.Statement.{statement}
 use Rattle.layout.proofs.paint.Tie as tie

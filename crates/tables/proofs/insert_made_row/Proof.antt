@@ -8,7 +8,7 @@ use borrow.Rule.Slice.PartMut.{putMid, midOf}
 use borrow.Author.Needs.{needs}
 use lib.ListN.{length, take, drop, replicate, length-take, length-drop, length-replicate}
 use Rattle.definition.specs.Notation.{writeAt}
-use Rattle.definition.proofs.Lists.{write-length}
+use Rattle.definition.proofs.Writes.{write-length}
 use Rattle.tables.proofs.Parts.{put-gap}
 use Rattle.tables.proofs.insert_made_row.Statement.{statement}
 use Rattle.tables.proofs.insert_made_row.Tie as tie

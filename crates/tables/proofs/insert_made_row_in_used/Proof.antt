@@ -8,7 +8,7 @@ use borrow.Author.Needs.{needs}
 use lib.ListN.{length, take, drop, replicate, length-replicate}
 use lib.Seq.{length-take-le}
 use Rattle.definition.specs.Notation.{writeAt}
-use Rattle.definition.proofs.Lists.{write-length}
+use Rattle.definition.proofs.Writes.{write-length}
 use Rattle.tables.specs.Held.{inserted}
 use Rattle.tables.proofs.Inserts.{inserted-in-used}
 use Rattle.tables.proofs.insert_made_row_in_used.Statement.{statement}

@@ -4,7 +4,7 @@ use native.Mathlib.Omega.{arith}
 use borrow.Author.Needs.{needs}
 use denote.Ref.{now}
 use lib.ListN.{replicate, length-replicate}
-use Rattle.definition.proofs.Lists.{write-length}
+use Rattle.definition.proofs.Writes.{write-length}
 use Rattle.tables.proofs.Grown.{count-in, count-small, parents-moved, protectors-moved, codes-moved, new-trees}
 use Rattle.tables.proofs.insert_node_at.Statement.{statement}
 use Rattle.tables.proofs.insert_node_at.Tie as tie

@@ -7,7 +7,8 @@ use borrow.Author.Needs.{needs}
 use denote.Ref.{now}
 use lib.ListN.{length}
 use Rattle.definition.specs.Notation.{writeAt}
-use Rattle.tables.proofs.Parts.{put-paste, write-paste, fill-all}
+use Rattle.definition.proofs.Parts.{fill-all}
+use Rattle.tables.proofs.Parts.{put-paste, write-paste}
 use Rattle.tables.proofs.make_row.Statement.{statement}
 use Rattle.tables.proofs.make_row.Tie as tie
 
@@ -37,7 +38,7 @@ returns c =
     let k : length D ≡ length (now (a .row)) = c .before .before .before .before .before .before .fill .kept .0 in
     let h : a .from + length I ≤ length D = omega arith in
     ap (putMid (a .from) (length D - a .from) D) (c .before .before .copy-row .ensures) ∙ put-paste D I (a .from) h ∙ sym (write-paste (a .from) I D h)
-    ∙ ap (writeAt (a .from) I) (c .before .before .before .before .before .before .fill .ensures ∙ fill-all (now (a .row)) (a .outside))
+    ∙ ap (writeAt (a .from) I) (c .before .before .before .before .before .before .fill .ensures ∙ fill-all (length (now (a .row))) (a .outside) (now (a .row)) (omega arith))
 
 pub make-row-spec : {M : Type 1} → statement M
 make-row-spec =

@@ -4,7 +4,7 @@ use native.Mathlib.Omega.{arith}
 use mathlib.Core.Path.{_≡_, ap, _∙_}
 use borrow.Author.Needs.{needs}
 use lib.ListN.{take, drop}
-use Rattle.transcript.proofs.Parts.{part-cut}
+use Rattle.definition.proofs.Parts.{part-cut}
 use Rattle.transcript.proofs.words_at.Statement.{statement}
 use Rattle.transcript.proofs.words_at.Tie as tie
 

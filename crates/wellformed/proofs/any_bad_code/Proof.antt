@@ -5,7 +5,7 @@ use native.Mathlib.Omega.{arith}
 use borrow.Author.Needs.{needs}
 use lib.ListN.{length, drop}
 use Rattle.definition.specs.Notation.{any}
-use Rattle.wellformed.proofs.Tests.{any-here, any-next, any-end}
+use Rattle.definition.proofs.Any.{any-here, any-later, any-end}
 use Rattle.wellformed.specs.WellFormed.{badCode}
 use Rattle.wellformed.proofs.any_bad_code.Statement.{statement}
 use Rattle.wellformed.proofs.any_bad_code.Tie as tie
@@ -29,7 +29,7 @@ returns : tie.Need-returns Inv-loop μ-loop
 returns c =
     let s = c .before .before .before .before .before .before in
     let at = c .before .before .before .before in
-    sym (any-here (badCode (s .args .live) (s .args .protector)) (s .args .row .now) (at .loop .i) (omega arith) (sym (c .before .bad-code .ensures) ∙ c .if1 .taken)) ∙ at .loop .inv .1
+    sym (any-here (badCode (s .args .live) (s .args .protector)) 0 (s .args .row .now) (at .loop .i) (omega arith) (sym (c .before .bad-code .ensures) ∙ c .if1 .taken)) ∙ at .loop .inv .1
 
 add-i : tie.Need-add-i Inv-loop μ-loop
 add-i c = search needs
@@ -41,12 +41,12 @@ loop-again : tie.Need-loop-again Inv-loop μ-loop
 loop-again c =
     let s = c .before .before .before .before .before .before in
     let at = c .before .before .before .before in
-    (search needs, any-next (badCode (s .args .live) (s .args .protector)) (s .args .row .now) (at .loop .i) (omega arith) (sym (c .before .bad-code .ensures) ∙ c .if1 .left) ∙ at .loop .inv .1)
+    (search needs, any-later (badCode (s .args .live) (s .args .protector)) 0 (s .args .row .now) (at .loop .i) (omega arith) (sym (c .before .bad-code .ensures) ∙ c .if1 .left) ∙ at .loop .inv .1)
 
 returns-2 : tie.Need-returns-2 Inv-loop μ-loop
 returns-2 c =
     let s = c .before .before .before in
-    sym (any-end (badCode (s .args .live) (s .args .protector)) (s .args .row .now) (c .before .loop .i) (omega arith)) ∙ c .before .loop .inv .1
+    sym (any-end (badCode (s .args .live) (s .args .protector)) 0 (s .args .row .now) (c .before .loop .i) (omega arith)) ∙ c .before .loop .inv .1
 
 pub any-bad-code-spec : {M : Type 1} → statement M
 any-bad-code-spec =

@@ -5,7 +5,7 @@ use native.Mathlib.Omega.{arith}
 use borrow.Author.Needs.{needs}
 use lib.ListN.{length, getD, drop}
 use Rattle.definition.specs.Notation.{any}
-use Rattle.wellformed.proofs.Tests.{any-here, any-next, any-end}
+use Rattle.definition.proofs.Any.{any-here, any-later, any-end}
 use Rattle.wellformed.proofs.Numbers.{word-bad}
 use Rattle.wellformed.specs.WellFormed.{badWord}
 use Rattle.wellformed.proofs.any_bad_word.Statement.{statement}
@@ -34,7 +34,7 @@ returns c =
     let W = c .before .before .before .before .before .before .args .words .now in
     let i = c .before .before .before .before .loop .i in
     let small : getD W i 0 < 2 ^ 32 = omega (arith, c .before .before .shared-slice-known2 .given i) in
-    sym (any-here badWord W i (omega arith) (word-bad (getD W i 0) small ∙ sym (c .before .bad-byte .ensures) ∙ c .if1 .taken))
+    sym (any-here badWord 0 W i (omega arith) (word-bad (getD W i 0) small ∙ sym (c .before .bad-byte .ensures) ∙ c .if1 .taken))
     ∙ c .before .before .before .before .loop .inv .1
 
 add-i : tie.Need-add-i Inv-loop μ-loop
@@ -49,11 +49,11 @@ loop-again c =
     let i = c .before .before .before .before .loop .i in
     let small : getD W i 0 < 2 ^ 32 = omega (arith, c .before .before .shared-slice-known2 .given i) in (
       search needs,
-      any-next badWord W i (omega arith) (word-bad (getD W i 0) small ∙ sym (c .before .bad-byte .ensures) ∙ c .if1 .left) ∙ c .before .before .before .before .loop .inv .1,
+      any-later badWord 0 W i (omega arith) (word-bad (getD W i 0) small ∙ sym (c .before .bad-byte .ensures) ∙ c .if1 .left) ∙ c .before .before .before .before .loop .inv .1,
     )
 
 returns-2 : tie.Need-returns-2 Inv-loop μ-loop
-returns-2 c = sym (any-end badWord (c .before .before .before .args .words .now) (c .before .loop .i) (omega arith)) ∙ c .before .loop .inv .1
+returns-2 c = sym (any-end badWord 0 (c .before .before .before .args .words .now) (c .before .loop .i) (omega arith)) ∙ c .before .loop .inv .1
 
 pub any-bad-word-spec : {M : Type 1} → statement M
 any-bad-word-spec =

@@ -5,7 +5,8 @@ use native.Mathlib.Nat.{sub-zero}
 use native.Mathlib.Omega.{arith}
 use borrow.Author.Needs.{needs}
 use lib.ListN.{drop}
-use Rattle.wellformed.proofs.Turns.{or-taken, or-left, clash-turn, clash-end}
+use Rattle.definition.proofs.Booleans.{or-taken, or-skip}
+use Rattle.wellformed.proofs.Turns.{clash-turn, clash-end}
 use Rattle.wellformed.specs.WellFormed.{anyClash}
 use Rattle.wellformed.proofs.any_clash.Statement.{statement}
 use Rattle.wellformed.proofs.any_clash.Tie as tie
@@ -44,7 +45,7 @@ loop-again c =
     let A = s .args .allocs .now in
     let count = s .args .count in
     let i = at .loop .i in
-    (omega arith, sym (clash-turn count i A (omega arith) ∙ or-left _ _ (sym (c .before .clashes-later .ensures) ∙ c .if1 .left)) ∙ at .loop .inv .1)
+    (omega arith, sym (clash-turn count i A (omega arith) ∙ or-skip _ _ (sym (c .before .clashes-later .ensures) ∙ c .if1 .left)) ∙ at .loop .inv .1)
 
 returns-2 : tie.Need-returns-2 Inv-loop μ-loop
 returns-2 c = sym (clash-end (c .before .before .before .args .count) (c .before .loop .i) _ (omega arith)) ∙ c .before .loop .inv .1

@@ -8,8 +8,9 @@ use native.Mathlib.Omega.{arith}
 use borrow.Author.Needs.{needs}
 use lib.ListN.{take, getD, drop}
 use Rattle.definition.specs.Notation.{any}
+use Rattle.definition.proofs.Booleans.{or-taken, or-skip}
 use Rattle.wellformed.specs.WellFormed.{badPlace, badCode, badNodes}
-use Rattle.wellformed.proofs.Turns.{or-taken, or-left, row-in, nodes-turn, nodes-end}
+use Rattle.wellformed.proofs.Turns.{row-in, nodes-turn, nodes-end}
 use Rattle.wellformed.proofs.bad_nodes.Statement.{statement}
 use Rattle.wellformed.proofs.bad_nodes.Tie as tie
 
@@ -90,7 +91,7 @@ returns-2 c =
     let wide : row + a .size - row ≡ a .size = omega arith in
     let codes : any (badCode (a .live) (getD R n 0)) (take (a .size) (drop row C)) ≡ true =
     ap (λ (k : ℕ). any (badCode (a .live) (getD R n 0)) (take k (drop row C))) (sym wide) ∙ sym (c .before .any-bad-code .ensures) ∙ c .if2 .taken in
-    sym (turn ∙ or-taken _ _ (or-left _ _ place ∙ codes)) ∙ at .loop .inv .2
+    sym (turn ∙ or-taken _ _ (or-skip _ _ place ∙ codes)) ∙ at .loop .inv .2
 
 add-n : tie.Need-add-n Inv-loop μ-loop
 add-n c = search needs
@@ -115,7 +116,7 @@ loop-again c =
     ap (λ (k : ℕ). any (badCode (a .live) (getD R n 0)) (take k (drop row C))) (sym wide) ∙ sym (c .before .any-bad-code .ensures) ∙ c .if2 .left in (
       omega arith,
       rw (add-one n) (omega (arith, suc-mul n (a .size), at .loop .inv .1)),
-      sym (turn ∙ or-left _ _ (or-left _ _ place ∙ codes)) ∙ at .loop .inv .2,
+      sym (turn ∙ or-skip _ _ (or-skip _ _ place ∙ codes)) ∙ at .loop .inv .2,
     )
 
 returns-3 : tie.Need-returns-3 Inv-loop μ-loop

@@ -4,7 +4,8 @@ use mathlib.Core.Path.{_≡_, refl, sym, _∙_}
 use native.Mathlib.Omega.{arith}
 use borrow.Author.Needs.{needs}
 use lib.ListN.{getD, drop}
-use Rattle.wellformed.proofs.Turns.{or-taken, or-left, later-turn, later-end, first-dead, first-live}
+use Rattle.definition.proofs.Booleans.{or-taken, or-skip}
+use Rattle.wellformed.proofs.Turns.{later-turn, later-end, first-dead, first-live}
 use Rattle.wellformed.specs.WellFormed.{clashesLater}
 use Rattle.wellformed.proofs.clashes_later.Statement.{statement}
 use Rattle.wellformed.proofs.clashes_later.Tie as tie
@@ -84,7 +85,7 @@ loop-again c =
     let address = getD A (i * 6 + 3) 0 in
     let size = getD A (i * 6 + 4) 0 in
     let j = c .before .before .before .loop .j in
-    sym (later-turn count j address size A (omega arith) ∙ or-left _ _ (sym (c .before .clashes-at .ensures) ∙ c .if2 .left)) ∙ c .before .before .before .loop .inv
+    sym (later-turn count j address size A (omega arith) ∙ or-skip _ _ (sym (c .before .clashes-at .ensures) ∙ c .if2 .left)) ∙ c .before .before .before .loop .inv
 
 returns-3 : tie.Need-returns-3 Inv-loop μ-loop
 returns-3 c =

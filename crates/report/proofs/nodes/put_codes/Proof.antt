@@ -6,7 +6,7 @@ use native.Mathlib.Omega.{arith}
 use borrow.Author.Needs.{needs}
 use lib.ListN.{length, drop, getD}
 use Rattle.definition.specs.Output.{Text, ascii, digit}
-use Rattle.tables.proofs.Parts.{all-at}
+use Rattle.definition.proofs.Places.{all-at}
 use Rattle.report.proofs.Rows.{codes-none, codes-some, codes-next, codes-end}
 use Rattle.report.proofs.Writes.{Left, all-left, left-as, less-left, none-left, both-written, room-next, room-front, room-behind, room-as, byte-room, written-as}
 use Rattle.report.proofs.nodes.put_codes.Statement.{statement}

@@ -5,7 +5,8 @@ use mathlib.Core.Path.{_≡_, ap, _∙_}
 use native.Mathlib.Omega.{arith}
 use lib.ListN.{length, drop, getD}
 use lib.Seq.{drop-length}
-use Rattle.report.proofs.Writes.{Left, all-left, left-as, less-left, none-left, room-next, drop-next}
+use Rattle.definition.proofs.Parts.{drop-next}
+use Rattle.report.proofs.Writes.{Left, all-left, left-as, less-left, none-left, room-next}
 use Rattle.report.proofs.text.put_bytes.Statement.{statement}
 use Rattle.report.proofs.text.put_bytes.Tie as tie
 
@@ -26,7 +27,7 @@ put-byte-requires c κs =
     let s = c .before .before .before .before .before .before in
     let l = c .before .before .before .loop in
     let bytes = s .args .bytes .now in
-    room-next (getD bytes (l .i) 0 ∷ []) (drop (l .i + 1) bytes) (left-as (drop-next bytes (l .i) (omega arith)) (l .inv .1)) (s .pre)
+    room-next (getD bytes (l .i) 0 ∷ []) (drop (l .i + 1) bytes) (left-as (drop-next bytes (l .i) 0 (omega arith)) (l .inv .1)) (s .pre)
 
 add-i : tie.Need-add-i Inv-loop μ-loop
 add-i c = omega arith
@@ -38,7 +39,7 @@ loop-again : tie.Need-loop-again Inv-loop μ-loop
 loop-again c =
     let l = c .before .before .before .before .before .before .loop in
     let bytes = c .before .before .before .before .before .before .before .before .before .args .bytes .now in
-    (omega arith, less-left _ _ (left-as (drop-next bytes (l .i) (omega arith)) (l .inv .1)) (c .before .before .put-byte .ensures))
+    (omega arith, less-left (getD bytes (l .i) 0 ∷ []) (drop (l .i + 1) bytes) (left-as (drop-next bytes (l .i) 0 (omega arith)) (l .inv .1)) (c .before .before .put-byte .ensures))
 
 same-length : tie.Need-same-length Inv-loop μ-loop
 same-length c = c .before .loop .inv .1 .kept
