@@ -2,7 +2,9 @@
 use pointer::Provenance;
 ghost use mathlib.Core.Path.{_≡_};
 ghost use mathlib.Core.List.{List};
-ghost use Prim.Native.Nat.{ℕ};
+ghost use Prim.Native.Nat.{ℕ, min};
+ghost use lib.ListN.{take, drop};
+ghost use Rattle.definition.specs.Memory.{refusedWith};
 ghost use Rattle.answer.specs.Answer.{answerOf};
 
 pub enum Answer {
@@ -29,5 +31,45 @@ impl Answer {
             Answer::Pointer(_) => 0,
             Answer::Words { start: _, len: _ } => 0,
         }
+    }
+}
+
+// The answer of a request that gives nothing: 0 is no refusal.
+pub fn refused_with(refusal: u8) -> Answer
+    ensures { λ r. ⌜ ((words : List ℕ) → answerOf r words ≡ refusedWith refusal) ⌝ }
+{
+    if refusal == 0 {
+        Answer::Accepted
+    } else {
+        Answer::Refused(refusal)
+    }
+}
+
+// ---- what is loaded
+fn smaller(a: usize, b: usize) -> usize
+    ensures { λ r. ⌜ r ≡ min a b ⌝ }
+{
+    if a < b { a } else { b }
+}
+
+// `len` words from `start` on, as far as there are any.
+fn words_at<'d>(words: &'d [u32], start: usize, len: usize) -> &'d [u32]
+    ensures { λ r. ⌜ now r ≡ take len (drop start (now (words .entry))) ⌝ }
+{
+    let from = smaller(start, words.len());
+    let end = from + smaller(len, words.len() - from);
+    &words[from..end]
+}
+
+// The words that a load gives, and none for any other answer.
+pub fn loaded_words<'d>(answer: Answer, words: &'d [u32]) -> &'d [u32]
+    ensures { λ r. ⌜ now r ≡ answerOf answer (now (words .entry)) .words ⌝ }
+{
+    match answer {
+        Answer::Words { start, len } => words_at(words, start, len),
+        Answer::Refused(_) => words_at(words, 0, 0),
+        Answer::Leak(_) => words_at(words, 0, 0),
+        Answer::Accepted => words_at(words, 0, 0),
+        Answer::Pointer(_) => words_at(words, 0, 0),
     }
 }

@@ -86,17 +86,6 @@ pub fn check_ptr(allocs: &[u64], p: ThinPointer, back: u64, ahead: u64) -> u8
     }
 }
 
-// The answer of a request that gives nothing: 0 is no refusal.
-pub fn refused_with(refusal: u8) -> Answer
-    ensures { λ r. ⌜ ((words : List ℕ) → answerOf r words ≡ refusedWith refusal) ⌝ }
-{
-    if refusal == 0 {
-        Answer::Accepted
-    } else {
-        Answer::Refused(refusal)
-    }
-}
-
 // 4, then `check_ptr`.
 fn within_reach(allocs: &[u64], p: ThinPointer, back: u64, ahead: u64) -> Answer
     requires { ⌜ ((m : Memory) × Records m (now allocs)) ⌝ }
@@ -107,7 +96,7 @@ fn within_reach(allocs: &[u64], p: ThinPointer, back: u64, ahead: u64) -> Answer
     if never_made(allocs, provenance) {
         return Answer::Refused(4);
     }
-    refused_with(check_ptr(allocs, p, back, ahead))
+    answer::refused_with(check_ptr(allocs, p, back, ahead))
 }
 
 // Test whether the given pointer is dereferenceable for the given size.

@@ -50,17 +50,17 @@ module _ {A : Type 0} (test : A → Bool) (d : A) where
   any-none [] h = refl
   any-none (x ∷ xs) h = rw (h 0 (omega arith)) (any-none xs (λ n k. h (suc n) (omega arith)))
 
+  -- tests that agree at each place
+  pub any-same : (test′ : A → Bool) (l : List A) → ((n : ℕ) → n < length l → test (getD l n d) ≡ test′ (getD l n d)) → any test l ≡ any test′ l
+  unfolding any
+  any-same test′ [] h = refl
+  any-same test′ (x ∷ xs) h = rw (h 0 (omega arith), any-same test′ xs (λ n k. h (suc n) (omega arith)))
+
 -- none passes (`none-pass` is the other way)
 pub none-any : {A : Type 0} (test : A → Bool) (l : List A) → All (λ x. test x ≡ false) l → any test l ≡ false
 unfolding any
 none-any test [] h = refl
 none-any test (x ∷ xs) h = rw (h .0) (none-any test xs (h .1))
-
--- tests that agree on each element
-pub any-same : {A : Type 0} (test test′ : A → Bool) (l : List A) → All (λ x. test x ≡ test′ x) l → any test l ≡ any test′ l
-unfolding any
-any-same test test′ [] h = refl
-any-same test test′ (x ∷ xs) h = rw (h .0, any-same test test′ xs (h .1))
 
 -- ---- one element more
 swap : (p q r : Bool) → (if p then true else (if q then true else r)) ≡ (if q then true else (if p then true else r))

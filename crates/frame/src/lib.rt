@@ -303,7 +303,7 @@ pub fn end_call_in_run(
         → Ended m (entriesIn (now (words .entry))) r (now (protectors .exit)) (now (codes .exit))) ⌝ }
 {
     let refused = release_list(allocs, parents, protectors, codes, words);
-    bounds::refused_with(refused)
+    answer::refused_with(refused)
 }
 
 // "An end call checks 4 for all entries, then 16 to 23 entry by entry."
@@ -345,7 +345,7 @@ pub fn end_call_held(
 {
     let refused = end_call_refusal(allocs, parents, protectors, codes, area, list);
     tables::fill(area, 32768, 0);
-    bounds::refused_with(refused)
+    answer::refused_with(refused)
 }
 
 // ---- an end call on what is lent (specs/EndCall.antt)

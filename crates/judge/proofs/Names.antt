@@ -77,14 +77,6 @@ pub shown-leak : (m : Memory) (answer : Answer) → answerOf answer [] .refusal 
 shown-leak m answer e a right =
     record { same = λ words. leak-refused answer words e; leak = a; right = right; name = refl }
 
--- ---- what is loaded is a part of the words
-pub loaded-length : (answer : Answer) (words : List ℕ) → length (answerOf answer words .words) ≤ length words
-loaded-length (Refused n) words = omega arith
-loaded-length (Leak a) words = omega arith
-loaded-length Accepted words = omega arith
-loaded-length (Pointer p) words = omega arith
-loaded-length (Words start len) words = omega (arith, length-take len (drop start words), length-drop start words)
-
 -- ---- the line
 pub line-written : {m : Memory} {answer shown : Answer} → Shown m answer shown → (index : ℕ) (words : List ℕ) {before : List ℕ} {at : ℕ} {after : List ℕ} {end : ℕ} {refused : Bool}
     → refused ≡ not (eqb (answerOf shown [] .refusal) 0)

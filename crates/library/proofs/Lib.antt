@@ -1,5 +1,4 @@
 pub mod Entered
 pub mod Fine
 pub mod Performed
-pub mod Parts
 pub mod Again

@@ -24,5 +24,5 @@ pub fn bad_store(bytes: &[u32], exponent: u64) -> bool
     if bad_exponent(exponent) {
         return true;
     }
-    request::any_bad_byte(bytes)
+    pointer::any_bad_byte(bytes)
 }

@@ -2,7 +2,6 @@
 use answer::Answer;
 use pointer::ThinPointer;
 ghost use mathlib.Core.Path.{_≡_};
-ghost use lib.ListN.{take, drop};
 ghost use Rattle.definition.specs.Memory.{performAccess};
 ghost use Rattle.pointer.specs.Pointer.{thinPointerOf};
 ghost use Rattle.answer.specs.Answer.{answerOf};
@@ -36,30 +35,9 @@ pub fn load(
     memory::access::load(allocs, parents, codes, p, len, exponent)
 }
 
-// `len` words from `start` on, as far as there are any.
-fn words_at<'d>(words: &'d [u32], start: usize, len: usize) -> &'d [u32]
-    ensures { λ r. ⌜ now r ≡ take len (drop start (now (words .entry))) ⌝ }
-{
-    let total = words.len();
-    if start > total {
-        return memory::access::load_view(words, total, 0);
-    }
-    let room = total - start;
-    if len > room {
-        return memory::access::load_view(words, start, room);
-    }
-    memory::access::load_view(words, start, len)
-}
-
 // "The bytes of an accepted load are handed out as a part of the lent data." They are empty for length zero and for any other answer.
 pub fn load_view<'d>(words: &'d [u32], answer: Answer) -> &'d [u32]
     ensures { λ r. ⌜ now r ≡ answerOf answer (now (words .entry)) .words ⌝ }
 {
-    match answer {
-        Answer::Words { start, len } => words_at(words, start, len),
-        Answer::Refused(_) => words_at(words, 0, 0),
-        Answer::Leak(_) => words_at(words, 0, 0),
-        Answer::Accepted => words_at(words, 0, 0),
-        Answer::Pointer(_) => words_at(words, 0, 0),
-    }
+    answer::loaded_words(answer, words)
 }

@@ -33,10 +33,10 @@ use Rattle.entries.specs.Buffer.{entriesAt, framesHeld, FitsEntry}
 use Rattle.entries.proofs.FromValid.{made-fits}
 use Rattle.reborrow.specs.Settings.{maskOf, settingsOf}
 use Rattle.reborrow.specs.declared.ReborrowSettings as code
-use Rattle.reborrow.specs.Retag.{framesWith, Retagged}
+use Rattle.reborrow.specs.Retag.{entered, Retagged}
 use Rattle.reborrow.proofs.Requests.{retag-frames, without-node-same, mask-back}
 use Rattle.perform.specs.Performed.{HoldsTrees, LeftTrees}
-use Rattle.perform.specs.Entered.{entered, CanEnter}
+use Rattle.perform.specs.Entered.{CanEnter}
 use Rattle.perform.proofs.States.{frames-held}
 
 -- ---- a frame's entry
@@ -47,10 +47,6 @@ module _ (protected : Protected) (f : ℕ) (fs : List Frame) where
 
   pub is-entered : isYes protected ≡ true → (child : Provenance) → entered protected f (some child) fs ≡ set fs f (Open (entriesAt fs f ++ (child ∷ [])))
   is-entered e child = ap (λ (b : Bool). if b then set fs f (Open (entriesAt fs f ++ (child ∷ []))) else fs) e
-
-pub framed : (w : ReborrowSettings) (f : ℕ) (o : Option Provenance) (s : State) → framesWith w f o s ≡ entered (w .protected) f o (s .frames)
-framed w f none s = refl
-framed w f (some child) s = refl
 
 -- ---- a retag that has a mask
 module _ {s : State} {A P R C F : List ℕ} (h : HoldsTrees s A P R C F) (settings : code.ReborrowSettings) (mask : FreezeMask) (f : ℕ) (inside : f < 32) (p : ThinPointer) where
@@ -63,7 +59,7 @@ module _ {s : State} {A P R C F : List ℕ} (h : HoldsTrees s A P R C F) (settin
       (retag-kept w (settings-agree (safePointer (settings .pointer)) (protector (settings .protected)) mask (settings .freeze)) f p s (h .valid .memory)) (h .valid)
 
   frames-after : retag w f p s .1 .frames ≡ entered (w .protected) f (retag w f p s .0 .pointer) (s .frames)
-  frames-after = retag-frames w f p s ∙ framed w f (retag w f p s .0 .pointer) s
+  frames-after = retag-frames w f p s
 
   module _ {r : Answer} {A′ P′ R′ C′ : List ℕ} (k : Retagged w f p s r A′ P′ R′ C′) where
     given : answerOf r [] .pointer ≡ retag w f p s .0 .pointer

@@ -23,14 +23,15 @@ ghost use Rattle.permission.specs.Codes.{protector};
 ghost use Rattle.entries.specs.Buffer.{HoldsFrames, framesHeld};
 ghost use Rattle.request.specs.Fields.{requestOf};
 ghost use Rattle.reborrow.specs.Settings.{maskOf, settingsOf};
+ghost use Rattle.reborrow.specs.Retag.{entered};
 ghost use Rattle.perform.specs.Performed.{HoldsTrees, LeftTrees};
-ghost use Rattle.perform.specs.Entered.{CanEnter, entered};
+ghost use Rattle.perform.specs.Entered.{CanEnter};
 
 // What a request says of its reborrow.
 fn settings(q: Request) -> ReborrowSettings
     ensures { λ r. ⌜ ((mask : FreezeMask) (ws : List ℕ) → settingsOf r mask ≡ definition.settingsOf (requestOf q ws) mask) ⌝ }
 {
-    let pointer = q.safe_pointer();
+    let pointer = request::safe_pointer(q.extra);
     let protected = q.protector();
     let freeze = q.freeze();
     ReborrowSettings {

@@ -1,6 +1,7 @@
 // Pointers by value, and bytes as words. mem.rs: `ThinPointer`, `Provenance`, `AbstractByte`.
 // specs/Pointer.antt says what these values are in the definition.
 ghost use mathlib.Core.Path.{_≡_};
+ghost use Rattle.definition.specs.Notation.{any};
 ghost use Rattle.definition.specs.Memory.{wrappingOffset};
 ghost use Rattle.definition.specs.Request.{badByte};
 ghost use Rattle.pointer.specs.Pointer.{provenanceOf, thinPointerOf, back, ahead};
@@ -67,6 +68,19 @@ pub fn bad_byte(word: u32) -> bool
         return false;
     }
     (word >> 8) % 0x40_0000 != 0
+}
+
+// Every byte is looked at, with no way out of the loop: several are tested at a time.
+pub fn any_bad_byte(bytes: &[u32]) -> bool
+    ensures { λ r. ⌜ r ≡ any badByte (now (bytes .entry)) ⌝ }
+{
+    let mut bad = false;
+    let mut i = 0;
+    while i < bytes.len() {
+        bad = bad | bad_byte(bytes[i]);
+        i += 1;
+    }
+    bad
 }
 
 pub fn is_initialised(word: u32) -> bool

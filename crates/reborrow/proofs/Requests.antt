@@ -32,7 +32,7 @@ use Rattle.tables.proofs.ReadBack.{encode-of, holds-words}
 use Rattle.tables.proofs.Focus.{held-kept}
 use Rattle.reborrow.specs.declared.ReborrowSettings as settingsCode
 use Rattle.reborrow.specs.Settings.{maskOf, settingsOf}
-use Rattle.reborrow.specs.Retag.{Added, Retagged, framesWith}
+use Rattle.reborrow.specs.Retag.{Added, Retagged, entered}
 
 module _ (w : ReborrowSettings) (frame : ℕ) (p : ThinPointer) (s : State) where
   -- ---- the cases
@@ -86,27 +86,27 @@ module _ (w : ReborrowSettings) (frame : ℕ) (p : ThinPointer) (s : State) wher
 
   -- ---- the frames: what is given is entered, if it has provenance
   unchanged : (o : Option Provenance) (r : ℕ) → hasNone o ≡ true
-      → unlessRefused r s (givesPointer o, s) .1 .frames ≡ framesWith w frame (unlessRefused r s (givesPointer o, s) .0 .pointer) s
+      → unlessRefused r s (givesPointer o, s) .1 .frames ≡ entered (w .protected) frame (unlessRefused r s (givesPointer o, s) .0 .pointer) (s .frames)
   unchanged none zero e = refl
   unchanged none (suc r) e = refl
   unchanged (some t) r e = absurd (false≢true e)
 
-  entered : (r : ℕ) → unlessRefused r s (acceptReborrow w frame p s) .1 .frames ≡ framesWith w frame (unlessRefused r s (acceptReborrow w frame p s) .0 .pointer) s
+  is-entered : (r : ℕ) → unlessRefused r s (acceptReborrow w frame p s) .1 .frames ≡ entered (w .protected) frame (unlessRefused r s (acceptReborrow w frame p s) .0 .pointer) (s .frames)
   unfolding acceptReborrow
-  entered zero = refl
-  entered (suc r) = refl
+  is-entered zero = refl
+  is-entered (suc r) = refl
 
   abbrev outcome : Bool → Answer × State
   outcome t =
       if t then unlessRefused (neverMade when namesNeverMade (s .memory) (p .provenance)) s (givesPointer (p .provenance), s)
       else unlessRefused (reborrowRefusal w frame p s) s (acceptReborrow w frame p s)
 
-  by-outcome : (isNone isZero : Bool) → hasNone (p .provenance) ≡ isNone → outcome (isNone && isZero) .1 .frames ≡ framesWith w frame (outcome (isNone && isZero) .0 .pointer) s
+  by-outcome : (isNone isZero : Bool) → hasNone (p .provenance) ≡ isNone → outcome (isNone && isZero) .1 .frames ≡ entered (w .protected) frame (outcome (isNone && isZero) .0 .pointer) (s .frames)
   by-outcome true true e = unchanged (p .provenance) (neverMade when namesNeverMade (s .memory) (p .provenance)) e
-  by-outcome true false e = entered (reborrowRefusal w frame p s)
-  by-outcome false isZero e = entered (reborrowRefusal w frame p s)
+  by-outcome true false e = is-entered (reborrowRefusal w frame p s)
+  by-outcome false isZero e = is-entered (reborrowRefusal w frame p s)
 
-  pub retag-frames : retag w frame p s .1 .frames ≡ framesWith w frame (retag w frame p s .0 .pointer) s
+  pub retag-frames : retag w frame p s .1 .frames ≡ entered (w .protected) frame (retag w frame p s .0 .pointer) (s .frames)
   unfolding retag retagWithoutNode reborrow
   retag-frames = by-outcome (hasNone (p .provenance)) (eqb (length (w .inside)) 0) refl
 

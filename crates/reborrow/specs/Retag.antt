@@ -3,16 +3,18 @@ use Prim.Native.Nat.{ℕ, _+_, _≤_, _<_}
 use mathlib.Core.Path.{_≡_}
 use mathlib.Core.Bool.{Bool, false, _&&_, _||_}
 use mathlib.Core.Option.{Option, none, some}
-use mathlib.Core.List.{List}
+use mathlib.Core.List.{List, [], _∷_, _++_}
 use lib.Dec.{eqb, ltb}
-use lib.ListN.{length}
-use Rattle.definition.specs.Notation.{_when_, _or_, sumOf, mutateAt}
+use lib.ListN.{length, getD, set}
+use Rattle.definition.specs.Notation.{if_then_else_, _when_, _or_, sumOf, mutateAt}
 use Rattle.definition.specs.Refusal.{neverMade, belowStart, sizeExceeded}
+use Rattle.definition.specs.Permission.{Protected, isYes}
 use Rattle.definition.specs.Tree.{Visit, visited}
 use Rattle.definition.specs.Layout.{FreezeMask}
 use Rattle.definition.specs.Memory.{Provenance, ThinPointer, Allocation, changed, size, Memory, allocationAt, target, namesNeverMade, checkPtr, nodeCount, exceedsBounds}
 use Rattle.definition.specs.Frame.{Frame, entries, State, frameAt}
-use Rattle.definition.specs.Retag.{ReborrowSettings, ofNode, entryBound, afterReborrowIn, framesAfter, retag}
+use Rattle.definition.specs.Frame.Frame.{Closed, Open}
+use Rattle.definition.specs.Retag.{ReborrowSettings, ofNode, entryBound, afterReborrowIn, retag}
 use Rattle.definition.specs.Valid.{Valid}
 use Rattle.answer.specs.Answer.{answerOf}
 use Rattle.answer.specs.declared.Answer.{Answer}
@@ -103,6 +105,7 @@ pub record Retagged (w : ReborrowSettings) (frame : ℕ) (p : ThinPointer) (s : 
   pub trees : Trees (retag w frame p s .1 .memory) A P R C
 
 -- the frames, which are the caller's: under a protector the pointer that is given is entered, if it has provenance
-abbrev pub framesWith : ReborrowSettings → ℕ → Option Provenance → State → List Frame
-framesWith w frame none s = s .frames
-framesWith w frame (some child) s = framesAfter w frame child s
+-- (the definition's `framesAfter`, said of the frames alone)
+abbrev pub entered : Protected → ℕ → Option Provenance → List Frame → List Frame
+entered protected f none fs = fs
+entered protected f (some child) fs = if isYes protected then set fs f (Open (entries (getD fs f Closed) ++ (child ∷ []))) else fs

@@ -1,4 +1,3 @@
-pub mod Any
 pub mod Matches
 pub mod Calls
 pub mod Signed

@@ -6,6 +6,7 @@ ghost use Prim.Native.Nat.{ℕ, _<_, _*_, _+_, _%_, _^_};
 ghost use lib.ListN.{length, getD, drop};
 ghost use Rattle.definition.specs.Notation.{any};
 ghost use Rattle.definition.specs.Frame.{State};
+ghost use Rattle.definition.specs.Request as definition;
 ghost use Rattle.definition.specs.Request.{requestKinds, request, pointer, bit, functionEntry, unpin, freeze, frameNumber, layoutLength};
 ghost use Rattle.definition.specs.Request.{isSafe, isPinned, addsNoNode, safePointer, entryProtector, protectorOf, bytesBack, bytesAhead, followingLength, isMiscounted};
 ghost use Rattle.definition.specs.Request.{anyName, strayName, badByte, badSettings, badMetadata, badRetag, badCall, isMalformed};
@@ -91,6 +92,17 @@ pub fn following(words: &[u32]) -> &[u32]
         return &words[n..];
     }
     &words[4..]
+}
+
+// The safe pointer of a number, read where the pointer is safe.
+pub fn safe_pointer(extra: u32) -> SafePointer
+    ensures { λ r. ⌜ ((q : definition.Request) → q .extra ≡ extra → permission.safePointer r ≡ safePointer q) ⌝ }
+{
+    match extra {
+        0 => SafePointer::SharedRef,
+        1 => SafePointer::MutableRef,
+        _ => SafePointer::Box,
+    }
 }
 
 // "Box at function entry is weak, references strong."
@@ -203,23 +215,11 @@ impl Request {
         !self.is_safe() | self.is_pinned()
     }
 
-    // Read where the pointer is safe.
-    pub fn safe_pointer(self) -> SafePointer
-        ensures { λ r. ⌜ permission.safePointer r ≡ safePointer (fieldsOf self) ⌝ }
-    {
-        let extra = self.extra;
-        match extra {
-            0 => SafePointer::SharedRef,
-            1 => SafePointer::MutableRef,
-            _ => SafePointer::Box,
-        }
-    }
-
     pub fn protector(self) -> Protected
         ensures { λ r. ⌜ permission.protector r ≡ protectorOf (fieldsOf self) ⌝ }
     {
         if self.function_entry() {
-            return entry_protector(self.safe_pointer());
+            return entry_protector(safe_pointer(self.extra));
         }
         Protected::No
     }
@@ -317,19 +317,6 @@ fn any_field(q: Request) -> bool
     any_name(q) | (q.exponent != 0) | (q.extra != 0) | (q.address != 0)
 }
 
-// Every byte is looked at, with no way out of the loop: several are tested at a time.
-pub fn any_bad_byte(bytes: &[u32]) -> bool
-    ensures { λ r. ⌜ r ≡ any badByte (now (bytes .entry)) ⌝ }
-{
-    let mut bad = false;
-    let mut i = 0;
-    while i < bytes.len() {
-        bad = bad | pointer::bad_byte(bytes[i]);
-        i += 1;
-    }
-    bad
-}
-
 fn bad_settings(q: Request, opened: bool) -> bool
     ensures { λ r. ⌜ ((s : State) (ws : List ℕ) → openIn s (frameNumber (fieldsOf q)) ≡ opened → r ≡ badSettings s (requestOf q ws)) ⌝ }
 {
@@ -387,7 +374,7 @@ pub fn malformed_load(q: Request) -> bool
 pub fn malformed_store(q: Request, following: &[u32]) -> bool
     ensures { λ r. ⌜ ((s : State) → r ≡ isMalformed Store s (requestOf q (now (following .entry)))) ⌝ }
 {
-    malformed_load(q) | any_bad_byte(following)
+    malformed_load(q) | pointer::any_bad_byte(following)
 }
 
 fn malformed_retag(q: Request, following: &[u32], opened: bool) -> bool

@@ -73,13 +73,6 @@ pointer-back settings p layout = by (p .provenance)
     by none = refl
     by (some t) = refl
 
--- ---- a number in the arm `_`, behind arms for 0 and 1: a box's, and any that is no safe pointer's
-pub box-rest : (x : ℕ) → (x ≡ 0 → ⊥) → (x ≡ 1 → ⊥) → getD (SharedRef ∷ MutableRef ∷ Box ∷ []) x Box ≡ Box
-box-rest zero a b = absurd (a refl)
-box-rest (suc zero) a b = absurd (b refl)
-box-rest (suc (suc zero)) a b = refl
-box-rest (suc (suc (suc x))) a b = refl
-
 -- ---- 2 is the definition's, of words with these fields, if the flags are zero where extra, 3 to 5, gives them no use
 stray : (p : ThinPointer) (settings : RetagSettings) (layout : List ℕ) → strayName (requestOf settings p layout) ≡ false
 stray p settings layout = by (p .provenance)

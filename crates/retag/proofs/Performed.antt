@@ -15,7 +15,7 @@ use Rattle.definition.specs.Retag.{ReborrowSettings, retagWithoutNode, retag}
 use Rattle.definition.specs.Request.{Request, pointer, functionEntry, addsNoNode, settingsOf}
 use Rattle.definition.specs.Run.{retagWithMask, performRetag}
 use Rattle.tables.specs.Encoding.{wordsOf, held}
-use Rattle.reborrow.specs.Retag.{framesWith}
+use Rattle.reborrow.specs.Retag.{entered}
 use Rattle.reborrow.proofs.Requests.{retag-frames, words-kept, without-node-same}
 use Rattle.retag.specs.declared.RetagSettings.{RetagSettings}
 use Rattle.retag.specs.Settings.{requestOf, retagOf, fieldsOf, protects}
@@ -29,7 +29,7 @@ framesEntered none s = s .frames
 framesEntered (some child) s = set (s .frames) 0 (Open (entries (frameAt s 0) ++ (child ∷ [])))
 
 frames-with : (w : ReborrowSettings) (isProtected : Bool) → isYes (w .protected) ≡ isProtected → (o : Option Provenance) (s : State)
-    → framesWith w 0 o s ≡ framesEntered (enteredNode isProtected o) s
+    → entered (w .protected) 0 o (s .frames) ≡ framesEntered (enteredNode isProtected o) s
 frames-with w true e none s = refl
 frames-with w false e none s = refl
 frames-with w true e (some child) s = ap (λ (t : Bool). if t then set (s .frames) 0 (Open (entries (frameAt s 0) ++ (child ∷ []))) else s .frames) e

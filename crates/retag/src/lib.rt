@@ -68,23 +68,11 @@ fn bad_fields(settings: RetagSettings, layout: &[u32]) -> bool
     (settings.extra > 5) | (!adds_no_node(settings) & layout::bad_metadata(layout))
 }
 
-// Read where the pointer is safe.
-fn safe_pointer(settings: RetagSettings) -> SafePointer
-    ensures { λ r. ⌜ permission.safePointer r ≡ definition.safePointer (fieldsOf settings) ⌝ }
-{
-    let extra = settings.extra;
-    match extra {
-        0 => SafePointer::SharedRef,
-        1 => SafePointer::MutableRef,
-        _ => SafePointer::Box,
-    }
-}
-
 fn protector(settings: RetagSettings) -> Protected
     ensures { λ r. ⌜ permission.protector r ≡ definition.protectorOf (fieldsOf settings) ⌝ }
 {
     if settings.function_entry {
-        return request::entry_protector(safe_pointer(settings));
+        return request::entry_protector(request::safe_pointer(settings.extra));
     }
     Protected::No
 }
@@ -92,7 +80,7 @@ fn protector(settings: RetagSettings) -> Protected
 fn reborrow_settings(settings: RetagSettings) -> ReborrowSettings
     ensures { λ r. ⌜ ((mask : FreezeMask) → settingsOf r mask ≡ definition.settingsOf (fieldsOf settings) mask) ⌝ }
 {
-    let pointer = safe_pointer(settings);
+    let pointer = request::safe_pointer(settings.extra);
     let protected = protector(settings);
     ReborrowSettings {
         pointer,

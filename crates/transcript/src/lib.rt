@@ -81,33 +81,6 @@ fn put_words(out: &mut [u32], w: Written, words: &[u32]) -> Written
     put_each(out, w, words)
 }
 
-fn smaller(a: usize, b: usize) -> usize
-    ensures { λ r. ⌜ r ≡ min a b ⌝ }
-{
-    if a < b { a } else { b }
-}
-
-// `len` words from `start` on, as far as there are any.
-fn words_at<'d>(words: &'d [u32], start: usize, len: usize) -> &'d [u32]
-    ensures { λ r. ⌜ now r ≡ take len (drop start (now (words .entry))) ⌝ }
-{
-    let from = smaller(start, words.len());
-    let end = from + smaller(len, words.len() - from);
-    &words[from..end]
-}
-
-fn loaded_words<'d>(answer: Answer, words: &'d [u32]) -> &'d [u32]
-    ensures { λ r. ⌜ now r ≡ answerOf answer (now (words .entry)) .words ⌝ }
-{
-    match answer {
-        Answer::Words { start, len } => words_at(words, start, len),
-        Answer::Refused(_) => words_at(words, 0, 0),
-        Answer::Leak(_) => words_at(words, 0, 0),
-        Answer::Accepted => words_at(words, 0, 0),
-        Answer::Pointer(_) => words_at(words, 0, 0),
-    }
-}
-
 fn given_provenance(answer: Answer) -> Provenance
     ensures { λ r. ⌜ ((words : List ℕ) → provenanceOf r ≡ answerOf answer words .pointer) ⌝ }
 {
@@ -135,7 +108,7 @@ pub fn put_answer(out: &mut [u32], w: Written, answer: Answer, words: &[u32]) ->
     ensures { λ r. ⌜ ((text before : List ℕ) → WrittenTo text before (now (out .entry)) w
         → WrittenTo (text ++ answerWords (answerOf answer (now (words .entry)))) before (now (out .exit)) r) ⌝ }
 {
-    let loaded = loaded_words(answer, words);
+    let loaded = answer::loaded_words(answer, words);
     let head = heading(
         answer.refusal(),
         given_provenance(answer),

@@ -89,14 +89,7 @@ pub fn bad_rest(
 pub fn any_bad_word(words: &[u32]) -> bool
     ensures { λ r. ⌜ r ≡ any badWord (now (words .entry)) ⌝ }
 {
-    let mut i: usize = 0;
-    while i < words.len() {
-        if pointer::bad_byte(words[i]) {
-            return true;
-        }
-        i += 1;
-    }
-    false
+    pointer::any_bad_byte(words)
 }
 
 // ---- nodes

@@ -1,6 +1,7 @@
 -- By the function-entry flag, and then by the pointer.
-use mathlib.Core.Path.{ap, _∙_}
+use mathlib.Core.Path.{refl, ap, _∙_}
 use Rattle.definition.specs.Request.{entryProtector}
+use Rattle.retag.specs.Settings.{fieldsOf}
 use Rattle.retag.proofs.Fields.{entry-flag}
 use borrow.Author.Needs.{needs}
 use Rattle.retag.proofs.protector.Statement.{statement}
@@ -13,7 +14,7 @@ entry-protector-requires : tie.Need-entry-protector-requires
 entry-protector-requires c κs = search needs
 
 returns : tie.Need-returns
-returns c = let t = c .before .before .before .args .settings in rw (entry-flag t, c .before .before .if1 .taken) (c .entry-protector .ensures ∙ ap entryProtector (c .before .safe-pointer .ensures))
+returns c = let t = c .before .before .before .args .settings in rw (entry-flag t, c .before .before .if1 .taken) (c .entry-protector .ensures ∙ ap entryProtector (c .before .safe-pointer .ensures (fieldsOf t) refl))
 
 returns-2 : tie.Need-returns-2
 returns-2 c = rw (entry-flag (c .before .args .settings), c .if1 .left)

@@ -1,4 +1,6 @@
 -- By what `safe_pointer` and `protector` give.
+use mathlib.Core.Path.{refl}
+use Rattle.retag.specs.Settings.{fieldsOf}
 use Rattle.retag.proofs.Fields.{freeze-flag}
 use borrow.Author.Needs.{needs}
 use Rattle.retag.proofs.reborrow_settings.Statement.{statement}
@@ -11,7 +13,9 @@ protector-requires : tie.Need-protector-requires
 protector-requires c κs = search needs
 
 returns : tie.Need-returns
-returns c = λ mask. rw (c .before .safe-pointer .ensures, c .protector .ensures, freeze-flag (c .before .before .args .settings))
+returns c =
+    let t = c .before .before .args .settings in
+    λ mask. rw (c .before .safe-pointer .ensures (fieldsOf t) refl, c .protector .ensures, freeze-flag t)
 
 pub reborrow-settings-spec : {M : Type 1} → statement M
 reborrow-settings-spec = tie.close (tie.spec safe-pointer-requires protector-requires returns)

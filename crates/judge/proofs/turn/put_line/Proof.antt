@@ -4,11 +4,11 @@ use native.Mathlib.Omega.{arith}
 use borrow.Author.Needs.{needs}
 use lib.ListN.{length}
 use Rattle.definition.specs.Output.{answerLine}
-use Rattle.judge.proofs.Names.{loaded-length}
 use Rattle.report.proofs.Given.{giving-loaded}
 use Rattle.report.specs.Answer.{named, giving}
 use Rattle.report.specs.Written.{WrittenInside}
 use Rattle.definition.specs.Memory as definition
+use Rattle.answer.proofs.Loaded.{loaded-length}
 use Rattle.judge.proofs.turn.put_line.Statement.{statement}
 use Rattle.judge.proofs.turn.put_line.Tie as tie
 

@@ -3,7 +3,8 @@ use mathlib.Core.List.{[]}
 use mathlib.Core.Path.{sym, ap, subst, _∙_}
 use borrow.Author.Needs.{needs}
 use Rattle.permission.specs.Codes.{protector}
-use Rattle.perform.specs.Entered.{entered, CanEnter}
+use Rattle.reborrow.specs.Retag.{entered}
+use Rattle.perform.specs.Entered.{CanEnter}
 use Rattle.entries.specs.Buffer.{framesHeld}
 use Rattle.answer.specs.declared.Answer.{Answer}
 use Rattle.answer.specs.Answer.{answerOf}

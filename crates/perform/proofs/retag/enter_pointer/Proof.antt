@@ -3,7 +3,8 @@ use mathlib.Core.Path.{sym, ap, subst, _∙_}
 use borrow.Author.Needs.{needs}
 use Rattle.permission.specs.Codes.{protector}
 use Rattle.pointer.specs.declared.Provenance.{Provenance}
-use Rattle.perform.specs.Entered.{entered, CanEnter}
+use Rattle.reborrow.specs.Retag.{entered}
+use Rattle.perform.specs.Entered.{CanEnter}
 use Rattle.entries.specs.Buffer.{framesHeld}
 use Rattle.pointer.specs.Pointer.{provenanceOf}
 use Rattle.perform.proofs.retag.enter_pointer.Statement.{statement}

@@ -1,6 +1,8 @@
 -- Pointer, protector and freeze flag are the request's.
+use mathlib.Core.Path.{refl}
 use borrow.Author.Needs.{needs}
 use Rattle.definition.specs.Retag.{reborrowSettings}
+use Rattle.request.specs.Fields.{requestOf}
 use Rattle.perform.proofs.retag.settings.Statement.{statement}
 use Rattle.perform.proofs.retag.settings.Tie as tie
 
@@ -14,7 +16,7 @@ freeze-requires : tie.Need-freeze-requires
 freeze-requires c κs = search needs
 
 returns : tie.Need-returns
-returns c = λ mask ws i. reborrowSettings (c .before .before .safe-pointer .ensures i) (c .before .protector .ensures i) mask (c .freeze .ensures i)
+returns c = λ mask ws i. reborrowSettings (c .before .before .safe-pointer .ensures (requestOf (c .before .before .before .args .q) ws) refl i) (c .before .protector .ensures i) mask (c .freeze .ensures i)
 
 pub settings-spec : {M : Type 1} → statement M
 settings-spec =

@@ -1,6 +1,6 @@
 -- By the function-entry bit, and then by the pointer.
 use mathlib.Core.Bool.{true, false}
-use mathlib.Core.Path.{_≡_, sym, ap, _∙_}
+use mathlib.Core.Path.{_≡_, refl, sym, ap, _∙_}
 use borrow.Author.Needs.{needs}
 use Rattle.definition.specs.Request.{functionEntry, entryProtector}
 use Rattle.request.specs.Fields.{fieldsOf}
@@ -20,7 +20,7 @@ returns : tie.Need-returns
 returns c =
     let q = c .before .before .before .before .args .self in
     let f : functionEntry (fieldsOf q) ≡ true = sym (c .before .before .before .function-entry .ensures) ∙ c .before .before .if1 .taken in
-    rw f (c .entry-protector .ensures ∙ ap entryProtector (c .before .safe-pointer .ensures))
+    rw f (c .entry-protector .ensures ∙ ap entryProtector (c .before .safe-pointer .ensures (fieldsOf q) refl))
 
 returns-2 : tie.Need-returns-2
 returns-2 c =

@@ -1,7 +1,7 @@
 -- 0 is no refusal.
 use borrow.Author.Needs.{needs}
-use Rattle.bounds.proofs.refused_with.Statement.{statement}
-use Rattle.bounds.proofs.refused_with.Tie as tie
+use Rattle.answer.proofs.refused_with.Statement.{statement}
+use Rattle.answer.proofs.refused_with.Tie as tie
 
 returns : tie.Need-returns
 returns c = λ words. rw (c .if1 .taken)

@@ -5,8 +5,8 @@ use mathlib.Core.Path.{_≡_, ap, _∙_}
 use borrow.Author.Needs.{needs}
 use lib.ListN.{take, drop}
 use Rattle.definition.proofs.Parts.{part-cut}
-use Rattle.transcript.proofs.words_at.Statement.{statement}
-use Rattle.transcript.proofs.words_at.Tie as tie
+use Rattle.answer.proofs.words_at.Statement.{statement}
+use Rattle.answer.proofs.words_at.Tie as tie
 
 smaller-requires : tie.Need-smaller-requires
 smaller-requires c κs = search needs

@@ -1,7 +1,7 @@
--- The arm of an accepted load knows the part that the answer names; the others have none.
+-- The arm of a load knows the part that the answer names; the others have none.
 use borrow.Author.Needs.{needs}
-use Rattle.library.proofs.load.load_view.Statement.{statement}
-use Rattle.library.proofs.load.load_view.Tie as tie
+use Rattle.answer.proofs.loaded_words.Statement.{statement}
+use Rattle.answer.proofs.loaded_words.Tie as tie
 
 enum-known-answer : tie.Need-enum-known-answer
 enum-known-answer c = search needs
@@ -48,8 +48,8 @@ returns-4 c = search needs
 returns-5 : tie.Need-returns-5
 returns-5 c = search needs
 
-pub load-view-spec : {M : Type 1} → statement M
-load-view-spec =
+pub loaded-words-spec : {M : Type 1} → statement M
+loaded-words-spec =
     tie.close
     (tie.spec
     enum-known-answer

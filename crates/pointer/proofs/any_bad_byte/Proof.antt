@@ -6,9 +6,9 @@ use lib.ListN.{length, getD, drop}
 use borrow.Author.Needs.{needs}
 use Rattle.definition.specs.Request.{badByte}
 use Rattle.definition.specs.Notation.{any}
-use Rattle.request.proofs.Any.{any-next, any-end}
-use Rattle.request.proofs.any_bad_byte.Statement.{statement}
-use Rattle.request.proofs.any_bad_byte.Tie as tie
+use Rattle.definition.proofs.Any.{any-next, any-end}
+use Rattle.pointer.proofs.any_bad_byte.Statement.{statement}
+use Rattle.pointer.proofs.any_bad_byte.Tie as tie
 
 abbrev Inv-loop : tie.InvT-loop
 Inv-loop bytes bad₀ i₀ bad i = (i ≤ length bytes) × (bad || any badByte (drop i bytes) ≡ any badByte bytes)
