@@ -1,4 +1,4 @@
--- Lists by value: one entry more, an entry at a place, how many entries there are, and a lent list loaded.
+-- Lists by value: an entry at a place, how many entries there are, and a lent list loaded.
 use Prim.Native.Nat.{ℕ, _+_, _<_, _≤_}
 use mathlib.Core.Path.{_≡_, refl, sym, ap, _∙_}
 use mathlib.Core.List.{List, [], _∷_, _++_, map, map-append}
@@ -11,10 +11,6 @@ use Rattle.definition.specs.Memory.{Provenance}
 use Rattle.entries.specs.List.{provenanceOf, noEntry, firstOf, entriesOf, laid, loaded}
 use Rattle.entries.specs.declared.Entry.{Entry}
 use Rattle.entries.specs.declared.Entries.{Entries}
-
-pub first-append : (list : List Entry) (n : ℕ) (e : Entry) → n < length list
-    → firstOf (n + 1) (set list n e) ≡ firstOf n list ++ (provenanceOf e ∷ [])
-first-append list n e h = rw (add-one, take-suc-set list n e h) (map-append provenanceOf (take n list) (e ∷ []))
 
 pub first-at : (list : List Entry) (n i : ℕ) → i < n
     → provenanceOf (getD list i noEntry) ≡ getD (firstOf n list) i (provenanceOf noEntry)

@@ -24,17 +24,6 @@ firstOf n list = map provenanceOf (take n list)
 abbrev pub entriesOf : Entries → List Provenance
 entriesOf entries = firstOf (entries .count) (entries .list)
 
--- a list by value, nothing behind it
-unfoldable pub placed : List Provenance → List Entry
-placed es = map entryOf es ++ replicate (64 - length es) noEntry
-
-abbrev pub byValue : List Provenance → Entries
-byValue es = record { list = placed es; count = length es }
-
--- one entry more
-abbrev pub appended : Entries → Entry → Entries
-appended entries e = record { list = set (entries .list) (entries .count) e; count = entries .count + 1 }
-
 -- ---- lent
 abbrev pub entryAt : List Entry → ℕ → Entry
 entryAt xs i = getD xs i noEntry

@@ -9,7 +9,7 @@ ghost use lib.ListN.{length, getD, take, set, replicate};
 ghost use Rattle.definition.specs.Frame.{Frame, isOpen, empty};
 ghost use Rattle.definition.specs.Frame.Frame.{Closed, Open};
 ghost use Rattle.definition.specs.Valid.{All};
-ghost use Rattle.entries.specs.List.{provenanceOf, noEntry, entriesOf, byValue, appended, loaded};
+ghost use Rattle.entries.specs.List.{provenanceOf, noEntry, entriesOf, loaded};
 ghost use Rattle.entries.specs.Buffer.{entryWord, entryIn, entriesIn, entriesAt, FitsEntry, HoldsFrames};
 
 // Whom a frame protects: a node of an allocation. It has C's layout, so that C and Rust can lend a list of them.
@@ -46,28 +46,6 @@ pub fn with_entry(list: [Entry; 64], i: usize, e: Entry) -> [Entry; 64]
         out[i] = e;
     }
     out
-}
-
-// The list without entries.
-pub fn no_entries() -> Entries
-    ensures { λ r. ⌜ r ≡ byValue [] ⌝ }
-{
-    let list = blank();
-    Entries { list, count: 0 }
-}
-
-// The list with one more entry at its end.
-pub fn append(entries: Entries, e: Entry) -> Entries
-    requires { ⌜ entries .count < 64 ⌝ }
-    ensures { λ r. ⌜ (r ≡ appended entries e) × (entriesOf r ≡ entriesOf entries ++ (provenanceOf e ∷ [])) ⌝ }
-{
-    let list = entries.list;
-    let count = entries.count;
-    let longer = with_entry(list, count, e);
-    Entries {
-        list: longer,
-        count: count + 1,
-    }
 }
 
 // The entry at a place of the list.

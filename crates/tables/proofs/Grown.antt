@@ -199,14 +199,6 @@ module _ {m : Memory} {a : ℕ} {x : Node} {A P R C : List ℕ} {pa pr : ℕ} (r
     pub new-trees : Trees (mutateAt a (withNode x) m) (set A (a * 6 + 5) (getD A (a * 6 + 5) 0 + 1)) (inserted P n (pa ∷ [])) (inserted R n (pr ∷ [])) (inserted C c row)
     new-trees = record { allocs = new-count; parents = new-parents; protectors = new-protectors; codes = new-codes }
 
--- where it goes, as the records say
-pub found-place : {m : Memory} {a w n c w′ node place : ℕ} → Used m w n c → StartsAt m (a + 1) w′ node place → PlaceFor m a n c node place
-found-place u s =
-    record {
-      used = record { words = refl; nodes = u .nodes; codes = u .codes };
-      behind = record { words = refl; parents = s .parents; protectors = s .protectors; codes = s .codes };
-    }
-
 -- the five buffers after it: the words stay as they are
 pub node-encode : (m : Memory) (a : ℕ) (x : Node) (A P R W C A′ P′ R′ C′ : List ℕ) → Holds m (buffers A P R W C) → a < length m
     → Trees (mutateAt a (withNode x) m) A′ P′ R′ C′ → buffers A′ P′ R′ W C′ ≡ encode (mutateAt a (withNode x) m)

@@ -73,9 +73,3 @@ put-gap c t row p w e h =
     let lp : p ≤ length (take (p + w) c) = omega arith in
     let lq : p ≤ p + w = omega arith in
     rw (take-append-le p (take (p + w) c) t lp, take-take p (p + w) c lq, drop-drop, drop-at (take (p + w) c) t (p + w) l)
-
--- a row written over another of its length
-pub write-over : (row : List ℕ) (x : ℕ) → writeAt 0 row (replicate (length row) x) ≡ row
-unfolding writeAt
-write-over [] x = refl
-write-over (y ∷ row) x = ap (λ (t : List ℕ). y ∷ t) (write-over row x)
