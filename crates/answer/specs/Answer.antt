@@ -1,7 +1,6 @@
 -- The definition's answer, for every case of the code's; the loaded words are a part of the lent data. A leak's name is no part of it (decision 56).
 use Prim.Native.Nat.{ℕ}
-use mathlib.Core.Option.{none}
-use mathlib.Core.List.{List, []}
+use mathlib.Core.List.{List}
 use lib.ListN.{take, drop}
 use Rattle.definition.specs.Refusal.{memoryLeak}
 use Rattle.definition.specs.Memory as definition

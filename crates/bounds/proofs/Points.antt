@@ -1,5 +1,5 @@
 -- What the records say of a provenance, and of the allocation that a pointer points into.
-use Prim.Native.Nat.{ℕ, _+_, _-_, _*_, _^_, _≤_, _<_}
+use Prim.Native.Nat.{ℕ, _+_, _*_, _^_, _≤_, _<_}
 use mathlib.Core.Path.{_≡_, refl, sym, ap, _∙_}
 use mathlib.Core.Bool.{Bool, true, false, not, _&&_}
 use mathlib.Core.List.{List}
@@ -8,8 +8,7 @@ use borrow.Author.Tests.{eq-eqb, ne-eqb, le-leb, le-ltb, ltb-true, ltb-false, no
 use lib.Dec.{eqb, leb, ltb}
 use lib.ListN.{length, getD}
 use Rattle.definition.specs.Notation.{_when_}
-use Rattle.definition.specs.Memory.{ThinPointer, hasNone, Liveness, isLive, Allocation, size, kindNumber, nodeCount, Memory, noAllocation, allocationAt, wasMade, namesNeverMade, isOutside, checkPtr, target}
-use Rattle.definition.specs.Memory.Liveness.{Live, Dead}
+use Rattle.definition.specs.Memory.{ThinPointer, hasNone, isLive, Allocation, size, kindNumber, nodeCount, Memory, noAllocation, allocationAt, wasMade, namesNeverMade, isOutside, checkPtr, target}
 use Rattle.definition.specs.Valid.{ValidAllocation}
 use Rattle.definition.proofs.ValidMemory.{was-made}
 use Rattle.definition.proofs.Places.{all-at}
@@ -17,7 +16,6 @@ use Rattle.pointer.specs.Pointer.{provenanceOf, thinPointerOf}
 use Rattle.pointer.specs.declared.ThinPointer as pointer
 use Rattle.pointer.specs.declared.Provenance.the-variants.{None, Of}
 use Rattle.tables.specs.declared.Allocation as code
-use Rattle.tables.specs.Encoding.{stateNumber, recordOf}
 use Rattle.tables.specs.Held.{Records}
 use Rattle.tables.proofs.Lookup.{state-at, kind-at, address-at, size-at, nodes-at, zero-behind}
 use Rattle.bounds.specs.Bounds.{Points}

@@ -11,7 +11,7 @@ ghost use mathlib.Core.List.{List};
 ghost use Prim.Native.Nat.{ℕ, _+_, _^_, _<_};
 ghost use lib.Dec.{leb};
 ghost use lib.ListN.{length};
-ghost use Rattle.definition.specs.Memory.{Memory, namesNeverMade, checkPtr, target, exceedsBounds, allocationAt, isLiveHeap, refusedWith};
+ghost use Rattle.definition.specs.Memory.{Memory, namesNeverMade, checkPtr, target, exceedsBounds, allocationAt, isLiveHeap};
 ghost use Rattle.definition.specs.Memory as definition;
 ghost use Rattle.pointer.specs.Pointer.{provenanceOf, thinPointerOf, back, ahead};
 ghost use Rattle.answer.specs.Answer.{answerOf};

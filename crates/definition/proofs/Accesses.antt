@@ -3,11 +3,11 @@
 --     answer-same       and gives the same words
 --     memory-same       the same memory is left in either order
 --     again             a load that is accepted, made again directly after, changes nothing more
-use Prim.Native.Nat.{ℕ, zero, suc, _+_, _-_, _≤_, _<_}
+use Prim.Native.Nat.{ℕ, zero, suc, _+_, _≤_, _<_}
 use mathlib.Core.Path.{_≡_, refl, sym, ap, ap₂, subst, _∙_}
 use mathlib.Core.Bool.{Bool, true, false, not, _&&_}
 use mathlib.Core.Option.{Option, none, some}
-use mathlib.Core.List.{List, [], _∷_}
+use mathlib.Core.List.{List, []}
 use native.Mathlib.Decide.{ℕ-discrete}
 use native.Mathlib.Omega.{arith}
 use lib.Dec.{eqb, leb, ltb}
@@ -17,8 +17,8 @@ use Rattle.definition.specs.Notation.{if_then_else_, _when_, _or_, mutat
 use Rattle.definition.specs.Refusal.{neverMade, misaligned, missingProvenance, deadAllocation, outOfBounds}
 use Rattle.definition.specs.Permission.{AccessKind}
 use Rattle.definition.specs.Permission.AccessKind.{Read, Write}
-use Rattle.definition.specs.Tree.{Node, visitRefusal, visited}
-use Rattle.definition.specs.Memory.{Memory, Allocation, noAllocation, allocationAt, size, Provenance, ThinPointer, Answer, givesWords, unlessRefused, wasMade, namesNeverMade, hasNone, isLive, isMisaligned, allocationOf, target, offset, isOutside, checkPtr, MemoryAccess, visitOf, accessRefusalIn, accessRefusal, afterAccessIn, afterAccess, loadedWords, acceptAccess, performAccess}
+use Rattle.definition.specs.Tree.{Node, visitRefusal}
+use Rattle.definition.specs.Memory.{Memory, Allocation, noAllocation, size, Provenance, ThinPointer, Answer, unlessRefused, wasMade, namesNeverMade, hasNone, isLive, isMisaligned, allocationOf, target, offset, isOutside, checkPtr, MemoryAccess, visitOf, accessRefusalIn, accessRefusal, afterAccessIn, afterAccess, loadedWords, acceptAccess, performAccess}
 use Rattle.definition.proofs.Booleans.{and-left, and-right, or-later, or-left, or-right, when-none}
 use Rattle.definition.proofs.Permissions.{Calm}
 use Rattle.definition.proofs.Lists.{mutate-length, mutate-kept, mutate-commute, mutate-again}

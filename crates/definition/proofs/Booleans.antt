@@ -1,13 +1,13 @@
 -- Booleans, and refusals combined by `when` and `or`, taken apart.
 use Prim.Native.Nat.{ℕ, zero, suc, _+_, _≤_, _<_}
-use mathlib.Core.Path.{_≡_, refl, sym, ap, subst, _∙_}
+use mathlib.Core.Path.{_≡_, refl, sym, subst}
 use mathlib.Core.Bool.{Bool, true, false, not, _&&_, _||_, false≢true}
 use mathlib.Core.Logic.{⊎-elim}
 use native.Mathlib.Nat.{eq-or-lt-of-le}
 use native.Mathlib.Omega.{arith}
 use lib.Dec.{T, leb, ltb}
 use borrow.Author.Tests.{le-leb, lt-leb, ltb-true, ltb-false}
-use Rattle.definition.specs.Notation.{if_then_else_, _when_, _or_}
+use Rattle.definition.specs.Notation.{_when_, _or_}
 
 -- ---- `&&`, `||`, `not`
 pub and-left : (a b : Bool) → a && b ≡ true → a ≡ true

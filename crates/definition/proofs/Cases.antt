@@ -1,20 +1,20 @@
 -- Worked runs, by computation: every refusal from 2 to 25, and the slips that document 01 shuts out.
-use Prim.Native.Nat.{ℕ, zero, suc, _+_, _-_, _*_, _/_, _%_, _^_}
+use Prim.Native.Nat.{ℕ, zero, suc, _+_, _*_, _^_}
 use mathlib.Core.Path.{_≡_, refl}
-use mathlib.Core.Bool.{Bool, true, false}
-use mathlib.Core.Option.{Option, none, some}
+use mathlib.Core.Bool.{true, false}
+use mathlib.Core.Option.{none, some}
 use mathlib.Core.List.{List, [], _∷_, _++_, map}
 use lib.ListN.{length, replicate, getD}
 use Rattle.definition.specs.Notation.{firstRefusal, tableFrom, mapFrom, mutateAt, writeAt, filter, any, sumOf}
 use Rattle.definition.specs.Permission.{Protected, code, refusal, next}
 use Rattle.definition.specs.Tree.{Node, isAboveWithin, relation, descendants, preorder, visitingOrder, rowRefusal, nodeRefusal, visitRefusal, nodeAfter, visited}
 use Rattle.definition.specs.Layout.{cellsFit, isFreeze, nestedMask, freezeMask}
-use Rattle.definition.specs.Memory.{Answer, Provenance, newAllocation, wrappingOffset, checkPtr, accessRefusalIn, accessRefusal, afterAccessIn, afterAccess, loadedWords, acceptAccess, performAccess, isPickable, exceedsBounds, allocateRefusal, acceptAllocate, allocate, deallocateRefusal, afterDeallocateIn, acceptDeallocate, deallocate, dereferenceable, leakCheck}
-use Rattle.definition.specs.Frame.{State, empty, frameAt, entries, newCall, releaseRefusalIn, releaseRefusal, afterReleaseIn, afterRelease, releaseAllRefusal, afterReleaseAll, endCallRefusal, acceptEndCall, endCall}
+use Rattle.definition.specs.Memory.{newAllocation, wrappingOffset, checkPtr, accessRefusalIn, accessRefusal, afterAccessIn, afterAccess, loadedWords, acceptAccess, performAccess, isPickable, exceedsBounds, allocateRefusal, acceptAllocate, allocate, deallocateRefusal, afterDeallocateIn, acceptDeallocate, deallocate, dereferenceable, leakCheck}
+use Rattle.definition.specs.Frame.{empty, frameAt, entries, newCall, releaseRefusalIn, releaseRefusal, afterReleaseIn, afterRelease, releaseAllRefusal, afterReleaseAll, endCallRefusal, acceptEndCall, endCall}
 use Rattle.definition.specs.Retag.{childNode, withChild, initRefusal, afterInit, reborrowRefusal, afterReborrowIn, acceptReborrow, reborrow, retagWithoutNode, retag}
 use Rattle.definition.specs.Request.{request, followingLength, isMiscounted, badByte, badSettings, badMetadata, badRetag, isMalformed}
 use Rattle.definition.specs.Run.{retagWithMask, performRetag, perform, step, answers, final, wordsOf, cutRequests, requestsOf, performedCount, program}
-use Rattle.definition.specs.Permission.Protected.{No, Weak, Strong}
+use Rattle.definition.specs.Permission.Protected.{No, Weak}
 use Rattle.definition.specs.Memory.AllocationKind.{Stack}
 
 -- ---- requests, by their words

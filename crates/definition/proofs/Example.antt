@@ -1,6 +1,6 @@
 -- The claim of demand 3 at a list, so that it is seen not to be empty: a load and a store that touch no common address are exchanged, then two loads
 -- of one byte, which are neighbours by then only.
-use Prim.Native.Nat.{ℕ, _+_, _*_, _/_, _%_, _^_, _≤_, _<_}
+use Prim.Native.Nat.{ℕ, _≤_, _<_}
 use mathlib.Core.Path.{_≡_, refl}
 use mathlib.Core.Logic.{inl, inr}
 use mathlib.Core.List.{List, [], _∷_}

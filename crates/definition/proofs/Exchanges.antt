@@ -2,7 +2,7 @@
 --     order-is-free    exchanges change no answer and nothing that is left; an accepted load made again is accepted, gives the same words, and changes nothing more
 -- A load or store is either refused with 2 whatever the state, or an access; accesses that are independent commute (Accesses).
 use Prim.Native.Nat.{ℕ, zero, suc, _+_, _≤_, _<_}
-use mathlib.Core.Path.{_≡_, refl, sym, ap, ap₂, subst, _∙_}
+use mathlib.Core.Path.{_≡_, refl, sym, ap, ap₂, _∙_}
 use mathlib.Core.Bool.{Bool, true, false, not, _&&_, _||_, false≢true}
 use mathlib.Core.Logic.{_⊎_, inl, inr, ⊎-elim}
 use mathlib.Core.List.{List, [], _∷_}
@@ -13,16 +13,16 @@ use borrow.Author.Tests.{not-false, eqb-true}
 use lib.ListN.{length, getD, drop, length-drop}
 use Rattle.definition.specs.Notation.{if_then_else_}
 use Rattle.definition.specs.Refusal.{malformed}
-use Rattle.definition.specs.Permission.AccessKind.{Read, Write}
+use Rattle.definition.specs.Permission.AccessKind.{Read}
 use Rattle.definition.specs.Memory.{Memory, Answer, refusedWith, unlessRefused, MemoryAccess, accessRefusal, acceptAccess, performAccess}
 use Rattle.definition.specs.Frame.{State, empty, inMemory}
-use Rattle.definition.specs.Request.{Kind, Request, request, followingLength, isMiscounted, isMalformed, loadOf, storeOf}
+use Rattle.definition.specs.Request.{Kind, request, followingLength, isMiscounted, isMalformed, loadOf, storeOf}
 use Rattle.definition.specs.Request.Kind.{Allocate, Deallocate, Load, Store, Retag, NewCall, EndCall, Dereferenceable, SignedDereferenceable, LeakCheck, Unused}
 use Rattle.definition.specs.Run.{perform, step, answers, final}
-use Rattle.definition.specs.Exchange.{kindOf, IsLoadOrStore, TouchesAddress, Independent, MayExchange, exchange, exchangeAll, Exchanged, twice, AcceptedLoad, allAccepted, OrderIsFree}
+use Rattle.definition.specs.Exchange.{kindOf, IsLoadOrStore, Independent, MayExchange, exchange, exchangeAll, Exchanged, twice, allAccepted, OrderIsFree}
 use Rattle.definition.specs.Exchange.Independent.{both-loads, no-common-address}
 use Rattle.definition.proofs.Booleans.{or-neither}
-use Rattle.definition.proofs.Accesses.{from, Empty, Fits, Aside, turned, answer-same, memory-same, again, again-answer}
+use Rattle.definition.proofs.Accesses.{from, Empty, Fits, Aside, answer-same, memory-same, again, again-answer}
 use Rattle.definition.proofs.Accesses.Aside.{reads, before, behind}
 
 and-swap : (a b c : Bool) → a && (b && c) ≡ b && (a && c)

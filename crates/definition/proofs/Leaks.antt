@@ -1,14 +1,14 @@
 -- A leak check is refused exactly when there is an allocation that 25 may name.
 use Prim.Native.Nat.{ℕ, zero, suc, _<_}
-use mathlib.Core.Path.{_≡_, refl, sym, ap, _∙_}
-use mathlib.Core.Bool.{Bool, true, false, _&&_, false≢true}
-use mathlib.Core.List.{List, [], _∷_}
+use mathlib.Core.Path.{_≡_, refl}
+use mathlib.Core.Bool.{Bool, true, false, false≢true}
+use mathlib.Core.List.{[], _∷_}
 use native.Mathlib.Omega.{arith}
 use lib.Dec.{ltb}
 use borrow.Author.Tests.{lt-ltb, ltb-true}
-use lib.ListN.{length, getD}
+use lib.ListN.{length}
 use Rattle.definition.specs.Notation.{if_then_else_, any}
-use Rattle.definition.specs.Memory.{Memory, Allocation, allocationAt, isLiveHeap, isLeak}
+use Rattle.definition.specs.Memory.{Memory, allocationAt, isLiveHeap, isLeak}
 use Rattle.definition.proofs.Booleans.{and-left, and-right}
 
 -- the two parts of `isLeak`

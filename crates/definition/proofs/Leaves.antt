@@ -3,21 +3,20 @@
 --     refusal-leaf     the first refusal is that through the parent, where nothing is refused at the leaf itself
 --     visited-leaf     the others are left as the visit through the parent leaves them
 use Prim.Native.Nat.{ℕ, suc, _+_, _<_}
-use mathlib.Core.Path.{_≡_, refl, sym, ap, ap₂, subst, _∙_}
-use mathlib.Core.Bool.{Bool, true, false, _||_}
+use mathlib.Core.Path.{_≡_, refl, sym, ap, ap₂, _∙_}
+use mathlib.Core.Bool.{Bool, true, false}
 use mathlib.Core.Option.{Option, none}
 use mathlib.Core.List.{List, [], _∷_, _++_}
 use native.Mathlib.Nat.{add-zero, zero-add}
-use native.Mathlib.Decide.{decLt}
 use native.Mathlib.Omega.{arith}
 use lib.Dec.{eqb}
 use borrow.Author.Tests.{ne-eqb}
-use lib.ListN.{length, getD, length-map, length-append, List·getD-append}
+use lib.ListN.{length, length-map, List·getD-append}
 use lib.Seq.{getD-append-seam}
 use Rattle.definition.specs.Notation.{if_then_else_, _or_, firstRefusal, mapFrom}
 use Rattle.definition.specs.Permission.{AccessKind, NodeRelation, Permission}
 use Rattle.definition.specs.Permission.NodeRelation.{Local, Foreign}
-use Rattle.definition.specs.Tree.{Node, noNode, parents, isAboveWithin, isAbove, relation, descendants, preorder, visitingOrder, Visit, rowRefusal, rowAfter, nodeRefusal, visitRefusal, nodeAfter, visited}
+use Rattle.definition.specs.Tree.{Node, noNode, parents, isAbove, relation, descendants, preorder, visitingOrder, Visit, rowRefusal, rowAfter, nodeRefusal, visitRefusal, nodeAfter, visited}
 use Rattle.definition.proofs.Lists.{first-append, each-same-below, each-append}
 use Rattle.definition.proofs.Trees.{Parents, above-itself, above-parent, above-append, grown-tree}
 use Rattle.definition.proofs.Order.{none-spared}

@@ -1,13 +1,12 @@
 -- Laws of one permission: codes are its numbers; reads are independent of each other, and repeated they change nothing more.
 -- A law about every permission is a test over the fifteen, computed.
-use Prim.Native.Nat.{ℕ, zero, suc, _+_, _≤_, _<_}
+use Prim.Native.Nat.{ℕ, _<_}
 use mathlib.Core.Path.{_≡_, refl, sym, ap, subst, _∙_}
-use mathlib.Core.Bool.{Bool, true, false, _&&_}
+use mathlib.Core.Bool.{Bool}
 use mathlib.Core.Option.{Option, none, some}
-use mathlib.Core.List.{List}
 use native.Mathlib.Omega.{arith}
-use lib.Dec.{T, eqb, eqb→eq, ltb}
-use Rattle.definition.specs.Permission.{AccessKind, NodeRelation, LocalRead, ForeignRead, PermissionUnprot, PermissionProt, Permission, refusal, next, refusalBy, nextBy, isProtected, unprotected, initAccess, code, permission}
+use lib.Dec.{T, eqb, eqb→eq}
+use Rattle.definition.specs.Permission.{AccessKind, NodeRelation, PermissionUnprot, PermissionProt, Permission, refusal, next, refusalBy, nextBy, code, permission}
 use Rattle.definition.specs.Permission.AccessKind.{Read, Write}
 use Rattle.definition.specs.Permission.NodeRelation.{Local, Foreign}
 use Rattle.definition.specs.Permission.LocalRead.{noLocalRead, hadLocalRead}

@@ -1,12 +1,11 @@
 -- The starred cases of document 01, "To the testers", as one table, by computation.
-use Prim.Native.Nat.{ℕ, zero, suc, _+_, _-_, _*_, _/_, _%_, _^_}
+use Prim.Native.Nat.{ℕ, _/_, _%_, _^_}
 use mathlib.Core.Path.{_≡_, refl}
-use mathlib.Core.Bool.{Bool, true, false}
-use mathlib.Core.Option.{Option, none, some}
-use mathlib.Core.List.{List, [], _∷_, _++_, map}
-use lib.ListN.{length, replicate, getD}
+use mathlib.Core.Option.{some}
+use mathlib.Core.List.{List, [], _∷_, _++_}
+use lib.ListN.{replicate}
 use Rattle.definition.specs.Notation.{firstRefusal, tableFrom, mapFrom, mutateAt, writeAt, filter, any, sumOf}
-use Rattle.definition.specs.Permission.{refusal, next, endAccess, permission, AccessKind, NodeRelation}
+use Rattle.definition.specs.Permission.{refusal, next, endAccess, permission}
 use Rattle.definition.specs.Tree.{isAboveWithin, relation, descendants, preorder, visitingOrder, rowRefusal, nodeRefusal, visitRefusal, nodeAfter, visited}
 use Rattle.definition.specs.Layout.{cellsFit, isFreeze, nestedMask, freezeMask}
 use Rattle.definition.specs.Memory.{wrappingOffset, checkPtr, accessRefusalIn, accessRefusal, afterAccessIn, afterAccess, loadedWords, acceptAccess, performAccess, isPickable, exceedsBounds, newAllocation, allocateRefusal, acceptAllocate, allocate, deallocateRefusal, afterDeallocateIn, acceptDeallocate, deallocate, dereferenceable, leakCheck, Answer, refusedWith, accepted, givesPointer, givesWords}

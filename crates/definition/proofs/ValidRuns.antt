@@ -8,7 +8,7 @@ use native.Mathlib.Omega.{arith}
 use lib.Dec.{eqb, ltb}
 use borrow.Author.Tests.{ltb-false}
 use lib.ListN.{length, take, drop}
-use Rattle.definition.specs.Notation.{if_then_else_, any, sumOf}
+use Rattle.definition.specs.Notation.{any, sumOf}
 use Rattle.definition.specs.Refusal.{malformed}
 use Rattle.definition.specs.Layout.{FreezeMask, freezeMask}
 use Rattle.definition.specs.Memory.{Answer, refusedWith, performAccess, allocate, deallocate, dereferenceable, leakCheck}
@@ -20,7 +20,7 @@ use Rattle.definition.specs.Request.Kind.{Allocate, Deallocate, Load, St
 use Rattle.definition.specs.Run.{retagWithMask, performRetag, perform, step, IsWord, answers, final, wordsOf, restRequest, cutRequests, requestsOf, performedCount, program}
 use Rattle.definition.specs.Valid.{All, ValidByte, Valid, ValidFrame, ValidState}
 use Rattle.definition.proofs.Booleans.{or-neither}
-use Rattle.definition.proofs.Alls.{if-holds, all-both, all-append, all-replicate, all-take, all-drop, none-pass}
+use Rattle.definition.proofs.Alls.{if-holds, all-both, all-replicate, all-take, all-drop, none-pass}
 use Rattle.definition.proofs.ValidTrees.{settings-agree}
 use Rattle.definition.proofs.ValidMemory.{load-store-kept, allocate-kept, deallocate-kept}
 use Rattle.definition.proofs.ValidFrames.{StateKept, valid-after, unchanged, in-memory-kept, closed-valid, new-call-kept, end-call-kept, retag-without-node-kept, retag-kept}

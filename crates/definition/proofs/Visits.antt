@@ -3,12 +3,12 @@
 use Prim.Native.Nat.{ℕ, zero, suc}
 use mathlib.Core.Path.{_≡_, refl, sym, ap, ap₂, _∙_}
 use mathlib.Core.Bool.{Bool, true, false}
-use mathlib.Core.Option.{Option, none, some}
-use mathlib.Core.List.{List, [], _∷_, map}
-use lib.ListN.{length, getD}
+use mathlib.Core.Option.{Option}
+use mathlib.Core.List.{List, [], _∷_}
+use lib.ListN.{length}
 use Rattle.definition.specs.Notation.{if_then_else_, _or_, firstRefusal, mapFrom}
-use Rattle.definition.specs.Permission.{AccessKind, NodeRelation, Permission, refusalBy, nextBy}
-use Rattle.definition.specs.Tree.{Node, noNode, nodeAt, parents, relation, visitingOrder, isSpared, Visit, rowRefusal, rowAfter, nodeRefusal, visitRefusal, nodeAfter, visited}
+use Rattle.definition.specs.Permission.{AccessKind, NodeRelation, Permission, nextBy}
+use Rattle.definition.specs.Tree.{Node, nodeAt, parents, relation, visitingOrder, isSpared, Visit, rowRefusal, rowAfter, nodeRefusal, visitRefusal, nodeAfter, visited}
 use Rattle.definition.proofs.Permissions.{Calm, calm-refused, calm-commute, calm-again}
 use Rattle.definition.proofs.Lists.{first-same, each-then, each-commute, each-length, each-map}
 

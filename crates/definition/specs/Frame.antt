@@ -1,12 +1,12 @@
 -- Frames: new call and end call. mem.rs: `TreeBorrowsFrameExtra`, `release_protector`, `new_call`, `end_call`; document 01: "Retag and frames".
 use Prim.Native.Nat.{ℕ}
 use mathlib.Core.Bool.{Bool, true, false, not, _||_}
-use mathlib.Core.Option.{Option, none, some}
+use mathlib.Core.Option.{some}
 use mathlib.Core.List.{List, [], _∷_, map}
 use lib.ListN.{getD, replicate, set}
-use Rattle.definition.specs.Notation.{if_then_else_, _when_, _or_, mutateAt, any}
+use Rattle.definition.specs.Notation.{_when_, _or_, mutateAt, any}
 use Rattle.definition.specs.Refusal.{neverMade, notProtected}
-use Rattle.definition.specs.Permission.{Permission, Protected, isYes, isProtected, unprotected, endAccess}
+use Rattle.definition.specs.Permission.{Protected, isYes, isProtected, unprotected, endAccess}
 use Rattle.definition.specs.Permission.Permission.{Unprot}
 use Rattle.definition.specs.Permission.PermissionUnprot.{Cell}
 use Rattle.definition.specs.Permission.Protected.{No}

@@ -1,7 +1,7 @@
 -- A retag's layout words, to a freeze mask. mem.rs: `LayoutStrategy`, `UnsafeCellStrategy`, `cells_to_freeze_mask`, `freeze_mask`;
 -- document 01: "Retag and frames". A mask has a Boolean for each byte: true where it lies outside all cells. No mask is refusal 3.
 use Prim.Native.Nat.{ℕ, zero, suc, _+_, _*_, _/_, _%_, _^_}
-use mathlib.Core.Bool.{Bool, true, false, not, _&&_, _||_}
+use mathlib.Core.Bool.{Bool, not, _&&_, _||_}
 use mathlib.Core.Option.{Option, none, some}
 use mathlib.Core.List.{List, [], _∷_, _++_, map}
 use lib.Dec.{eqb, leb, ltb}

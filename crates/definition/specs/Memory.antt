@@ -8,7 +8,7 @@ use lib.Dec.{eqb, leb, ltb}
 use lib.ListN.{length, getD, take, drop, replicate}
 use Rattle.definition.specs.Notation.{if_then_else_, _when_, _or_, mutateAt, writeAt, any, sumOf}
 use Rattle.definition.specs.Refusal.{neverMade, failsPick, misaligned, missingProvenance, deadAllocation, outOfBounds, awayFromStart, anotherKind, anotherSize, anotherAlignment, sizeExceeded, strongProtector, memoryLeak}
-use Rattle.definition.specs.Permission.{AccessKind, Permission, preventsDeallocation, isStrong}
+use Rattle.definition.specs.Permission.{AccessKind, preventsDeallocation, isStrong}
 use Rattle.definition.specs.Permission.AccessKind.{Read, Write}
 use Rattle.definition.specs.Permission.Permission.{Unprot}
 use Rattle.definition.specs.Permission.PermissionUnprot.{Unique}

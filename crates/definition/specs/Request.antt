@@ -1,17 +1,17 @@
 -- The words of a request, to its fields, and refusal 2. Document 01: "A run and its requests".
 use Prim.Native.Nat.{ℕ, _+_, _-_, _*_, _/_, _%_, _^_}
 use mathlib.Core.Bool.{Bool, true, false, not, _&&_, _||_}
-use mathlib.Core.Option.{Option, none, some}
+use mathlib.Core.Option.{none, some}
 use mathlib.Core.List.{List, [], _∷_}
 use lib.Dec.{eqb, ltb}
 use lib.ListN.{length, getD, drop}
 use Rattle.definition.specs.Notation.{if_then_else_, any}
-use Rattle.definition.specs.Permission.{AccessKind, Protected, SafePointer}
+use Rattle.definition.specs.Permission.{Protected, SafePointer}
 use Rattle.definition.specs.Permission.AccessKind.{Read, Write}
 use Rattle.definition.specs.Permission.Protected.{No, Weak, Strong}
 use Rattle.definition.specs.Permission.SafePointer.{SharedRef, MutableRef, Box}
 use Rattle.definition.specs.Layout.{FreezeMask}
-use Rattle.definition.specs.Memory.{Provenance, ThinPointer, AllocationKind, allocationKinds, MemoryAccess}
+use Rattle.definition.specs.Memory.{ThinPointer, AllocationKind, allocationKinds, MemoryAccess}
 use Rattle.definition.specs.Memory.AllocationKind.{Stack}
 use Rattle.definition.specs.Frame.{State, frameAt, frameCount, isOpen}
 use Rattle.definition.specs.Retag.{ReborrowSettings, reborrowSettings}

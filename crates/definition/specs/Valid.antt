@@ -5,7 +5,7 @@ use mathlib.Core.Bool.{Bool, true, false}
 use mathlib.Core.List.{List, [], _∷_}
 use lib.ListN.{length}
 use Rattle.definition.specs.Notation.{sumOf}
-use Rattle.definition.specs.Permission.{Permission, isProtected, isYes}
+use Rattle.definition.specs.Permission.{isProtected, isYes}
 use Rattle.definition.specs.Tree.{Node}
 use Rattle.definition.specs.Memory.{Memory, Allocation, isLive, size, isMisaligned, overlaps, bounds, nodeCount, codeCount, wasMade}
 use Rattle.definition.specs.Frame.{Frame, entries, State, frameCount}

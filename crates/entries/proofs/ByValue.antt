@@ -1,13 +1,11 @@
 -- Lists by value: an entry at a place, how many entries there are, and a lent list loaded.
-use Prim.Native.Nat.{ℕ, _+_, _<_, _≤_}
+use Prim.Native.Nat.{ℕ, _<_, _≤_}
 use mathlib.Core.Path.{_≡_, refl, sym, ap, _∙_}
-use mathlib.Core.List.{List, [], _∷_, _++_, map, map-append}
+use mathlib.Core.List.{List, [], _∷_}
 use native.Mathlib.Nat.{suc-ne-zero, suc-inj}
-use native.Mathlib.Numerals.{add-one}
 use native.Mathlib.Omega.{arith}
-use lib.ListN.{length, getD, take, set, replicate, length-map, length-replicate, List·getD-map}
-use lib.Seq.{length-take-le, take-suc-set, getD-take}
-use Rattle.definition.specs.Memory.{Provenance}
+use lib.ListN.{length, getD, take, replicate, length-map, length-replicate, List·getD-map}
+use lib.Seq.{length-take-le, getD-take}
 use Rattle.entries.specs.List.{provenanceOf, noEntry, firstOf, entriesOf, laid, loaded}
 use Rattle.entries.specs.declared.Entry.{Entry}
 use Rattle.entries.specs.declared.Entries.{Entries}

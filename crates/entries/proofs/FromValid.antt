@@ -1,14 +1,14 @@
 -- The frames of every valid state fit the buffer: 128 allocations, and 1,024 nodes in all.
-use Prim.Native.Nat.{ℕ, _<_, _≤_}
+use Prim.Native.Nat.{ℕ}
 use mathlib.Core.Path.{_≡_}
 use mathlib.Core.Bool.{true}
 use mathlib.Core.List.{List}
 use native.Mathlib.Omega.{arith}
 use Rattle.definition.specs.Memory.{Memory, Provenance, noAllocation, nodeCount, wasMade}
 use Rattle.definition.specs.Frame.{Frame, State, entries}
-use Rattle.definition.specs.Valid.{All, Valid, ValidFrame, ValidState}
+use Rattle.definition.specs.Valid.{Valid, ValidFrame, ValidState}
 use Rattle.definition.proofs.Alls.{all-imp}
-use Rattle.definition.proofs.ValidMemory.{Made, was-made}
+use Rattle.definition.proofs.ValidMemory.{was-made}
 use Rattle.definition.proofs.Counts.{part-of-sum}
 use Rattle.entries.specs.Buffer.{framesHeld, FitsEntry, FitsFrame, HoldsFrames}
 

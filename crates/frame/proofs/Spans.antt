@@ -1,6 +1,6 @@
 -- Between which allocations the entries of a list are, and how the marks and codes of these are put back after a refusal: the others stayed
 -- as they were.
-use Prim.Native.Nat.{ℕ, zero, suc, _+_, _-_, _*_, _/_, _≤_, _<_}
+use Prim.Native.Nat.{ℕ, _+_, _-_, _*_, _/_, _≤_, _<_}
 use mathlib.Core.Path.{_≡_, refl, sym, ap, ap₂, subst, _∙_}
 use mathlib.Core.Bool.{Bool, true, false}
 use mathlib.Core.List.{List, [], _∷_, _++_, append-assoc, append-nil}
@@ -11,7 +11,7 @@ use borrow.Rule.Slice.PartMut.{putMid, post-is}
 use lib.Dec.{eqb}
 use lib.ListN.{length, getD, take, drop, replicate, length-append, length-drop, take-append-drop, drop-of-length-le}
 use lib.Seq.{length-take-le, take-at, drop-at, take-suc, take-add, take-length, drop-drop}
-use Rattle.definition.specs.Notation.{if_then_else_, mutateAt}
+use Rattle.definition.specs.Notation.{if_then_else_}
 use Rattle.definition.specs.Memory.{Allocation, Memory, Provenance, wasMade}
 use Rattle.definition.specs.Frame.{releaseRefusal, afterReleaseIn, afterRelease, releaseAllRefusal, afterReleaseAll}
 use Rattle.definition.specs.Valid.{All}

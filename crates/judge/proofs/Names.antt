@@ -8,7 +8,6 @@ use native.Mathlib.Omega.{arith}
 use native.Mathlib.Decide.{decLt}
 use borrow.Author.Tests.{ne-eqb, le-leb, lt-leb}
 use lib.Dec.{eqb, leb}
-use lib.ListN.{length, drop, length-take, length-drop}
 use Rattle.definition.specs.Notation.{if_then_else_, any}
 use Rattle.definition.specs.Refusal.{memoryLeak}
 use Rattle.definition.specs.Memory as definition

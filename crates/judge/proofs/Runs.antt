@@ -7,12 +7,11 @@ use mathlib.Core.List.{List, [], _∷_, _++_, append-assoc, append-nil}
 use native.Mathlib.Omega.{arith}
 use native.Mathlib.Decide.{decLt}
 use native.Mathlib.Numerals.{add-one}
-use native.Mathlib.Nat.{zero-add, suc-add}
 use borrow.Author.Tests.{eqb-true, lt-ltb, le-ltb, ltb-true, leb-true, leb-false, not-true, not-false}
 use lib.Dec.{eqb, ltb, leb}
 use lib.ListN.{length, take, drop, length-append, length-drop, drop-of-length-le}
 use lib.Seq.{drop-drop, take-all, length-take-le, take-length}
-use Rattle.definition.specs.Notation.{if_then_else_, writeAt}
+use Rattle.definition.specs.Notation.{if_then_else_}
 use Rattle.definition.specs.Refusal.{memoryLeak}
 use Rattle.definition.specs.Memory.{Answer, Memory}
 use Rattle.definition.specs.Frame.{State, empty}

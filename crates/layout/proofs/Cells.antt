@@ -1,6 +1,6 @@
 -- Cells: the test that they fit, cell by cell, and a mask that is filled by ones and cleared cell by cell.
 use Prim.Native.Nat.{ℕ, suc, _+_, _-_, _%_, _≤_, _<_}
-use mathlib.Core.Path.{_≡_, refl, sym, ap, _∙_}
+use mathlib.Core.Path.{_≡_, sym, ap, _∙_}
 use mathlib.Core.Bool.{Bool, true, false}
 use mathlib.Core.List.{List, [], _∷_, _++_, map, map-append}
 use native.Mathlib.Nat.{zero-add, add-mod-right, mod-eq-of-lt, mod-lt}
@@ -11,7 +11,7 @@ use lib.Dec.{leb}
 use lib.ListN.{length, getD, take, drop, set, replicate, length-replicate, getD-replicate, drop-of-length-le, List·getD-append}
 use lib.Seq.{drop-cons, take-suc, getD-take, length-take-le, getD-set-same, getD-set-other}
 use borrow.Author.Tests.{le-leb, lt-leb}
-use Rattle.definition.specs.Notation.{if_then_else_, table, writeAt, any, inRange}
+use Rattle.definition.specs.Notation.{table, writeAt, any, inRange}
 use Rattle.definition.specs.Layout.{UnsafeCell, unsafeCell, cellsFit, isFreeze}
 use Rattle.definition.proofs.Lists.{table-length, table-at, table-map, is-table}
 use Rattle.definition.proofs.Writes.{write-none, write-length, write-set, before-write, within-write, behind-write}

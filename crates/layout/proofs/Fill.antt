@@ -14,7 +14,7 @@ use Rattle.definition.proofs.Lists.{table-length}
 use Rattle.definition.proofs.Writes.{write-none, write-parts}
 use Rattle.layout.specs.declared.Mask.{Mask}
 use Rattle.layout.specs.declared.Mask.the-variants.{Of, None, WrongLength}
-use Rattle.layout.specs.Filled.{maskByte, maskBytes, fitting, filled, Fills, elementsMask}
+use Rattle.layout.specs.Filled.{maskByte, maskBytes, fitting, Fills, elementsMask}
 use Rattle.layout.proofs.Lists.{drop-behind}
 use Rattle.layout.proofs.Cells.{mask-length, elements}
 

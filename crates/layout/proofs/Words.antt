@@ -5,10 +5,10 @@ use mathlib.Core.Bool.{Bool, true, false, not, _&&_, _||_, false≢true}
 use mathlib.Core.Option.{Option, none, some}
 use mathlib.Core.List.{List, [], _∷_, map}
 use native.Mathlib.Omega.{arith}
-use lib.Dec.{eqb, leb, ltb}
+use lib.Dec.{eqb, leb}
 use lib.ListN.{length, getD, take, drop, length-drop, drop-of-length-le}
 use lib.Seq.{take-all}
-use borrow.Author.Tests.{lt-ltb, le-ltb, leb-true, leb-false}
+use borrow.Author.Tests.{leb-true}
 use Rattle.definition.specs.Notation.{if_then_else_}
 use Rattle.definition.specs.Layout.{FreezeMask, UnsafeCell, LayoutStrategy, Header, PointerMeta, unsafeCell, cellsFit, header, pointerMeta, sizedMask, tupleMask, layoutMask, headerMask, nestedMask, freezeMask}
 use Rattle.definition.specs.Layout.LayoutStrategy.{Sized, Slice, TraitObject, Tuple}

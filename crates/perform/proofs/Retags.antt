@@ -1,5 +1,5 @@
 -- A retag in a run: its settings, the frame's room for the entry of an accepted one, its mask, and what is left in each case.
-use Prim.Native.Nat.{ℕ, _+_, _<_}
+use Prim.Native.Nat.{ℕ, _<_}
 use mathlib.Core.Path.{_≡_, refl, sym, ap, subst, _∙_}
 use mathlib.Core.Bool.{Bool, true, false}
 use mathlib.Core.Option.{Option, none, some}
@@ -18,7 +18,7 @@ use Rattle.definition.specs.Retag.{ReborrowSettings, retagWithoutNode, retag}
 use Rattle.definition.specs.Request.{Request, addsNoNode, pointer, frameNumber}
 use Rattle.definition.specs.Request as requests
 use Rattle.definition.specs.Run.{retagWithMask, performRetag}
-use Rattle.definition.specs.Valid.{All, ValidFrame, ValidState}
+use Rattle.definition.specs.Valid.{ValidFrame, ValidState}
 use Rattle.definition.proofs.ValidTrees.{settings-agree}
 use Rattle.definition.proofs.ValidFrames.{valid-after, retag-kept, closed-valid}
 use Rattle.definition.proofs.Alls.{all-getD, all-last}

@@ -1,15 +1,14 @@
 -- The functions of a code: at a permission's code they are the definition's; from 15 on nothing changes. And what an outcome says of the next code.
-use Prim.Native.Nat.{ℕ, _≤_, _<_}
+use Prim.Native.Nat.{ℕ, _≤_}
 use mathlib.Core.Path.{_≡_, refl, ap, _∙_}
 use mathlib.Core.Bool.{Bool, true, false}
 use mathlib.Core.Option.{Option, none, some}
 use native.Mathlib.Decide.{decLt}
 use native.Mathlib.Omega.{arith}
 use borrow.Author.Tests.{lt-ltb, le-ltb}
-use lib.Dec.{T, eqb, eqb→eq, ltb}
+use lib.Dec.{T, eqb, eqb→eq}
 use Rattle.definition.specs.Permission.{Permission, transition, permissionAfter, next, refusalBy, nextBy, isProtected, unprotected, endAccess, preventsDeallocation, initAccess, code, permission}
 use Rattle.definition.specs.Permission.AccessKind.{Read, Write}
-use Rattle.definition.specs.Permission.NodeRelation.{Local, Foreign}
 use Rattle.definition.specs.Permission.Outcome.{becomes, refused}
 use Rattle.definition.proofs.Permissions.{permission-code, code-permission, code-small}
 use Rattle.definition.specs.Permission as definition

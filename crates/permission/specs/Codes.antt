@@ -1,13 +1,13 @@
 -- The code's enums as the definition's data, and the definition's functions of a permission as functions of a code.
 use Prim.Native.Nat.{ℕ, _+_}
-use mathlib.Core.Bool.{Bool, true, false}
+use mathlib.Core.Bool.{Bool, false}
 use mathlib.Core.Option.{Option, none, some}
-use mathlib.Core.List.{List, [], _∷_, _++_}
+use mathlib.Core.List.{List, _++_}
 use lib.Dec.{ltb}
 use lib.ListN.{getD}
 use Rattle.definition.specs.Notation.{if_then_else_, _or_, table}
 use Rattle.definition.specs.Permission as definition
-use Rattle.definition.specs.Permission.{Permission, transition, refusal, next, refusalBy, nextBy, isProtected, unprotected, endAccess, preventsDeallocation, initAccess, code, permission}
+use Rattle.definition.specs.Permission.{Permission, transition, refusalBy, nextBy, isProtected, unprotected, endAccess, preventsDeallocation, initAccess, code, permission}
 use Rattle.definition.specs.Permission.Outcome.{becomes, refused}
 use Rattle.permission.specs.declared.AccessKind.{AccessKind}
 use Rattle.permission.specs.declared.AccessKind.the-variants.{Read, Write}

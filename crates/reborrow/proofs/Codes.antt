@@ -1,5 +1,5 @@
 -- The codes of a retag's bytes stand for its permissions, and a byte's code depends on that byte of the mask alone.
-use Prim.Native.Nat.{ℕ, zero, suc, _+_, _≤_, _<_}
+use Prim.Native.Nat.{ℕ, suc, _+_, _≤_, _<_}
 use mathlib.Core.Path.{_≡_, refl, sym, ap, ap₂, _∙_}
 use mathlib.Core.Bool.{Bool, true, false, not}
 use mathlib.Core.List.{List, [], _∷_, _++_, map, append-nil}
@@ -8,7 +8,7 @@ use lib.ListN.{length, getD, set, take, drop, replicate, length-map, length-repl
 use lib.Seq.{take-all}
 use lib.Dec.{eqb}
 use Rattle.definition.specs.Notation.{if_then_else_, writeAt}
-use Rattle.definition.specs.Permission.{Permission, code, permission}
+use Rattle.definition.specs.Permission.{code, permission}
 use Rattle.definition.specs.Layout.{FreezeMask}
 use Rattle.definition.specs.Retag as definition
 use Rattle.definition.specs.Retag.{startPerm}

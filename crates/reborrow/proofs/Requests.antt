@@ -3,7 +3,7 @@ use Prim.Native.Nat.{ℕ, zero, suc, _≤_}
 use mathlib.Core.Path.{_≡_, refl, sym, ap, ap₂, subst, _∙_}
 use mathlib.Core.Bool.{Bool, true, false, not, _&&_, false≢true}
 use mathlib.Core.Option.{Option, none, some}
-use mathlib.Core.List.{List, [], _∷_, _++_, map}
+use mathlib.Core.List.{List, [], _∷_, map}
 use native.Mathlib.Nat.{zero-add}
 use native.Mathlib.Omega.{arith}
 use borrow.Author.Tests.{eq-eqb, ne-eqb}
@@ -12,7 +12,7 @@ use lib.ListN.{length, take, length-map}
 use Rattle.definition.specs.Notation.{if_then_else_, _when_, mutateAt, writeAt}
 use Rattle.definition.specs.Refusal.{neverMade}
 use Rattle.definition.specs.Layout.{FreezeMask}
-use Rattle.definition.specs.Memory.{Provenance, ThinPointer, hasNone, allocationOf, Allocation, Memory, allocationAt, Answer, refusedWith, givesPointer, unlessRefused, namesNeverMade, checkPtr}
+use Rattle.definition.specs.Memory.{Provenance, ThinPointer, hasNone, allocationOf, Allocation, allocationAt, Answer, refusedWith, givesPointer, unlessRefused, namesNeverMade, checkPtr}
 use Rattle.definition.specs.Frame.{State}
 use Rattle.definition.specs.Retag.{ReborrowSettings, reborrowRefusal, afterReborrowIn, acceptReborrow, reborrow, retagWithoutNode, retag}
 use Rattle.definition.proofs.Alls.{if-holds, outcome-holds}
@@ -26,7 +26,7 @@ use Rattle.pointer.specs.declared.Provenance.the-variants.{Of}
 use Rattle.answer.specs.Answer.{answerOf}
 use Rattle.answer.specs.declared.Answer as code
 use Rattle.answer.specs.declared.Answer.the-variants.{Refused, Pointer}
-use Rattle.tables.specs.Encoding.{wordsOf, concatMap, pad, held}
+use Rattle.tables.specs.Encoding.{wordsOf, held}
 use Rattle.tables.specs.Held.{buffers, Holds, Trees}
 use Rattle.tables.proofs.ReadBack.{encode-of, holds-words}
 use Rattle.tables.proofs.Focus.{held-kept}

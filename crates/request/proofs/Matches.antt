@@ -7,7 +7,6 @@ use native.Mathlib.Omega.{arith}
 use lib.ListN.{getD}
 use denote.Enum.Declared.{tagOf}
 use types.Run.{OneOf, miss}
-use Rattle.definition.specs.Permission.{SafePointer}
 use Rattle.definition.specs.Permission.SafePointer.{SharedRef, MutableRef, Box}
 use Rattle.definition.specs.Frame.{State}
 use Rattle.definition.specs.Request.{followingLength, isMalformed}

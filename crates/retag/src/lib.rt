@@ -5,7 +5,6 @@ use entries::Entry;
 use entries::put_if;
 use layout::Mask;
 use permission::Protected;
-use permission::SafePointer;
 use pointer::Provenance;
 use pointer::ThinPointer;
 use reborrow::ReborrowSettings;

@@ -17,7 +17,7 @@ use Rattle.definition.specs.Retag.{ofNode}
 use Rattle.definition.proofs.ValidMemory.{Room, room}
 use Rattle.definition.proofs.Parts.{map-replicate}
 use Rattle.tables.specs.Encoding.{protectorNumber, recordOf, parentsOf, protectorsOf, wordsOf, rowOf, codesOf, concatMap, held, encode}
-use Rattle.tables.specs.Held.{buffers, Holds, startOf, Records, StartsAt, AllocationFits, Appended, inserted, withNode, Trees, NodeFits, PlaceFor, Used, ZerosFrom}
+use Rattle.tables.specs.Held.{buffers, Holds, startOf, Records, StartsAt, AllocationFits, Appended, inserted, withNode, Trees, NodeFits, Used, ZerosFrom}
 use Rattle.tables.proofs.Inserts.{held-zeros}
 use Rattle.tables.proofs.Parts.{put-paste}
 use Rattle.tables.proofs.Focus.{concat-append, length-held, focus-used, focus-same, focus-set, focus-insert, focus-append, focus-append-zeros}

@@ -5,7 +5,7 @@
 // `size` codes for each node. Each is contiguous by allocation, and zero behind the last.
 ghost use mathlib.Core.Path.{_≡_};
 ghost use mathlib.Core.List.{_∷_, [], _++_};
-ghost use Prim.Native.Nat.{ℕ, _+_, _-_, _*_, _<_, _≤_};
+ghost use Prim.Native.Nat.{_+_, _-_, _*_, _<_, _≤_};
 ghost use lib.ListN.{length, getD, take, drop, replicate};
 ghost use lib.Seq.{paste};
 ghost use Rattle.definition.specs.Notation.{mutateAt, writeAt};

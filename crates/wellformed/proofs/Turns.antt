@@ -1,14 +1,14 @@
 -- What one turn of each loop says: the test of what is left is the test of the next one, or that of the rest.
 use Prim.Native.Nat.{ℕ, suc, _+_, _-_, _*_, _≤_, _<_}
-use mathlib.Core.Path.{_≡_, refl, sym, ap, _∙_}
-use mathlib.Core.Bool.{Bool, true, false, _||_, false≢true}
+use mathlib.Core.Path.{_≡_}
+use mathlib.Core.Bool.{Bool, false, _||_}
 use mathlib.Core.List.{List}
-use native.Mathlib.Nat.{add-zero, suc-mul, le-trans, mul-le-mul-right, mul-le-mul-left}
+use native.Mathlib.Nat.{suc-mul, le-trans, mul-le-mul-right, mul-le-mul-left}
 use native.Mathlib.Numerals.{add-one}
 use native.Mathlib.Omega.{arith}
 use borrow.Author.Tests.{eq-eqb, ne-eqb}
 use lib.ListN.{getD, take, drop}
-use lib.Seq.{getD-drop, drop-drop}
+use lib.Seq.{drop-drop}
 use Rattle.definition.specs.Notation.{any}
 use Rattle.definition.specs.Memory.{rangesOverlap}
 use Rattle.definition.proofs.Parts.{getD-first}

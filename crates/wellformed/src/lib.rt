@@ -1,11 +1,11 @@
 // Whether five lent buffers hold a memory (refusal 1): one pass over what is used, one over the rest, and pairs of allocations.
 ghost use mathlib.Core.Path.{_≡_};
 ghost use Prim.Native.Nat.{_+_, _-_, _*_, _<_, _≤_};
-ghost use lib.ListN.{length, getD, drop};
+ghost use lib.ListN.{length, drop};
 ghost use Rattle.definition.specs.Notation.{any};
 ghost use Rattle.definition.specs.Request.{nonzero};
 ghost use Rattle.tables.specs.Held.{buffers};
-ghost use Rattle.wellformed.specs.WellFormed.{badRecord, badWord, badPlace, badCode, badNodes, Nodes, badAllocation, Front, badRest, badAllocations, clashes, clashesLater, clashesFirst, anyClash, wellFormed, Decides};
+ghost use Rattle.wellformed.specs.WellFormed.{badRecord, badWord, badPlace, badCode, badNodes, Nodes, badAllocation, Front, badRest, badAllocations, clashes, clashesFirst, anyClash, wellFormed, Decides};
 
 // ---- something other than zero
 pub fn any_nonzero_u8(b: &[u8]) -> bool

@@ -1,7 +1,6 @@
 -- A walk of the code by hand, with a branch. Below the length the borrow is opened and the entry stored; past it the borrow stays shut, and `set`
 -- changes nothing. What follows the branch is one lemma, `ends`, in which both arms end.
-use mathlib.Core.Path.{_≡_, refl, sym, ap, subst, _∙_}
-use mathlib.Core.Bool.{not}
+use mathlib.Core.Path.{_≡_, refl, sym, ap, subst}
 use lib.Dec.{T, ltb, ltb→lt, nltb→le}
 use Prim.Native.Nat.{ℕ, _<_, _*_, _^_}
 use mathlib.Core.List.{List, [], _∷_}
@@ -19,7 +18,7 @@ use prog.Wp.{Heap, Env, Calls, Loops, WpFn, Tables}
 use ghost.Atoms.{Atoms}
 use contract.Monad.{Fun}
 use contract.Running.{givenOf, tables, tablesOf}
-use types.Kit.{Given, Item, ‵, _⊛_, ⋆, runs, Sq, atRet, _$_, _∵_, !, qed, by, move, keep, drop, split, join, rewrite, fsplit, fjoin, feqI, suffices, frame, done}
+use types.Kit.{Given, ‵, _⊛_, ⋆, runs, Sq, atRet, _$_, _∵_, !, qed, by, move, keep, drop, split, join, rewrite, fsplit, fjoin, feqI, suffices, frame, done}
 use types.Part.{whole, sub, look-in}
 use types.Run.{look, store-raw, init, forget, stop, hop, fld, from, load, lit, unit-lit, of-opd, bin, assigns, assigns-last, first, skips, branches, exec, returns, enter, alloc1, alloc0, params1, pass1, pass0, free1, free0}
 use sound.WpLaws.{WpFn-mono}

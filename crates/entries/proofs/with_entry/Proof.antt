@@ -1,5 +1,5 @@
 -- Past the last of the 64 places the list is left as it is, by the code and by `set`.
-use mathlib.Core.Path.{_≡_, sym}
+use mathlib.Core.Path.{sym}
 use native.Mathlib.Omega.{arith}
 use borrow.Author.Needs.{needs}
 use lib.Seq.{set-out}

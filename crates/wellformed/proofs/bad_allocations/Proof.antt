@@ -3,7 +3,6 @@ use Prim.Native.Nat.{ℕ, _≤_, _-_, _*_}
 use mathlib.Core.Path.{_≡_, sym, ap, _∙_}
 use native.Mathlib.Nat.{sub-zero}
 use native.Mathlib.Omega.{arith}
-use borrow.Author.Needs.{needs}
 use lib.ListN.{length, drop}
 use Rattle.wellformed.proofs.Walk.{walk-front, walk-bad, walk-on, walk-parents, walk-protectors, walk-words, walk-codes, walk-rest}
 use Rattle.wellformed.specs.WellFormed.{badAllocations}

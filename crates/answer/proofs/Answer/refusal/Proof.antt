@@ -1,10 +1,7 @@
 -- Each case of the enum has its number.
-use native.Mathlib.Omega.{arith}
 use borrow.Author.Needs.{needs}
 use Rattle.answer.proofs.Answer.refusal.Statement.{statement}
 use Rattle.answer.proofs.Answer.refusal.Tie as tie
-use Rattle.answer.proofs.Answer.refusal.Reads as reads
-use Rattle.answer.proofs.Answer.refusal.Lts as lts
 
 -- src/lib.rt:26:29
 enum-known-self : tie.Need-enum-known-self
