@@ -8,10 +8,9 @@ use borrow.Author.Tests.{eq-eqb, ne-eqb, le-leb, le-ltb, ltb-true, ltb-false, no
 use lib.Dec.{eqb, leb, ltb}
 use lib.ListN.{length, getD}
 use Rattle.definition.specs.Notation.{_when_}
-use Rattle.definition.specs.Memory.{ThinPointer, hasNone, isLive, Allocation, size, kindNumber, nodeCount, Memory, noAllocation, allocationAt, wasMade, namesNeverMade, isOutside, checkPtr, target}
-use Rattle.definition.specs.Valid.{ValidAllocation}
+use Rattle.definition.specs.Memory.{ThinPointer, hasNone, isLive, Allocation, size, kindNumber, nodeCount, Memory, allocationAt, wasMade, namesNeverMade, isOutside, checkPtr, target}
 use Rattle.definition.proofs.ValidMemory.{was-made}
-use Rattle.definition.proofs.Places.{all-at}
+use Rattle.definition.proofs.Places.{valid-at}
 use Rattle.pointer.specs.Pointer.{provenanceOf, thinPointerOf}
 use Rattle.pointer.specs.declared.ThinPointer as pointer
 use Rattle.pointer.specs.declared.Provenance.the-variants.{None, Of}
@@ -89,7 +88,7 @@ module _ {m : Memory} {A : List ℕ} (h : Records m A) {a : ℕ} (made : a < len
   read-dead e = sym read-state ∙ ne-eqb (r .state) 1 e
 
   pub read-space : r .address + r .size < 2 ^ 64
-  read-space = rw (read-address, read-size) (all-at ValidAllocation m a noAllocation (h .valid .each) made .inSpace)
+  read-space = rw (read-address, read-size) (valid-at m a (h .valid) made .inSpace)
 
 -- ---- a pointer that has provenance
 module _ {m : Memory} {A : List ℕ} (p : pointer.ThinPointer) {a n : ℕ} (e : p .provenance ≡ Of a n) (h : Points m A (provenanceOf (p .provenance))) where

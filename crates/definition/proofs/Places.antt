@@ -6,7 +6,8 @@ use native.Mathlib.Nat.{zero-add, add-zero}
 use native.Mathlib.Omega.{arith}
 use lib.ListN.{length, getD}
 use Rattle.definition.specs.Notation.{mapFrom, mutateAt}
-use Rattle.definition.specs.Valid.{All, AllFrom}
+use Rattle.definition.specs.Memory.{Memory, noAllocation, allocationAt}
+use Rattle.definition.specs.Valid.{All, AllFrom, ValidAllocation, Valid}
 
 module _ {A : Type 0} where
   -- what holds of each element, and of each and its number, holds of the one at place i
@@ -44,3 +45,7 @@ module _ {A : Type 0} where
   mutate-same f g d [] n e = refl
   mutate-same f g d (x ∷ xs) zero e = ap (λ (y : A). y ∷ xs) e
   mutate-same f g d (x ∷ xs) (suc n) e = ap (λ (l : List A). x ∷ l) (mutate-same f g d xs n e)
+
+-- ---- an allocation of a well-formed memory
+pub valid-at : (m : Memory) (n : ℕ) → Valid m → n < length m → ValidAllocation (allocationAt m n)
+valid-at m n v made = all-at ValidAllocation m n noAllocation (v .each) made

@@ -24,6 +24,11 @@ use Rattle.definition.proofs.Writes.{write-length}
 use Rattle.definition.proofs.Visits.{visited-length}
 use Rattle.definition.proofs.Alls.{if-holds, all-each, all-write, all-replicate, all-map, allFrom-imp, allFrom-each, allFrom-mutate, allFrom-append}
 
+-- ---- the rows
+pub rows-wide : (bytes : ℕ) (live : Bool) (n : ℕ) (nodes : List Node) → AllFrom n (ValidNode bytes live) nodes → All (λ x. length (x .permissions) ≡ bytes) nodes
+rows-wide bytes live n [] v = tt
+rows-wide bytes live n (x ∷ nodes) v = (v .0 .wide, rows-wide bytes live (suc n) nodes (v .1))
+
 -- ---- permissions
 after-wrapped : {P : Type 0} (wrap : P → Permission) (b : Bool) → ((q : P) → isProtected (wrap q) ≡ b) → (q : P) (o : Outcome P)
     → isProtected (permissionAfter (wrap q) (wrapped wrap o)) ≡ b

@@ -1,5 +1,5 @@
 -- One allocation's parts of the tables hold its tree, and the tree that a release leaves makes the tables of the memory after it.
-use Prim.Native.Nat.{ℕ, suc, _+_, _-_, _*_, _≤_, _<_}
+use Prim.Native.Nat.{ℕ, _+_, _-_, _*_, _≤_, _<_}
 use mathlib.Core.Path.{_≡_, refl, sym, ap, subst, _∙_}
 use mathlib.Core.Bool.{Bool, true, false, false≢true}
 use mathlib.Core.List.{List, [], _∷_, _++_, map}
@@ -11,14 +11,14 @@ use Rattle.definition.specs.Notation.{if_then_else_}
 use Rattle.definition.specs.Permission.{Protected}
 use Rattle.definition.specs.Permission.Protected.{No, Weak, Strong}
 use Rattle.definition.specs.Tree.{Node, noNode}
-use Rattle.definition.specs.Memory.{Allocation, Liveness, Memory, Provenance, noAllocation, allocationAt, size, nodeCount, codeCount, isLive}
+use Rattle.definition.specs.Memory.{Allocation, Liveness, Memory, Provenance, allocationAt, size, nodeCount, codeCount, isLive}
 use Rattle.definition.specs.Memory.Liveness.{Live, Dead}
 use Rattle.definition.specs.Frame.{releasedNodes, releaseRefusalIn, releaseRefusal, afterReleaseIn, afterRelease}
-use Rattle.definition.specs.Valid.{All, AllFrom, ValidNode, ValidAllocation, Valid}
-use Rattle.definition.proofs.Places.{allFrom-at, all-at}
+use Rattle.definition.specs.Valid.{ValidNode, ValidAllocation}
+use Rattle.definition.proofs.Places.{allFrom-at, valid-at}
 use Rattle.definition.proofs.Trees.{valid-tree}
 use Rattle.definition.proofs.ValidMemory.{Made}
-use Rattle.definition.proofs.ValidTrees.{released-valid, released-length}
+use Rattle.definition.proofs.ValidTrees.{released-valid, released-length, rows-wide}
 use Rattle.tables.specs.Encoding.{protectorNumber, parentsOf, protectorsOf, wordsOf, rowOf, codesOf, concatMap, held}
 use Rattle.tables.specs.Held.{buffers, Holds, Records, StartsAt}
 use Rattle.tables.proofs.Focus.{length-held, focus-same}
@@ -57,13 +57,6 @@ unfolding protectorsOf
 protectors-marks a = same-marks (a .nodes)
 
 -- ---- a well-formed allocation's tree
-pub valid-at : (m : Memory) (n : ℕ) → Valid m → n < length m → ValidAllocation (allocationAt m n)
-valid-at m n v made = all-at ValidAllocation m n noAllocation (v .each) made
-
-rows-wide : (bytes : ℕ) (live : Bool) (n : ℕ) (nodes : List Node) → AllFrom n (ValidNode bytes live) nodes → All (λ x. length (x .permissions) ≡ bytes) nodes
-rows-wide bytes live n [] v = tt
-rows-wide bytes live n (x ∷ nodes) v = (v .0 .wide, rows-wide bytes live (suc n) nodes (v .1))
-
 module _ (a : Allocation) (v : ValidAllocation a) where
   holds-rows : HoldsRows (a .nodes) (size a) (codesOf a)
   holds-rows = record { rows = codes-rows a; wide = rows-wide (size a) (isLive (a .state)) 0 (a .nodes) (v .nodes) }

@@ -15,7 +15,7 @@ use Rattle.definition.specs.Frame.{State}
 use Rattle.definition.specs.Retag.{ReborrowSettings, childNode, withChild, initRefusal, afterInit, ofNode, reborrowRefusal, afterReborrowIn}
 use Rattle.definition.specs.Valid.{Valid}
 use Rattle.definition.proofs.Lists.{mutate-length, mutate-twice}
-use Rattle.definition.proofs.Places.{mutate-here, mutate-same}
+use Rattle.definition.proofs.Places.{mutate-here, mutate-same, valid-at}
 use Rattle.definition.proofs.Trees.{valid-tree}
 use Rattle.definition.proofs.Retags.{readsRefusal, readsVisit, reads-at-once, child-readable, retag-refusal}
 use Rattle.definition.proofs.ValidTrees.{ValidNodes, withChild-valid, settings-agree}
@@ -33,7 +33,7 @@ use Rattle.reborrow.specs.declared.TreePart.{TreePart}
 use Rattle.reborrow.specs.Retag.{HoldsNodes, PartOf, TreeAt, boundsRefusal, Reached, afterVisit, Fits, Passed, Added, Asked}
 use Rattle.reborrow.proofs.Codes.{inside-length, inside-permissions, row-of-child, row-long}
 use Rattle.reborrow.proofs.Tests.{pointerAt, points-at, placed, refusal-split, or-first, passed-at}
-use Rattle.reborrow.proofs.Parts.{trees-of, tree-at, valid-at, visited-trees}
+use Rattle.reborrow.proofs.Parts.{trees-of, tree-at, visited-trees}
 
 module _ (settings : code.ReborrowSettings) (mask : FreezeMask) {codes : List ℕ} (e : codes ≡ startCodes settings mask) (addr n node : ℕ) (m : Memory) (valid : Valid m)
     (h : Passed m n node addr (length codes)) where

@@ -1,7 +1,6 @@
 -- An allocation's parts of the tables hold its tree, and the tree as a visit leaves it makes the tables of the memory after the visit.
-use Prim.Native.Nat.{ℕ, suc, _+_, _-_, _*_, _≤_, _<_}
+use Prim.Native.Nat.{ℕ, _+_, _-_, _*_, _≤_, _<_}
 use mathlib.Core.Path.{_≡_, refl, sym, ap, ap₂, _∙_}
-use mathlib.Core.Bool.{Bool}
 use mathlib.Core.List.{List, [], _∷_, _++_, append-nil}
 use native.Mathlib.Omega.{arith}
 use borrow.Rule.Slice.PartMut.{putMid}
@@ -10,12 +9,12 @@ use Rattle.definition.specs.Notation.{sumOf, mutateAt}
 use Rattle.definition.specs.Permission.{code}
 use Rattle.definition.specs.Tree.{Node, parents, Visit, nodeAfter, visited}
 use Rattle.definition.specs.Memory.{Allocation, Memory, noAllocation, allocationAt, size, nodeCount, kindNumber, isLive}
-use Rattle.definition.specs.Valid.{All, AllFrom, ValidNode, ValidAllocation, Valid}
+use Rattle.definition.specs.Valid.{ValidAllocation, Valid}
 use Rattle.definition.proofs.Lists.{each-map, take-mutate}
-use Rattle.definition.proofs.Places.{mutate-here, all-at}
+use Rattle.definition.proofs.Places.{mutate-here, valid-at}
 use Rattle.definition.proofs.Trees.{valid-tree}
 use Rattle.definition.proofs.Visits.{visited-length, visited-parents}
-use Rattle.definition.proofs.ValidTrees.{visited-valid}
+use Rattle.definition.proofs.ValidTrees.{visited-valid, rows-wide}
 use Rattle.tables.specs.Encoding.{protectorNumber, stateNumber, recordOf, parentsOf, protectorsOf, wordsOf, rowOf, codesOf, concatMap, held}
 use Rattle.tables.specs.declared.Allocation as record-read
 use Rattle.tables.specs.Held.{startOf, Records, StartsAt, Used, withNode, Trees, PlaceFor}
@@ -43,14 +42,7 @@ codes-rows : (a : Allocation) → codesOf a ≡ rowsOf (a .nodes)
 unfolding codesOf
 codes-rows a = rows-same (a .nodes)
 
-rows-wide : (bytes : ℕ) (live : Bool) (n : ℕ) (nodes : List Node) → AllFrom n (ValidNode bytes live) nodes → All (λ x. length (x .permissions) ≡ bytes) nodes
-rows-wide bytes live n [] v = tt
-rows-wide bytes live n (x ∷ nodes) v = (v .0 .wide, rows-wide bytes live (suc n) nodes (v .1))
-
 -- ---- a well-formed allocation's tree
-pub valid-at : (m : Memory) (n : ℕ) → Valid m → n < length m → ValidAllocation (allocationAt m n)
-valid-at m n v made = all-at ValidAllocation m n noAllocation (v .each) made
-
 module _ (a : Allocation) (v : ValidAllocation a) where
   holds-tree : Holds (a .nodes) (size a) (parentsOf a) (codesOf a)
   unfolding parentsOf

@@ -7,11 +7,11 @@ use lib.ListN.{length, take, drop, getD}
 use Rattle.definition.proofs.Alls.{all-append, all-map}
 use Rattle.definition.proofs.Permissions.{code-small}
 use Rattle.definition.specs.Memory as definition
-use Rattle.definition.specs.Memory.{Memory, noAllocation, allocationAt, isLive, size}
+use Rattle.definition.specs.Memory.{Memory, allocationAt, isLive, size}
 use Rattle.definition.specs.Permission.{code}
 use Rattle.definition.specs.Tree.{Node}
 use Rattle.definition.specs.Valid.{All, ValidAllocation}
-use Rattle.definition.proofs.Places.{all-at}
+use Rattle.definition.proofs.Places.{valid-at}
 use Rattle.tables.proofs.Focus.{focus-part, focus-room}
 use Rattle.tables.proofs.Lookup.{state-at, kind-at, exponent-at, address-at, size-at, start-more}
 use Rattle.tables.proofs.ReadBack.{liveness-back, kind-back, nodes-back, holds-parents, holds-protectors, holds-words, holds-codes, holds-records}
@@ -47,7 +47,7 @@ rows-valid (x ∷ nodes) =
 -- ---- the allocation that its numbers are read as
 module _ {m : Memory} {A : List ℕ} (h : Records m A) (a : ℕ) (made : a < length m) where
   its-valid : ValidAllocation (allocationAt m a)
-  its-valid = all-at ValidAllocation m a noAllocation (h .valid .each) made
+  its-valid = valid-at m a (h .valid) made
 
   codes-valid : All (λ (c : ℕ). c < 15) (codesOf (allocationAt m a))
   unfolding codesOf

@@ -10,10 +10,10 @@ use lib.Seq.{take-at, drop-at, drop-drop}
 use Rattle.definition.specs.Notation.{sumOf}
 use Rattle.definition.specs.Permission.{code}
 use Rattle.definition.specs.Tree.{Node, nodeAt}
-use Rattle.definition.specs.Memory.{Allocation, Memory, size, nodeCount, codeCount, allocationAt, noAllocation}
+use Rattle.definition.specs.Memory.{Allocation, Memory, size, nodeCount, codeCount, allocationAt}
 use Rattle.definition.specs.Valid.{All, AllFrom, ValidNode, ValidAllocation, Valid}
 use Rattle.definition.proofs.Alls.{all-imp}
-use Rattle.definition.proofs.Places.{all-at}
+use Rattle.definition.proofs.Places.{valid-at}
 use Rattle.tables.specs.Encoding.{recordOf, parentsOf, protectorsOf, wordsOf, rowOf, codesOf, concatMap}
 
 -- ---- one allocation
@@ -94,4 +94,4 @@ module _ (m : Memory) (v : Valid m) where
   codes-fit = omega (arith, codes-used m (v .each), v .bounded .codes)
 
   pub codes-at : (a : ℕ) → a < length m → length (codesOf (allocationAt m a)) ≡ codeCount (allocationAt m a)
-  codes-at a h = length-codes (allocationAt m a) (all-at ValidAllocation m a noAllocation (v .each) h)
+  codes-at a h = length-codes (allocationAt m a) (valid-at m a v h)
