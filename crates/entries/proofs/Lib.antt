@@ -4,4 +4,3 @@ pub mod FrameWords
 pub mod Frames
 pub mod FromValid
 pub mod Rows
-pub mod Lent

@@ -11,8 +11,8 @@ use Rattle.definition.specs.Notation.{if_then_else_, _when_, _or_, any}
 use Rattle.definition.specs.Refusal.{neverMade}
 use Rattle.definition.specs.Memory as definition
 use Rattle.definition.specs.Memory.{Allocation, Memory, Provenance, refusedWith, wasMade}
-use Rattle.definition.specs.Frame.{Frame, State, frameAt, entries, afterReleaseIn, releaseAllRefusal, afterReleaseAll, endCallRefusal, acceptEndCall, endCall, newCall}
-use Rattle.definition.specs.Frame.Frame.{Closed, Open}
+use Rattle.definition.specs.Frame.{Frame, State, frameAt, entries, afterReleaseIn, releaseAllRefusal, afterReleaseAll, endCallRefusal, acceptEndCall, endCall}
+use Rattle.definition.specs.Frame.Frame.{Closed}
 use Rattle.definition.specs.Valid.{All, Valid}
 use Rattle.definition.proofs.Alls.{if-holds, all-imp, none-pass}
 use Rattle.definition.proofs.Booleans.{not-not-false}
@@ -141,12 +141,8 @@ module _ (f : ℕ) (s : State) where
       go zero = refl
       go (suc n) = ap (λ (b : Bool). if b then set (s .frames) f Closed else s .frames) (sym (nonzero n))
 
--- ---- the frames' buffer: a new call opens its frame, an accepted end call closes it, a refused one leaves all
+-- ---- the frames' buffer: an accepted end call closes its frame, a refused one leaves all
 module _ (f : ℕ) (s : State) {buffer : List ℕ} where
-  pub new-call-frames : HoldsFrames (set (s .frames) f (Open [])) buffer → HoldsFrames (newCall f s .1 .frames) buffer
-  unfolding newCall
-  new-call-frames h = h
-
   pub accepted-frames : endCallRefusal (s .memory) (entries (frameAt s f)) ≡ 0 → HoldsFrames (set (s .frames) f Closed) buffer
       → HoldsFrames (endCall f s .1 .frames) buffer
   accepted-frames e h =

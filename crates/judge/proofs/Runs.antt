@@ -120,9 +120,6 @@ module _ {s : State} {run : List ℕ} {p : Place} {before : List ℕ} {r : Place
   abbrev outcome : Answer × State
   outcome = step s (nextRequest bytes)
 
-  abbrev isLast : Bool
-  isLast = not (eqb (outcome .0 .refusal) 0)
-
   some-bytes : 0 < length bytes
   some-bytes = omega (arith, length-drop (p .from) run)
 

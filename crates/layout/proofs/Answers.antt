@@ -1,23 +1,17 @@
 -- What a caller learns from the answer of `freeze_mask_within`, and of `freeze_mask`, if it lends a buffer of 4,096 bytes.
 use Prim.Native.Nat.{ℕ, _≤_}
 use mathlib.Core.Path.{_≡_, refl, sym, ap, _∙_}
-use mathlib.Core.Bool.{false}
 use mathlib.Core.Option.{Option, none, some}
 use mathlib.Core.List.{List}
 use native.Mathlib.Omega.{arith}
-use lib.ListN.{length, getD, take, drop, List·getD-map}
+use lib.ListN.{length, take, drop}
 use lib.Seq.{take-at}
 use borrow.Author.Tests.{eq-eqb}
 use Rattle.definition.specs.Layout.{FreezeMask, freezeMask}
 use Rattle.layout.specs.declared.Mask.the-variants.{Of, None, WrongLength}
-use Rattle.layout.specs.Filled.{maskByte, maskBytes, fitting, lengthOf, filled, Fills, answered, afterwards}
+use Rattle.layout.specs.Filled.{maskBytes, fitting, lengthOf, filled, Fills, answered, afterwards}
 use Rattle.layout.proofs.Fill.{bytes-length, written, fitting-some}
 use Rattle.layout.proofs.Bounded.{mask-bounded}
-
--- byte b of a mask
-pub mask-byte : (mask : FreezeMask) (b : ℕ) → getD (maskBytes mask) b 0 ≡ maskByte (getD mask b false)
-unfolding maskBytes
-mask-byte mask b = List·getD-map maskByte mask b false
 
 -- a mask that the words have, of the answered length, in the front of the filled buffer
 pub record HasMask (ws before after : List ℕ) (n : ℕ) : Type 0 where
@@ -71,10 +65,6 @@ module _ (ws buffer : List ℕ) (whole : length buffer ≡ 4096) where
       go : (x : Option FreezeMask) → freezeMask ws ≡ x → freezeMask ws ≡ none
       go none d = d
       go (some m) d = let r : None ≡ lengthOf (freezeMask ws) = e ∙ asks in let s : None ≡ Of (length m) = rw d at r in let z : _≡_ {A = ℕ} 0 1 = cc in absurd (omega arith)
-
-  -- without a mask the buffer is as before
-  pub kept-none : freezeMask ws ≡ none → afterwards ws buffer ≡ buffer
-  kept-none d = holds ∙ rw d
 
   pub answers-right : WrongLength ≡ answered ws buffer → ⊥
   answers-right e = go (freezeMask ws) refl

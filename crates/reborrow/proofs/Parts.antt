@@ -99,12 +99,6 @@ module _ {m : Memory} {n : ℕ} {P C : List ℕ} {r : TreePart} (h : TreeAt m n 
   pub first-small : r .first ≤ 1024
   first-small = omega (arith, h .part .first, focus-used 1024 parentsOf m n made, parents-fit m (h .valid))
 
-  pub first-behind : r .first ≤ r .behind
-  first-behind = omega (arith, h .part .first, h .part .behind)
-
-  pub start-end : r .start ≤ r .end
-  start-end = omega (arith, h .part .start, h .part .end)
-
   nodes-long : r .behind - r .first ≡ length (parentsOf (allocationAt m n))
   nodes-long = omega (arith, h .part .first, h .part .behind, length-parents (allocationAt m n))
 

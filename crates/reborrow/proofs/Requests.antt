@@ -1,15 +1,14 @@
 -- A retag by its cases, and what is left to its caller: the frames, and that five buffers hold the memory afterwards.
-use Prim.Native.Nat.{ℕ, zero, suc, _≤_}
+use Prim.Native.Nat.{ℕ, zero, suc}
 use mathlib.Core.Path.{_≡_, refl, sym, ap, ap₂, subst, _∙_}
 use mathlib.Core.Bool.{Bool, true, false, not, _&&_, false≢true}
 use mathlib.Core.Option.{Option, none, some}
 use mathlib.Core.List.{List, [], _∷_, map}
 use native.Mathlib.Nat.{zero-add}
-use native.Mathlib.Omega.{arith}
 use borrow.Author.Tests.{eq-eqb, ne-eqb}
 use lib.Dec.{eqb}
-use lib.ListN.{length, take, length-map}
-use Rattle.definition.specs.Notation.{if_then_else_, _when_, mutateAt, writeAt}
+use lib.ListN.{length}
+use Rattle.definition.specs.Notation.{if_then_else_, _when_, mutateAt}
 use Rattle.definition.specs.Refusal.{neverMade}
 use Rattle.definition.specs.Layout.{FreezeMask}
 use Rattle.definition.specs.Memory.{Provenance, ThinPointer, hasNone, allocationOf, Allocation, allocationAt, Answer, refusedWith, givesPointer, unlessRefused, namesNeverMade, checkPtr}
@@ -18,7 +17,6 @@ use Rattle.definition.specs.Retag.{ReborrowSettings, reborrowRefusal, afterRebo
 use Rattle.definition.proofs.Alls.{if-holds, outcome-holds}
 use Rattle.definition.proofs.ValidTrees.{settings-agree}
 use Rattle.definition.proofs.ValidFrames.{valid-retag}
-use Rattle.definition.proofs.Writes.{write-back}
 use Rattle.permission.specs.Codes.{protector, safePointer}
 use Rattle.pointer.specs.Pointer.{provenanceOf, thinPointerOf}
 use Rattle.pointer.specs.declared.ThinPointer as pointer
@@ -154,8 +152,3 @@ module _ (byte : Bool → ℕ) (cell : byte false ≡ 0) (freeze : byte true ≡
   mask-back [] = refl
   mask-back (true ∷ mask) = ap₂ _∷_ (ap not (ne-eqb (byte true) 0 freeze)) (mask-back mask)
   mask-back (false ∷ mask) = ap₂ _∷_ (ap not (eq-eqb (byte false) 0 cell)) (mask-back mask)
-
-  pub mask-in : (mask : FreezeMask) (buffer : List ℕ) → length mask ≤ length buffer → maskOf (take (length mask) (writeAt 0 (map byte mask) buffer)) ≡ mask
-  mask-in mask buffer l =
-      let n = length-map mask byte in
-      ap maskOf (ap (λ (k : ℕ). take k (writeAt 0 (map byte mask) buffer)) (sym n) ∙ write-back (map byte mask) buffer (omega (arith, n))) ∙ mask-back mask

@@ -1,5 +1,4 @@
 pub mod Matches
 pub mod Calls
 pub mod Signed
-pub mod Words
 pub mod WellFormed
