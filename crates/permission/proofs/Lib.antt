@@ -1,3 +1,4 @@
 pub mod Arms
 pub mod Codes
 pub mod Lines
+pub mod Stays

@@ -1,9 +1,9 @@
 -- The code's enums as the definition's data, and the definition's functions of a permission as functions of a code.
-use Prim.Native.Nat.{ℕ, _+_}
+use Prim.Native.Nat.{ℕ, zero, suc, _+_, _^_, _/_, _%_}
 use mathlib.Core.Bool.{Bool, false}
 use mathlib.Core.Option.{Option, none, some}
 use mathlib.Core.List.{List, _++_}
-use lib.Dec.{ltb}
+use lib.Dec.{eqb, ltb}
 use lib.ListN.{getD}
 use Rattle.definition.specs.Notation.{if_then_else_, _or_, table}
 use Rattle.definition.specs.Permission as definition
@@ -110,3 +110,16 @@ initLines = table 16 (λ c. lineIn (initAccessCode c))
 -- what sixteen lines have for a code; none for a number that is no code
 abbrev pub lineAt : List ℕ → ℕ → ℕ
 lineAt lines c = if ltb c 16 then getD lines c 0 else 0
+
+-- ---- the codes that an access leaves as they are, a bit for each
+-- the numbers below n for which f holds
+unfoldable pub bitsBelow : ℕ → (ℕ → Bool) → ℕ
+bitsBelow zero f = 0
+bitsBelow (suc n) f = (if f n then 2 ^ n else 0) + bitsBelow n f
+
+-- their outcome is themselves
+unfoldable pub stayBits : definition.AccessKind → definition.NodeRelation → ℕ
+stayBits a r = bitsBelow 32 (λ c. eqb (outcome (some a) r c) c)
+
+abbrev pub hasBit : ℕ → ℕ → Bool
+hasBit bits c = eqb (bits / 2 ^ (c % 32) % 2) 1

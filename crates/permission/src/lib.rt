@@ -6,7 +6,7 @@ ghost use Rattle.definition.specs.Permission.AccessKind.{Read, Write};
 ghost use Rattle.definition.specs.Permission.NodeRelation.{Local, Foreign};
 ghost use Rattle.definition.specs.Permission.Protected.{No, Weak, Strong};
 ghost use Rattle.definition.specs.Retag.{startPerm};
-ghost use Rattle.permission.specs.Codes.{accessKind, nodeRelation, maybeAccess, protector, safePointer, transitionCode, outcomeTable, lineIn, lineOf, isProtectedCode, unprotectedCode, endAccessCode, preventsCode, initAccessCode, endLines, initLines};
+ghost use Rattle.permission.specs.Codes.{accessKind, nodeRelation, maybeAccess, protector, safePointer, transitionCode, outcomeTable, lineIn, lineOf, isProtectedCode, unprotectedCode, endAccessCode, preventsCode, initAccessCode, endLines, initLines, stayBits, hasBit};
 
 pub enum AccessKind {
     Read,
@@ -252,6 +252,29 @@ pub fn init_lines() -> [u8; 16]
     ensures { λ r. ⌜ r ≡ initLines ⌝ }
 {
     INIT_LINES
+}
+
+// ---- the codes that an access leaves as they are, a bit for each
+pub fn stay_bits(access: AccessKind, relation: NodeRelation) -> u32
+    ensures { λ r. ⌜ r ≡ stayBits (accessKind access) (nodeRelation relation) ⌝ }
+{
+    match access {
+        AccessKind::Read => match relation {
+            NodeRelation::Local => 0xffff_ad5f,
+            NodeRelation::Foreign => 0xffff_f677,
+        },
+        AccessKind::Write => match relation {
+            NodeRelation::Local => 0xffff_8849,
+            NodeRelation::Foreign => 0xffff_c065,
+        },
+    }
+}
+
+// Where the code has its bit, the access is not refused there and the code stays (proofs/Stays.antt).
+pub fn has_bit(bits: u32, code: u8) -> bool
+    ensures { λ r. ⌜ r ≡ hasBit bits code ⌝ }
+{
+    (bits >> (code % 32)) % 2 == 1
 }
 
 pub fn is_protected(code: u8) -> bool

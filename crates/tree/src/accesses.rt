@@ -98,6 +98,31 @@ pub fn access(
     refused
 }
 
+// The access passes and leaves every code as it is. Where this says no, `access` tells what it comes to.
+pub fn stays(
+    parents: &[u16],
+    codes: &[u8],
+    width: usize,
+    node: usize,
+    kind: AccessKind,
+    from: usize,
+    len: usize,
+) -> bool
+    requires { ⌜ Some (λ nodes. Holds nodes width (now parents) (now codes)) ⌝ }
+    requires { ⌜ (node < length (now parents)) × (from + len ≤ width) ⌝ }
+    ensures { λ r. ⌜ (r ≡ true → Each (λ nodes. Holds nodes width (now (parents .entry)) (now (codes .entry))) (λ nodes. Visited (accessVisit (accessKind kind) node from len) nodes 0 (now (codes .entry)))) ⌝ }
+{
+    let v = Reach {
+        node,
+        spared: parents.len(),
+        width,
+        from,
+        len,
+        what: Accesses::Each(kind),
+    };
+    visit::all_stay(parents, codes, v, kind)
+}
+
 // Every code tells a read, by the lines that go with it. Then the accesses are one.
 pub(crate) fn all_read(codes: &[u8], lines: &[u8; 16]) -> bool
     ensures { λ r. ⌜ (r ≡ true → (k : ℕ) → k < length (now (codes .entry)) → lineAt (now (lines .entry)) (getD (now (codes .entry)) k 0) ≡ 16) ⌝ }

@@ -202,7 +202,7 @@ module _ (what : Accesses) (n from : ℕ) (starts : List ℕ) (r : NodeRelation)
       abbrev pub code : ℕ
       code = getD row (from + k) 0
 
-      looks-on : (noted′ : ℕ) → 0 ≡ refusalCode access r code → (noted′ ≡ 0 → (noted ≡ 0) × (code ≡ nextCode access r code)) → LooksTo row (k + 1) noted′
+      pub looks-on : (noted′ : ℕ) → 0 ≡ refusalCode access r code → (noted′ ≡ 0 → (noted ≡ 0) × (code ≡ nextCode access r code)) → LooksTo row (k + 1) noted′
       looks-on noted′ e same = (check-next row fits k 0 l e refl ∙ told .0, λ z. turn-stays row fits k l row row (told .1 (same z .0)) (same z .1) refl)
 
       -- a number that is no code

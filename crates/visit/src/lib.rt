@@ -6,6 +6,7 @@ mod each;
 mod order;
 mod path;
 mod plan;
+mod quiet;
 mod row;
 mod sweep;
 
@@ -14,6 +15,7 @@ pub use each::look_at_nodes;
 pub use each::refusal_after_look;
 pub use path::relation_on;
 use permission::AccessKind;
+pub use quiet::all_stay;
 pub use row::lent_line;
 pub use sweep::apply;
 pub use sweep::check;
