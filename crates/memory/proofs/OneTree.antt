@@ -4,7 +4,7 @@ use mathlib.Core.Path.{_≡_, refl, sym, ap, subst, _∙_}
 use mathlib.Core.Bool.{Bool, true, false}
 use mathlib.Core.List.{List, [], _∷_, _++_, map}
 use native.Mathlib.Omega.{arith}
-use borrow.Rule.Slice.PartMut.{putMid}
+use borrow.Rule.Slice.PartMut.{putMid, put-same}
 use lib.Dec.{eqb}
 use lib.ListN.{length, take, drop, length-drop, take-append-drop}
 use lib.Seq.{drop-drop, take-append-le, drop-append-le}
@@ -189,6 +189,14 @@ module _ {m : Memory} {A P C : List ℕ} {n : ℕ} {r : code.Allocation} {s : co
   access-visited kind node address len {answer} last k =
       subst (λ (z : ℕ). let v = accessVisit kind node (address - z) len in TreeVisited m n (visitRefusal v (allocationAt m n .nodes)) v answer (givenBack (s .codes) (r .nodes * r .size) C last))
       (read-address (t .tables .records) (t .made) (t .read)) (tree-visited (accessVisit kind node (address - r .address) len) last _ answer (k .refusal) (k .table))
+
+  -- where the table stays, so do the codes of all
+  pub quiet-visited : (kind : AccessKind) (node address len : ℕ) {answer : ℕ}
+      → Visited (accessVisit kind node (address - r .address) len) (allocationAt m n .nodes) answer (lent (s .codes) (r .nodes * r .size) C)
+      → TreeVisited m n (visitRefusal (visitAt kind m n node address len) (allocationAt m n .nodes)) (visitAt kind m n node address len) answer C
+  quiet-visited kind node address len {answer} k =
+      subst (TreeVisited m n (visitRefusal (visitAt kind m n node address len) (allocationAt m n .nodes)) (visitAt kind m n node address len) answer)
+      (put-same (s .codes) (s .codes + r .nodes * r .size - s .codes) C) (access-visited kind node address len (lent (s .codes) (r .nodes * r .size) C) k)
 
   pub deallocate-visited : (node : ℕ) {answer : ℕ} (last : List ℕ) → Deallocated node (r .size) (allocationAt m n .nodes) answer last
       → WrittenAll m n node answer (givenBack (s .codes) (r .nodes * r .size) C last)

@@ -14,7 +14,7 @@ ghost use Rattle.pointer.specs.Pointer.{thinPointerOf};
 ghost use Rattle.permission.specs.Codes.{accessKind};
 ghost use Rattle.tables.specs.Held.{Records};
 ghost use Rattle.memory.specs.Buffers.{HoldsTrees, HoldsWords, TreeVisited};
-ghost use Rattle.memory.specs.Access.{accessOf, loadOf, storeOf, boundsRefusal, Checked, Reached, visitAt, wordsStart, Accessed, Loaded, Stored};
+ghost use Rattle.memory.specs.Access.{accessOf, loadOf, storeOf, boundsRefusal, Checked, Reached, visitAt, wordsStart, Accessed, QuietInTree, QuietAccess, Loaded, Stored};
 
 // 4, 6 and 7 to 9.
 fn bounds_refusal(allocs: &[u64], p: ThinPointer, len: u64, exponent: u64) -> u8
@@ -111,6 +111,92 @@ fn access(
     }
 }
 
+// Where the bytes start that a quiet access reaches: one that is accepted and changes no permission. `No` says nothing.
+pub enum Quiet {
+    No,
+    At(usize),
+}
+
+// Of `len` bytes at an address, through a node of allocation n.
+fn quiet_in_tree(
+    allocs: &[u64],
+    parents: &[u16],
+    codes: &[u8],
+    kind: AccessKind,
+    n: usize,
+    node: usize,
+    addr: u64,
+    len: usize,
+) -> Quiet
+    requires { ⌜ ((m : Memory) × (HoldsTrees m (now allocs) (now parents) (now codes) × Reached m n node addr len)) ⌝ }
+    ensures { λ r. ⌜ ((m : Memory) → HoldsTrees m (now (allocs .entry)) (now (parents .entry)) (now (codes .entry)) → Reached m n node addr len
+        → QuietInTree (accessKind kind) m n node addr len (now (codes .entry)) r) ⌝ }
+{
+    let a = tables::allocation_at(allocs, n);
+    let address = a.address;
+    let size = a.size;
+    let nodes = a.nodes;
+    let s = tables::starts_at(allocs, n);
+    let node_start = s.nodes;
+    let node_end = node_start + nodes;
+    let code_start = s.codes;
+    let code_end = code_start + nodes * size;
+    let word_start = s.words;
+    let from = (addr - address) as usize;
+    if tree::stays(
+        &parents[node_start..node_end],
+        &codes[code_start..code_end],
+        size,
+        node,
+        kind,
+        from,
+        len,
+    ) {
+        return Quiet::At(word_start + from);
+    }
+    Quiet::No
+}
+
+// Most accesses are quiet, and then this is all there is to do but for the words.
+pub fn quiet_access(
+    allocs: &[u64],
+    parents: &[u16],
+    codes: &[u8],
+    kind: AccessKind,
+    p: ThinPointer,
+    len: u64,
+    exponent: u64,
+) -> Quiet
+    requires { ⌜ ((m : Memory) × HoldsTrees m (now allocs) (now parents) (now codes)) ⌝ }
+    requires { ⌜ exponent < 64 ⌝ }
+    ensures { λ r. ⌜ ((m : Memory) (bytes : List ℕ) → HoldsTrees m (now (allocs .entry)) (now (parents .entry)) (now (codes .entry))
+        → QuietAccess (accessOf (accessKind kind) (thinPointerOf p) len exponent bytes) m (now (codes .entry)) r) ⌝ }
+{
+    let addr = p.addr;
+    let provenance = p.provenance;
+    match provenance {
+        Provenance::None => Quiet::No,
+        Provenance::Of { allocation, node } => {
+            if len == 0 {
+                return Quiet::No;
+            }
+            if bounds_refusal(allocs, p, len, exponent) != 0 {
+                return Quiet::No;
+            }
+            quiet_in_tree(
+                allocs,
+                parents,
+                codes,
+                kind,
+                allocation as usize,
+                node as usize,
+                addr,
+                len as usize,
+            )
+        }
+    }
+}
+
 // Where the bytes at a pointer start in the data; 0 where there are none.
 fn words_start(allocs: &[u64], p: ThinPointer, len: u64) -> usize
     requires { ⌜ ((m : Memory) × (Records m (now allocs) × Checked m (thinPointerOf p) len)) ⌝ }
@@ -184,6 +270,14 @@ pub fn copy_words(dst: &mut [u32], src: &[u32])
     }
 }
 
+// Writes bytes from a place in the data on.
+pub fn put_words(words: &mut [u32], start: usize, bytes: &[u32])
+    requires { ⌜ start + length (now bytes) ≤ length (now words) ⌝ }
+    ensures { λ _. ⌜ now (words .exit) ≡ paste (now (words .entry)) start (now (bytes .entry)) (length (now (bytes .entry))) ⌝ }
+{
+    copy_words(&mut words[start..], bytes);
+}
+
 // Writes bytes at a pointer.
 fn write_words(allocs: &[u64], words: &mut [u32], p: ThinPointer, bytes: &[u32])
     requires { ⌜ ((m : Memory) × (Records m (now allocs) × (Checked m (thinPointerOf p) (length (now bytes)) × (length (now words) ≡ 4096)))) ⌝ }
@@ -191,7 +285,7 @@ fn write_words(allocs: &[u64], words: &mut [u32], p: ThinPointer, bytes: &[u32])
         → now (words .exit) ≡ paste (now (words .entry)) (wordsStart (thinPointerOf p) (length (now (bytes .entry))) m) (now (bytes .entry)) (length (now (bytes .entry)))) ⌝ }
 {
     let start = words_start(allocs, p, bytes.len() as u64);
-    copy_words(&mut words[start..], bytes);
+    put_words(words, start, bytes);
 }
 
 pub fn store(

@@ -1,6 +1,8 @@
 // One request: 2, and then its kind. The buffers are not tested again: they hold a state, and hold the next one afterwards.
-// Loads and stores, of which a run has the most, go straight to the memory: the kind is looked at once.
+// Most requests of a run are loads and stores that are accepted and change no permission. They are looked for first, in one place.
 use answer::Answer;
+use memory::access::Quiet;
+use permission::AccessKind;
 use request::Kind;
 use request::Request;
 ghost use mathlib.Core.Path.{_≡_};
@@ -9,12 +11,14 @@ ghost use Prim.Native.Nat.{ℕ};
 ghost use lib.ListN.{drop};
 ghost use Rattle.definition.specs.Frame.{State};
 ghost use Rattle.definition.specs.Request as definition;
+ghost use Rattle.definition.specs.Permission.AccessKind.{Read, Write};
+ghost use Rattle.permission.specs.Codes.{accessKind};
 ghost use Rattle.tables.specs.Held.{buffers};
 ghost use Rattle.entries.specs.Buffer.{HoldsFrames};
 ghost use Rattle.request.specs.Fields.{requestOf};
 ghost use Rattle.request.specs.declared.Kind.the-variants.{Load, Store};
 ghost use Rattle.perform.specs.Performed.{HoldsState};
-ghost use Rattle.run.specs.Steps.{isRefused, Stepped};
+ghost use Rattle.run.specs.Steps.{isRefused, Stepped, QuietAt, QuietStep};
 
 // The request, of these fields, falls under 2.
 fn is_refused(frames: &[u32], q: Request, request: &[u32]) -> bool
@@ -83,7 +87,7 @@ fn store(
     )
 }
 
-// A request of any kind.
+// A request of any other kind.
 fn by_kind(
     allocs: &mut [u64],
     parents: &mut [u16],
@@ -115,6 +119,92 @@ fn by_kind(
     )
 }
 
+// A request of any kind.
+fn in_full(
+    allocs: &mut [u64],
+    parents: &mut [u16],
+    protectors: &mut [u8],
+    words: &mut [u32],
+    codes: &mut [u8],
+    frames: &mut [u32],
+    q: Request,
+    request: &[u32],
+) -> Answer
+    requires { ⌜ ((s : State) × HoldsState s (buffers (now allocs) (now parents) (now protectors) (now words) (now codes)) (now frames)) ⌝ }
+    requires { ⌜ requestOf q (drop 4 (now request)) ≡ definition.request (now request) ⌝ }
+    ensures { λ r. ⌜ ((s : State) → HoldsState s (buffers (now (allocs .entry)) (now (parents .entry)) (now (protectors .entry)) (now (words .entry)) (now (codes .entry))) (now (frames .entry))
+        → Stepped s (now (request .entry)) r (buffers (now (allocs .exit)) (now (parents .exit)) (now (protectors .exit)) (now (words .exit)) (now (codes .exit))) (now (frames .exit))) ⌝ }
+{
+    let kind = q.kind;
+    match kind {
+        Kind::Load => load(allocs, parents, codes, q, request),
+        Kind::Store => store(allocs, parents, words, codes, q, request),
+        _ => by_kind(
+            allocs,
+            parents,
+            protectors,
+            words,
+            codes,
+            frames,
+            q,
+            request,
+        ),
+    }
+}
+
+// ---- loads and stores that are accepted and change no permission
+// A store writes, a load reads.
+fn access_kind(kind: Kind) -> AccessKind
+    ensures { λ r. ⌜ (kind ≡ Load → accessKind r ≡ Read) × (kind ≡ Store → accessKind r ≡ Write) ⌝ }
+{
+    match kind {
+        Kind::Store => AccessKind::Write,
+        _ => AccessKind::Read,
+    }
+}
+
+// Where the bytes of such a request start.
+fn find_quiet(allocs: &[u64], parents: &[u16], codes: &[u8], q: Request, request: &[u32]) -> Quiet
+    requires { ⌜ ((s : State) × ((R : List ℕ) × ((W : List ℕ) × ((F : List ℕ) × HoldsState s (buffers (now allocs) (now parents) R W (now codes)) F)))) ⌝ }
+    requires { ⌜ requestOf q (drop 4 (now request)) ≡ definition.request (now request) ⌝ }
+    ensures { λ r. ⌜ ((s : State) (R W F : List ℕ) → HoldsState s (buffers (now (allocs .entry)) (now (parents .entry)) R W (now (codes .entry))) F
+        → QuietStep s q (now (request .entry)) (now (codes .entry)) r) ⌝ }
+{
+    if !request::is_plain_access(q, request) {
+        return Quiet::No;
+    }
+    let kind = q.kind;
+    memory::access::quiet_access(
+        allocs,
+        parents,
+        codes,
+        access_kind(kind),
+        q.pointer(),
+        wide(q.fourth),
+        wide(q.exponent),
+    )
+}
+
+// Then only its words are left to give or to write.
+fn finish_quiet(words: &mut [u32], q: Request, request: &[u32], start: usize) -> Answer
+    requires { ⌜ ((s : State) × ((A : List ℕ) × ((P : List ℕ) × ((R : List ℕ) × ((C : List ℕ) × ((F : List ℕ) × (HoldsState s (buffers A P R (now words) C) F × QuietAt s q (now request) C start))))))) ⌝ }
+    requires { ⌜ requestOf q (drop 4 (now request)) ≡ definition.request (now request) ⌝ }
+    ensures { λ r. ⌜ ((s : State) (A P R C F : List ℕ) → HoldsState s (buffers A P R (now (words .entry)) C) F → QuietAt s q (now (request .entry)) C start
+        → Stepped s (now (request .entry)) r (buffers A P R (now (words .exit)) C) F) ⌝ }
+{
+    let kind = q.kind;
+    match kind {
+        Kind::Store => {
+            memory::access::put_words(words, start, request::following(request));
+            Answer::Accepted
+        }
+        _ => Answer::Words {
+            start,
+            len: q.fourth as usize,
+        },
+    }
+}
+
 pub fn step(
     allocs: &mut [u64],
     parents: &mut [u16],
@@ -133,11 +223,9 @@ pub fn step(
         return Answer::Refused(2);
     }
     let q = Request::of(request);
-    let kind = q.kind;
-    match kind {
-        Kind::Load => load(allocs, parents, codes, q, request),
-        Kind::Store => store(allocs, parents, words, codes, q, request),
-        _ => by_kind(
+    match find_quiet(allocs, parents, codes, q, request) {
+        Quiet::At(start) => finish_quiet(words, q, request, start),
+        Quiet::No => in_full(
             allocs,
             parents,
             protectors,
