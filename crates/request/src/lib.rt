@@ -366,13 +366,13 @@ fn malformed_deallocate(q: Request) -> bool
     stray_name(q) | (q.exponent > 29) | (q.extra > 4)
 }
 
-pub fn malformed_load(q: Request) -> bool
+fn malformed_load(q: Request) -> bool
     ensures { λ r. ⌜ ((s : State) (ws : List ℕ) → r ≡ isMalformed Load s (requestOf q ws)) ⌝ }
 {
     stray_name(q) | (q.exponent > 29) | (q.extra != 0)
 }
 
-pub fn malformed_store(q: Request, following: &[u32]) -> bool
+fn malformed_store(q: Request, following: &[u32]) -> bool
     ensures { λ r. ⌜ ((s : State) → r ≡ isMalformed Store s (requestOf q (now (following .entry)))) ⌝ }
 {
     malformed_load(q) | pointer::any_bad_byte(following)

@@ -38,57 +38,8 @@ fn wide(x: u32) -> u64
     x as u64
 }
 
-// A load, whatever the buffers that it does not see hold.
-fn load(allocs: &[u64], parents: &[u16], codes: &mut [u8], q: Request, request: &[u32]) -> Answer
-    requires { ⌜ ((s : State) × ((R : List ℕ) × ((W : List ℕ) × ((F : List ℕ) × HoldsState s (buffers (now allocs) (now parents) R W (now codes)) F)))) ⌝ }
-    requires { ⌜ (q .kind ≡ Load) × (requestOf q (drop 4 (now request)) ≡ definition.request (now request)) ⌝ }
-    ensures { λ r. ⌜ ((s : State) (R W F : List ℕ) → HoldsState s (buffers (now (allocs .entry)) (now (parents .entry)) R W (now (codes .entry))) F
-        → Stepped s (now (request .entry)) r (buffers (now (allocs .entry)) (now (parents .entry)) R W (now (codes .exit))) F) ⌝ }
-{
-    if request::is_miscounted(q, request.len()) | request::malformed_load(q) {
-        return Answer::Refused(2);
-    }
-    memory::access::load(
-        allocs,
-        parents,
-        codes,
-        q.pointer(),
-        wide(q.fourth),
-        wide(q.exponent),
-    )
-}
-
-// A store, likewise.
-fn store(
-    allocs: &[u64],
-    parents: &[u16],
-    words: &mut [u32],
-    codes: &mut [u8],
-    q: Request,
-    request: &[u32],
-) -> Answer
-    requires { ⌜ ((s : State) × ((R : List ℕ) × ((F : List ℕ) × HoldsState s (buffers (now allocs) (now parents) R (now words) (now codes)) F))) ⌝ }
-    requires { ⌜ (q .kind ≡ Store) × (requestOf q (drop 4 (now request)) ≡ definition.request (now request)) ⌝ }
-    ensures { λ r. ⌜ ((s : State) (R F : List ℕ) → HoldsState s (buffers (now (allocs .entry)) (now (parents .entry)) R (now (words .entry)) (now (codes .entry))) F
-        → Stepped s (now (request .entry)) r (buffers (now (allocs .entry)) (now (parents .entry)) R (now (words .exit)) (now (codes .exit))) F) ⌝ }
-{
-    let following = request::following(request);
-    if request::is_miscounted(q, request.len()) | request::malformed_store(q, following) {
-        return Answer::Refused(2);
-    }
-    memory::access::store(
-        allocs,
-        parents,
-        words,
-        codes,
-        q.pointer(),
-        following,
-        wide(q.exponent),
-    )
-}
-
-// A request of any other kind.
-fn by_kind(
+// A request of any kind, with all that it may refuse and change.
+fn in_full(
     allocs: &mut [u64],
     parents: &mut [u16],
     protectors: &mut [u8],
@@ -117,39 +68,6 @@ fn by_kind(
         q,
         following,
     )
-}
-
-// A request of any kind.
-fn in_full(
-    allocs: &mut [u64],
-    parents: &mut [u16],
-    protectors: &mut [u8],
-    words: &mut [u32],
-    codes: &mut [u8],
-    frames: &mut [u32],
-    q: Request,
-    request: &[u32],
-) -> Answer
-    requires { ⌜ ((s : State) × HoldsState s (buffers (now allocs) (now parents) (now protectors) (now words) (now codes)) (now frames)) ⌝ }
-    requires { ⌜ requestOf q (drop 4 (now request)) ≡ definition.request (now request) ⌝ }
-    ensures { λ r. ⌜ ((s : State) → HoldsState s (buffers (now (allocs .entry)) (now (parents .entry)) (now (protectors .entry)) (now (words .entry)) (now (codes .entry))) (now (frames .entry))
-        → Stepped s (now (request .entry)) r (buffers (now (allocs .exit)) (now (parents .exit)) (now (protectors .exit)) (now (words .exit)) (now (codes .exit))) (now (frames .exit))) ⌝ }
-{
-    let kind = q.kind;
-    match kind {
-        Kind::Load => load(allocs, parents, codes, q, request),
-        Kind::Store => store(allocs, parents, words, codes, q, request),
-        _ => by_kind(
-            allocs,
-            parents,
-            protectors,
-            words,
-            codes,
-            frames,
-            q,
-            request,
-        ),
-    }
 }
 
 // ---- loads and stores that are accepted and change no permission
