@@ -1,4 +1,3 @@
-pub mod Any
 pub mod Tests
 pub mod Points
 pub mod Leak

@@ -16,10 +16,9 @@ use Rattle.pointer.specs.declared.ThinPointer as pointer
 use Rattle.pointer.specs.declared.Provenance.the-variants.{None, Of}
 use Rattle.tables.specs.declared.Allocation as code
 use Rattle.tables.specs.Held.{Records}
-use Rattle.tables.proofs.Lookup.{state-at, kind-at, address-at, size-at, nodes-at, zero-behind}
+use Rattle.tables.proofs.Lookup.{state-at, live-state, kind-at, address-at, size-at, nodes-at, zero-behind}
 use Rattle.bounds.specs.Bounds.{Points}
 use Rattle.bounds.proofs.Tests.{leb-ltb}
-pub use Rattle.tables.proofs.Lookup.{live-state}
 
 -- ---- 4: behind the last allocation the records have no nodes
 module _ {m : Memory} {A : List ℕ} (h : Records m A) where

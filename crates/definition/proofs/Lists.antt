@@ -8,8 +8,6 @@ use lib.ListN.{length, getD, take, drop, set}
 use lib.Seq.{ext-getD}
 use Rattle.definition.specs.Notation.{_or_, firstRefusal, tableFrom, table, mapFrom, mutateAt}
 use Rattle.definition.proofs.Booleans.{or-assoc}
--- passed on, for those who name them here
-pub use Rattle.definition.proofs.Writes.{write-none, write-length}
 
 -- ---- the first refusal along a list
 module _ {A : Type 0} where

@@ -1,8 +1,8 @@
--- Laws of plain lists: parts, places, equal elements, zeros.
-use Prim.Native.Nat.{ℕ, zero, suc, _+_, _-_, _≤_, _<_, min}
-use mathlib.Core.Path.{_≡_, refl, sym, ap, _∙_}
+-- Laws of plain lists: parts, rows, places, equal elements, zeros.
+use Prim.Native.Nat.{ℕ, zero, suc, _+_, _-_, _*_, _≤_, _<_, min}
+use mathlib.Core.Path.{_≡_, refl, sym, ap, subst, _∙_}
 use mathlib.Core.List.{List, [], _∷_, _++_, map, append-nil}
-use native.Mathlib.Nat.{zero-add, add-zero, suc-add, sub-zero, zero-sub, suc-sub-suc}
+use native.Mathlib.Nat.{zero-add, add-zero, suc-add, sub-zero, zero-sub, suc-sub-suc, suc-mul, mul-le-mul-right}
 use native.Mathlib.Numerals.{add-one}
 use native.Mathlib.Decide.{decLt}
 use native.Mathlib.Omega.{arith}
@@ -85,6 +85,10 @@ module _ {A : Type 0} where
   -- a list filled from the front, to its end
   pub fill-all : (n : ℕ) (x : A) (l : List A) → length l ≤ n → replicate n x ++ drop n l ≡ replicate n x
   fill-all n x l h = rw (drop-of-length-le l h) (append-nil (replicate n x))
+
+-- ---- rows: row n ends within a table of k rows
+pub row-fits : (n k w : ℕ) → n < k → n * w + w ≤ k * w
+row-fits n k w h = subst (λ (m : ℕ). m ≤ k * w) (suc-mul n w) (mul-le-mul-right w h)
 
 -- ---- zeros
 pub zero-at : (n i : ℕ) → _≡_ {A = ℕ} (getD (replicate n 0) i 0) 0

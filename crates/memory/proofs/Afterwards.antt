@@ -12,7 +12,7 @@ use Rattle.definition.specs.Memory.{ThinPointer, Allocation, AllocationKind, Me
 use Rattle.definition.specs.Memory.Liveness.{Dead}
 use Rattle.definition.specs.Valid.{All, ValidByte}
 use Rattle.definition.proofs.Alls.{if-holds, outcome-holds}
-use Rattle.definition.proofs.Lists.{write-none, write-length}
+use Rattle.definition.proofs.Writes.{write-none, write-length}
 use Rattle.definition.proofs.Visits.{visited-length}
 use Rattle.definition.proofs.ValidMemory.{valid-load-store, valid-deallocate}
 use Rattle.definition.specs.Memory as definition
@@ -20,13 +20,13 @@ use Rattle.answer.specs.declared.Answer.{Answer}
 use Rattle.answer.specs.declared.Answer.the-variants.{Words}
 use Rattle.tables.specs.Encoding.{recordOf, parentsOf, protectorsOf, wordsOf, held, encode}
 use Rattle.tables.specs.Held.{buffers, Holds}
-use Rattle.tables.proofs.Focus.{length-held}
+use Rattle.tables.proofs.Focus.{length-held, held-kept}
 use Rattle.tables.proofs.Sizes.{words-fit}
 use Rattle.tables.proofs.ReadBack.{holds-allocs, holds-parents, holds-protectors, holds-words, holds-codes, holds-records, encode-of}
 use Rattle.memory.specs.Buffers.{HoldsTrees, HoldsWords, HoldsMarked}
 use Rattle.memory.specs.Access.{loadOf, storeOf, Loaded, Stored}
 use Rattle.memory.specs.Deallocate.{Deallocated}
-use Rattle.memory.proofs.OneTree.{held-kept, visited-parentsOf, visited-protectorsOf}
+use Rattle.memory.proofs.OneTree.{visited-parentsOf, visited-protectorsOf}
 
 -- ---- all five, and those that a request asks for
 module _ {m : Memory} {A P R W C : List ℕ} (h : Holds m (buffers A P R W C)) where

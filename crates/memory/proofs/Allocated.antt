@@ -6,7 +6,7 @@ use mathlib.Core.Option.{some}
 use mathlib.Core.List.{List}
 use borrow.Author.Tests.{eq-eqb, ne-eqb, le-leb, lt-leb}
 use lib.ListN.{length}
-use Rattle.definition.specs.Notation.{_or_, any}
+use Rattle.definition.specs.Notation.{any}
 use Rattle.definition.specs.Memory.{Memory, AllocationKind, kindNumber, isMisaligned, overlaps, isPickable, exceedsBounds, ofAllocation, newAllocation, refusedWith, givesPointer, allocateRefusal, acceptAllocate, allocate}
 use Rattle.definition.specs.Memory as definition
 use Rattle.definition.proofs.ValidMemory.{valid-allocate}

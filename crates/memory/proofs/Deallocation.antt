@@ -24,9 +24,9 @@ use Rattle.answer.specs.declared.Answer.the-variants.{Refused, Accepted}
 use Rattle.tables.specs.Encoding.{stateNumber, recordOf, codesOf, held}
 use Rattle.tables.specs.Held.{startOf, Records}
 use Rattle.tables.proofs.Focus.{focus-set}
-use Rattle.tables.proofs.Lookup.{record-start, state-at, kind-at, exponent-at, address-at, size-at}
+use Rattle.tables.proofs.Lookup.{record-start, state-at, live-state, kind-at, exponent-at, address-at, size-at}
 use Rattle.tables.specs.declared.Allocation as record-of
-use Rattle.bounds.proofs.Points.{recordAt, live-state}
+use Rattle.bounds.proofs.Points.{recordAt}
 use Rattle.tree.specs.Requests as tree
 use Rattle.memory.specs.Buffers.{HoldsMarked, afterVisit, TreeVisited}
 use Rattle.memory.specs.Deallocate.{recordRefusal, refusalThrough, NodeIn, WrittenAll, Deallocated}

@@ -13,7 +13,7 @@ use lib.Seq.{paste, paste-zero}
 use Rattle.definition.specs.Notation.{if_then_else_, _when_, _or_, mutateAt}
 use Rattle.definition.specs.Refusal.{neverMade, misaligned, missingProvenance, deadAllocation, outOfBounds}
 use Rattle.definition.specs.Permission.{AccessKind}
-use Rattle.definition.specs.Tree.{visitRefusal, visited}
+use Rattle.definition.specs.Tree.{visitRefusal}
 use Rattle.definition.specs.Memory.{Provenance, ThinPointer, Allocation, Memory, MemoryAccess, hasNone, isLive, allocationOf, nodeOf, allocationAt, target, offset, size, refusedWith, givesWords, unlessRefused, wasMade, namesNeverMade, isMisaligned, isOutside, checkPtr, visitOf, accessRefusalIn, accessRefusal, afterAccessIn, afterAccess, loadedWords, acceptAccess, performAccess}
 use Rattle.definition.specs.Valid.{Valid}
 use Rattle.definition.proofs.Booleans.{and-left, and-right, not-not-false, or-assoc, or-left, or-right, when-none}

@@ -1,5 +1,5 @@
 -- One allocation's parts of the tables hold its tree, and the tree as a visit leaves it makes the tables of the memory after the visit.
-use Prim.Native.Nat.{ℕ, zero, suc, _+_, _-_, _*_, _≤_, _<_}
+use Prim.Native.Nat.{ℕ, _+_, _-_, _*_, _≤_, _<_}
 use mathlib.Core.Path.{_≡_, refl, sym, ap, subst, _∙_}
 use mathlib.Core.Bool.{Bool, true, false}
 use mathlib.Core.List.{List, [], _∷_, _++_, map}
@@ -13,16 +13,15 @@ use Rattle.definition.specs.Permission.{AccessKind, Protected}
 use Rattle.definition.specs.Permission.AccessKind.{Write}
 use Rattle.definition.specs.Permission.Protected.{No, Weak, Strong}
 use Rattle.definition.specs.Tree.{Node, noNode, parents, Visit, accessVisit, visitRefusal, nodeAfter, visited}
-use Rattle.definition.specs.Memory.{Allocation, Liveness, Memory, noAllocation, allocationAt, changed, size, nodeCount, isLive}
-use Rattle.definition.specs.Valid.{All, AllFrom, ValidNode, ValidAllocation, Valid}
-use Rattle.definition.proofs.Places.{allFrom-at}
+use Rattle.definition.specs.Memory.{Allocation, Liveness, Memory, allocationAt, changed, size, nodeCount, isLive}
+use Rattle.definition.specs.Valid.{ValidNode, ValidAllocation, Valid}
+use Rattle.definition.proofs.Places.{allFrom-at, valid-at}
 use Rattle.definition.proofs.Trees.{valid-tree}
 use Rattle.definition.proofs.Lists.{each-map}
 use Rattle.definition.proofs.Visits.{visited-length, visited-parents}
-use Rattle.definition.proofs.ValidTrees.{visited-valid}
-use Rattle.tables.specs.Encoding.{protectorNumber, parentsOf, protectorsOf, rowOf, codesOf, concatMap, pad, held}
+use Rattle.definition.proofs.ValidTrees.{visited-valid, rows-wide}
+use Rattle.tables.specs.Encoding.{protectorNumber, parentsOf, protectorsOf, rowOf, codesOf, concatMap, held}
 use Rattle.tables.specs.Held.{startOf, StartsAt}
-use Rattle.tables.proofs.Parts.{all-at}
 use Rattle.tables.proofs.Focus.{length-held, focus-used, focus-part, focus-same, focus-mutate}
 use Rattle.tables.proofs.Sizes.{length-parents, length-protectors, length-rows, length-codes, parents-fit, protectors-fit, codes-fit, codes-at}
 use Rattle.tables.proofs.Lookup.{nodes-at}
@@ -59,13 +58,6 @@ unfolding protectorsOf
 protectors-marks a = same-marks (a .nodes)
 
 -- ---- a well-formed allocation's tree
-pub valid-at : (m : Memory) (n : ℕ) → Valid m → n < length m → ValidAllocation (allocationAt m n)
-valid-at m n v made = all-at ValidAllocation m n noAllocation (v .each) made
-
-rows-wide : (bytes : ℕ) (live : Bool) (n : ℕ) (nodes : List Node) → AllFrom n (ValidNode bytes live) nodes → All (λ x. length (x .permissions) ≡ bytes) nodes
-rows-wide bytes live n [] v = tt
-rows-wide bytes live n (x ∷ nodes) v = (v .0 .wide, rows-wide bytes live (suc n) nodes (v .1))
-
 module _ (a : Allocation) (v : ValidAllocation a) where
   holds-rows : HoldsRows (a .nodes) (size a) (codesOf a)
   holds-rows = record { rows = codes-rows a; wide = rows-wide (size a) (isLive (a .state)) 0 (a .nodes) (v .nodes) }
@@ -215,17 +207,6 @@ same-parts total f m n made g k l e =
 pub visited-part : (m : Memory) (n : ℕ) → Valid m → n < length m → (v : Visit)
     → length (codesOf (afterVisit v (allocationAt m n))) ≡ length (codesOf (allocationAt m n))
 visited-part m n w made v = ap length (codes-rows (afterVisit v (allocationAt m n))) ∙ visited-codes (allocationAt m n) (valid-at m n w made) v
-
--- a part that no change touches
-pub held-kept : (total : ℕ) (f : Allocation → List ℕ) (g : Allocation → Allocation) → ((a : Allocation) → f (g a) ≡ f a) → (n : ℕ) (m : Memory)
-    → held total f (mutateAt n g m) ≡ held total f m
-unfolding held concatMap mutateAt
-held-kept total f g e n m = ap (pad total) (kept n m)
-  where
-    kept : (n : ℕ) (m : Memory) → concatMap f (mutateAt n g m) ≡ concatMap f m
-    kept n [] = refl
-    kept zero (a ∷ m) = ap (λ (l : List ℕ). l ++ concatMap f m) (e a)
-    kept (suc n) (a ∷ m) = ap (λ (l : List ℕ). f a ++ l) (kept n m)
 
 -- a visit keeps the parents and the protectors
 module _ (v : Visit) (a : Allocation) (state : Liveness) (words : List ℕ) where

@@ -13,7 +13,7 @@ use Rattle.definition.specs.Memory.{Memory}
 use Rattle.definition.specs.Run.{step, answers, final}
 use Rattle.definition.specs.Valid.{Valid}
 use Rattle.definition.proofs.Exchanges.{order-is-free}
-use Rattle.definition.proofs.Lists.{write-length}
+use Rattle.definition.proofs.Writes.{write-length}
 use Rattle.tables.specs.Encoding.{Buffers, recordOf, parentsOf, protectorsOf, wordsOf, codesOf, encode}
 use Rattle.tables.specs.Held.{buffers, Holds}
 use Rattle.tables.proofs.Focus.{length-held}
@@ -25,9 +25,9 @@ use Rattle.entries.proofs.Frames.{buffer-length}
 use Rattle.perform.specs.Performed.{HoldsState}
 use Rattle.answer.specs.Answer.{answerOf}
 use Rattle.answer.specs.declared.Answer.{Answer}
+use Rattle.answer.proofs.Loaded.{loaded-length}
 use Rattle.transcript.specs.Transcript.{answerWords, transcript, WrittenTo}
 use Rattle.transcript.specs.declared.Written.{Written}
-use Rattle.transcript.proofs.Answers.{loaded-length}
 use Rattle.run.specs.declared.ListRun.the-variants.{Refused, Answered}
 use Rattle.run.specs.Lists.{requestsFrom, requestsIn, haveLengths, Ran, ListRan}
 use Rattle.run.specs.Steps.{Stepped}

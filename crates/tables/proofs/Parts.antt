@@ -10,8 +10,6 @@ use lib.Seq.{take-append-add, drop-append-add, take-append-le, drop-append-le, t
 use Rattle.definition.specs.Notation.{writeAt}
 use Rattle.definition.proofs.Parts.{take-zeros}
 use Rattle.tables.specs.Held.{inserted}
--- passed on, for those who name it here
-pub use Rattle.definition.proofs.Places.{all-at}
 
 -- ---- a part x with l before and r behind
 pub paste-after : (l x : List ℕ) (off : ℕ) (s : List ℕ) (n : ℕ) → paste (l ++ x) (length l + off) s n ≡ l ++ paste x off s n

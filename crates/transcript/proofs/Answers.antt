@@ -6,8 +6,6 @@ use mathlib.Core.List.{List, _++_, append-assoc}
 use lib.ListN.{length}
 use Rattle.definition.specs.Memory.{Answer, Provenance}
 use Rattle.transcript.specs.Transcript.{heading, answerWords}
--- passed on, for those who name it here
-pub use Rattle.answer.proofs.Loaded.{loaded-length}
 
 pub answer-behind : (text : List ℕ) (a : Answer) (refusal : ℕ) (p : Option Provenance) (loaded head : List ℕ)
     → refusal ≡ a .refusal → p ≡ a .pointer → loaded ≡ a .words → head ≡ heading refusal p (length loaded)

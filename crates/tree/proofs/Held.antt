@@ -10,9 +10,9 @@ use Rattle.definition.specs.Notation.{mutateAt}
 use Rattle.definition.specs.Permission.{code}
 use Rattle.definition.specs.Tree.{Node, nodeAt}
 use Rattle.definition.specs.Valid.{All}
+use Rattle.definition.proofs.Parts.{row-fits}
 use Rattle.tree.specs.Table.{rowsOf, mark, marks, HoldsRows, Holds, HoldsMarks, HoldsAll}
 use Rattle.visit.specs.Walk.{rowAt, withRowAt}
-use Rattle.visit.proofs.Places.{row-fits}
 
 module _ (width : ℕ) where
   -- each row has `width` codes

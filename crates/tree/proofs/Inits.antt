@@ -16,6 +16,7 @@ use Rattle.definition.specs.Permission.AccessKind.{Read, Write}
 use Rattle.definition.specs.Permission.Permission.{Unprot}
 use Rattle.definition.specs.Permission.PermissionUnprot.{Cell}
 use Rattle.definition.specs.Tree.{Node, rowRefusal, nodeRefusal, visitRefusal, accessVisit}
+use Rattle.definition.proofs.Booleans.{or-left, or-right}
 use Rattle.definition.proofs.Ranges.{range-places, list-places}
 use Rattle.definition.proofs.Retags.{byteRefusal, readsRefusal, readsVisit, reads-step}
 use Rattle.permission.specs.Codes.{initAccessCode, lineIn, lineAt}
@@ -58,18 +59,10 @@ module _ (node from : ℕ) (inside : List ℕ) (nodes : List Node) where
       ap (λ ps. readsRefusal node (from + k) ps nodes) (drop-of-length-le (map permission inside) {i = k} (omega (arith, length-map inside permission)))
 
 -- ---- all the reads at once
-or-first : (a b : ℕ) → (a or b) ≡ 0 → a ≡ 0
-or-first zero b e = refl
-or-first (suc a) b e = absurd (omega arith)
-
-or-second : (a b : ℕ) → (a or b) ≡ 0 → b ≡ 0
-or-second zero b e = e
-or-second (suc a) b e = absurd (omega arith)
-
 first-fewer : (f g : ℕ → ℕ) → ((n : ℕ) → f n ≡ 0 → g n ≡ 0) → (ns : List ℕ) → firstRefusal f ns ≡ 0 → firstRefusal g ns ≡ 0
 unfolding firstRefusal
 first-fewer f g h [] e = refl
-first-fewer f g h (n ∷ ns) e = ap₂ _or_ (h n (or-first (f n) _ e)) (first-fewer f g h ns (or-second (f n) _ e))
+first-fewer f g h (n ∷ ns) e = ap₂ _or_ (h n (or-left (f n) _ e)) (first-fewer f g h ns (or-right (f n) _ e))
 
 -- of a row that accesses are not refused in, fewer of them are not refused either
 row-fewer : (f g : ℕ → Option AccessKind) → ((b : ℕ) → (g b ≡ none) ⊎ (g b ≡ f b)) → (r : NodeRelation) (b : ℕ) (row : List Permission) → rowRefusal f r b row ≡ 0 → rowRefusal g r b row ≡ 0
@@ -77,8 +70,8 @@ unfolding rowRefusal
 row-fewer f g h r b [] e = refl
 row-fewer f g h r b (p ∷ row) e =
     ap₂ _or_
-    (⊎-elim (λ z. ap (λ (x : Option AccessKind). refusalBy x r p) z) (λ z. ap (λ (x : Option AccessKind). refusalBy x r p) z ∙ or-first (refusalBy (f b) r p) _ e) (h b))
-    (row-fewer f g h r (suc b) row (or-second (refusalBy (f b) r p) _ e))
+    (⊎-elim (λ z. ap (λ (x : Option AccessKind). refusalBy x r p) z) (λ z. ap (λ (x : Option AccessKind). refusalBy x r p) z ∙ or-left (refusalBy (f b) r p) _ e) (h b))
+    (row-fewer f g h r (suc b) row (or-right (refusalBy (f b) r p) _ e))
 
 module _ (node from : ℕ) (inside : List ℕ) (nodes : List Node) (none-refused : visitRefusal (readsVisit node from (map permission inside)) nodes ≡ 0) where
   -- the k-th byte's read is one of them

@@ -1,47 +1,12 @@
--- Loops through a list: a search for an element that passes a test, a copy, and a change of each element in place.
+-- Loops through a list: a copy, and a change of each element in place.
 use Prim.Native.Nat.{ℕ, zero, suc, _+_, _≤_, _<_}
 use mathlib.Core.Path.{_≡_, refl, sym, ap, ap₂, _∙_}
-use mathlib.Core.Bool.{Bool, true, false}
 use mathlib.Core.List.{List, [], _∷_, _++_, map, append-nil}
 use native.Mathlib.Numerals.{add-one}
 use native.Mathlib.Omega.{arith}
 use lib.ListN.{length, getD, take, drop, set, length-append, length-drop, length-map, drop-of-length-le, List·getD-append}
-use lib.Seq.{drop-cons, take-append-seam, take-all, length-take-le}
-use Rattle.definition.specs.Notation.{if_then_else_, any}
+use lib.Seq.{take-append-seam, take-all, length-take-le}
 use Rattle.definition.proofs.Lists.{loop-get, loop-set}
-
--- ---- a search: what is left of it from i on
-module _ {A : Type 0} (test : A → Bool) (d : A) (l : List A) (i : ℕ) where
-  any-step : i < length l → any test (drop i l) ≡ (if test (getD l i d) then true else any test (drop (suc i) l))
-  unfolding any
-  any-step h = ap (any test) (drop-cons l i d h)
-
-  pub any-here : i < length l → test (getD l i d) ≡ true → any test (drop i l) ≡ true
-  any-here h e = any-step h ∙ rw e
-
-  pub any-later : i < length l → test (getD l i d) ≡ false → any test (drop (i + 1) l) ≡ any test (drop i l)
-  any-later h e = rw (add-one i) (sym (any-step h ∙ rw e))
-
-  pub any-end : length l ≤ i → any test (drop i l) ≡ false
-  unfolding any
-  any-end h = ap (any test) (drop-of-length-le l h)
-
--- in any order: one that passes, or none
-module _ {A : Type 0} (test : A → Bool) (d : A) where
-  pub any-at : (l : List A) (k : ℕ) → k < length l → test (getD l k d) ≡ true → any test l ≡ true
-  unfolding any
-  any-at [] k h e = absurd (omega arith)
-  any-at (x ∷ l) zero h e = rw e
-  any-at (x ∷ l) (suc k) h e = go (test x) (any-at l k (omega arith) e)
-    where
-      go : (b : Bool) → any test l ≡ true → (if b then true else any test l) ≡ true
-      go true q = refl
-      go false q = q
-
-  pub any-none : (l : List A) → ((k : ℕ) → k < length l → test (getD l k d) ≡ false) → any test l ≡ false
-  unfolding any
-  any-none [] h = refl
-  any-none (x ∷ l) h = rw (h 0 (omega arith)) (any-none l (λ k i. h (suc k) (omega arith)))
 
 -- ---- a copy of row into out
 module _ (row out : List ℕ) (fits : length row ≤ length out) where

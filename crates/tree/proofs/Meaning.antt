@@ -1,6 +1,6 @@
 -- A visit over the tables is the definition's visit of the nodes that they hold: `means-refusal`, `means-after`.
 -- The rows agree byte by byte; the table changes row by row, from the last node to the first.
-use Prim.Native.Nat.{ℕ, zero, suc, _+_, _≤_, _<_}
+use Prim.Native.Nat.{ℕ, zero, suc, _≤_, _<_}
 use mathlib.Core.Path.{_≡_, refl, sym, ap, ap₂, subst, _∙_}
 use mathlib.Core.Bool.{Bool, true, false}
 use mathlib.Core.Option.{Option}

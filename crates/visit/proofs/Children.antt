@@ -11,6 +11,7 @@ use borrow.Author.Tests.{eq-eqb, ne-eqb}
 use lib.ListN.{length, getD, drop, drop-of-length-le}
 use lib.Seq.{drop-cons}
 use Rattle.definition.specs.Notation.{_or_, firstRefusal}
+use Rattle.definition.proofs.Booleans.{or-none}
 use Rattle.definition.proofs.Lists.{first-append}
 use Rattle.definition.proofs.Trees.{Parents, parent-earlier}
 use Rattle.definition.proofs.Order.{walk}
@@ -143,16 +144,12 @@ module _ (s : ℕ) (ps : List ℕ) (m child sibling : ℕ) (z : 0 < m) (l : m < 
     passed : here ≡ 0 → (refusal (left s ps child) or refusal (left s ps sibling)) ≡ refusal (left s ps m)
     passed q = sym (turn ∙ ap (λ (k : ℕ). k or (refusal (left s ps child) or refusal (left s ps sibling))) q)
 
-    or-nothing : (a : ℕ) → (a or 0) ≡ a
-    or-nothing zero = refl
-    or-nothing (suc a) = refl
-
     nothing : (m : ℕ) → m ≡ 0 → refusal (left s ps m) ≡ 0
     unfolding firstRefusal
     nothing m q = ap refusal (left-none s ps m q)
 
     pub passed-last : here ≡ 0 → sibling ≡ 0 → refusal (left s ps child) ≡ refusal (left s ps m)
-    passed-last q e = sym (or-nothing (refusal (left s ps child))) ∙ ap (λ (k : ℕ). refusal (left s ps child) or k) (sym (nothing sibling e)) ∙ passed q
+    passed-last q e = sym (or-none (refusal (left s ps child))) ∙ ap (λ (k : ℕ). refusal (left s ps child) or k) (sym (nothing sibling e)) ∙ passed q
 
     pub passed-leaf : here ≡ 0 → child ≡ 0 → refusal (left s ps sibling) ≡ refusal (left s ps m)
     passed-leaf q e = ap (λ (k : ℕ). k or refusal (left s ps sibling)) (sym (nothing child e)) ∙ passed q

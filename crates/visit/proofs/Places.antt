@@ -1,18 +1,15 @@
 -- Where the rows of a table stand.
 use Prim.Native.Nat.{ℕ, _+_, _-_, _*_, _≤_, _<_}
-use mathlib.Core.Path.{_≡_, ap, ap₂, subst, _∙_}
+use mathlib.Core.Path.{_≡_, ap, ap₂, _∙_}
 use mathlib.Core.List.{List, _++_}
-use native.Mathlib.Nat.{suc-mul, mul-le-mul-right}
 use native.Mathlib.Omega.{arith}
 use lib.ListN.{length, take, drop, length-drop, take-append-drop}
 use lib.Seq.{length-take-le, take-at}
+use Rattle.definition.proofs.Parts.{row-fits}
 use Rattle.visit.specs.declared.Reach.{Reach}
 use Rattle.visit.specs.Walk.{Ready, rowAt, withRowAt}
 
--- row n ends within a table of k rows
-pub row-fits : (n k w : ℕ) → n < k → n * w + w ≤ k * w
-row-fits n k w h = subst (λ (m : ℕ). m ≤ k * w) (suc-mul n w) (mul-le-mul-right w h)
-
+-- row n ends within the table
 pub row-in : (v : Reach) (ps codes : List ℕ) (n : ℕ) → Ready v ps codes → n < length ps → n * v .width + v .width ≤ length codes
 row-in v ps codes n r h = omega (arith, r .rows, row-fits n (length ps) (v .width) h)
 

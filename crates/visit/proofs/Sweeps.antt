@@ -11,7 +11,7 @@ use borrow.Author.Tests.{eq-eqb, ne-eqb}
 use lib.Dec.{eqb}
 use lib.ListN.{length, getD, take, drop, set, replicate}
 use lib.Seq.{getD-set-same, getD-set-other, take-at}
-use Rattle.definition.specs.Notation.{if_then_else_, _or_, firstRefusal, filter}
+use Rattle.definition.specs.Notation.{if_then_else_, firstRefusal, filter}
 use Rattle.definition.specs.Permission.{NodeRelation}
 use Rattle.definition.specs.Permission.NodeRelation.{Local, Foreign}
 use Rattle.definition.specs.Tree.{isAbove, preorder, relation, visitingOrder}

@@ -3,7 +3,7 @@ use Prim.Native.Nat.{ℕ, suc, _+_, _-_, _*_, _≤_, _<_}
 use mathlib.Core.Path.{_≡_}
 use mathlib.Core.Bool.{Bool, false, _||_}
 use mathlib.Core.List.{List}
-use native.Mathlib.Nat.{suc-mul, le-trans, mul-le-mul-right, mul-le-mul-left}
+use native.Mathlib.Nat.{le-trans, mul-le-mul-right, mul-le-mul-left}
 use native.Mathlib.Numerals.{add-one}
 use native.Mathlib.Omega.{arith}
 use borrow.Author.Tests.{eq-eqb, ne-eqb}
@@ -16,11 +16,6 @@ use Rattle.tables.proofs.Lookup.{front-at, front-state, next-record}
 use Rattle.wellformed.specs.WellFormed.{badPlace, badCode, badNodes, badAllocation, badRest, badAllocations, clashes, clashesLater, clashesFirst, anyClash}
 
 -- ---- nodes
-pub row-in : (n count size : ℕ) → n < count → n * size + size ≤ count * size
-row-in n count size h =
-    let m : suc n * size ≤ count * size = mul-le-mul-right size h in
-    omega (arith, suc-mul n size)
-
 pub nodes-turn : (live : Bool) (size count n row : ℕ) (P R C : List ℕ) → n < count
     → badNodes live size n (count - n) (drop n P) (drop n R) (drop row C)
     ≡ (badPlace n (getD P n 0) (getD R n 0) || any (badCode live (getD R n 0)) (take size (drop row C)))

@@ -9,8 +9,9 @@ use borrow.Author.Needs.{needs}
 use lib.ListN.{take, getD, drop}
 use Rattle.definition.specs.Notation.{any}
 use Rattle.definition.proofs.Booleans.{or-taken, or-skip}
+use Rattle.definition.proofs.Parts.{row-fits}
 use Rattle.wellformed.specs.WellFormed.{badPlace, badCode, badNodes}
-use Rattle.wellformed.proofs.Turns.{row-in, nodes-turn, nodes-end}
+use Rattle.wellformed.proofs.Turns.{nodes-turn, nodes-end}
 use Rattle.wellformed.proofs.bad_nodes.Statement.{statement}
 use Rattle.wellformed.proofs.bad_nodes.Tie as tie
 
@@ -60,7 +61,7 @@ returns c =
 add-end : tie.Need-add-end Inv-loop μ-loop
 add-end c =
     let s = c .before .before .before .before .before .before .before .before .before .before in
-    omega (arith, row-in (c .before .before .before .before .before .before .loop .n) (s .args .count) (s .args .size) (omega arith))
+    omega (arith, row-fits (c .before .before .before .before .before .before .loop .n) (s .args .count) (s .args .size) (omega arith))
 
 sub-any-bad-code : tie.Need-sub-any-bad-code Inv-loop μ-loop
 sub-any-bad-code c = search needs
@@ -71,7 +72,7 @@ part-any-bad-code-start c = search needs
 part-any-bad-code-end : tie.Need-part-any-bad-code-end Inv-loop μ-loop
 part-any-bad-code-end c =
     let s = c .before .before .before .before .before .before .before .before .before .before in
-    omega (arith, row-in (c .before .before .before .before .before .before .loop .n) (s .args .count) (s .args .size) (omega arith))
+    omega (arith, row-fits (c .before .before .before .before .before .before .loop .n) (s .args .count) (s .args .size) (omega arith))
 
 any-bad-code-requires : tie.Need-any-bad-code-requires Inv-loop μ-loop
 any-bad-code-requires c κs = search needs

@@ -1,14 +1,13 @@
 -- The allocation's parts hold its tree (`tree-held`), and where they stay so do all codes (`quiet-visited`).
-use mathlib.Core.Path.{ap, ap₂, _∙_}
+use mathlib.Core.Path.{ap₂}
 use Prim.Native.Nat.{ℕ, _+_, _-_}
 use denote.Ref.{now}
-use Rattle.definition.specs.Memory.{Memory, allocationAt}
+use Rattle.definition.specs.Memory.{Memory}
 use Rattle.permission.specs.Codes.{accessKind}
 use Rattle.tables.proofs.Lookup.{record-in}
 use Rattle.tables.proofs.Focus.{focus-used}
 use Rattle.tables.proofs.Sizes.{words-fit}
 use Rattle.tables.specs.Encoding.{wordsOf}
-use Rattle.tables.specs.Held.{startOf}
 use Rattle.bounds.proofs.Points.{read-address, read-size}
 use Rattle.memory.specs.Buffers.{HoldsTrees}
 use Rattle.memory.specs.Access.{Reached}

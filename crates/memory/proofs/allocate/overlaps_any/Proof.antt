@@ -7,9 +7,9 @@ use borrow.Author.Count.{below-more}
 use borrow.Author.Needs.{needs}
 use lib.ListN.{length}
 use Rattle.definition.specs.Memory.{Memory, noAllocation, allocationAt, overlaps}
+use Rattle.definition.proofs.Any.{any-at, any-none}
 use Rattle.tables.specs.Held.{Records}
 use Rattle.tables.proofs.Lookup.{allocs-length, made-count}
-use Rattle.bounds.proofs.Any.{any-at, any-none}
 use Rattle.memory.proofs.allocate.overlaps_any.Statement.{statement}
 use Rattle.memory.proofs.allocate.overlaps_any.Tie as tie
 

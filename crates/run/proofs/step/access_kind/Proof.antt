@@ -1,5 +1,4 @@
 -- In the arm `_` it is no store.
-use Prim.Native.Nat.{ℕ}
 use mathlib.Core.Path.{refl, sym, ap, _∙_}
 use denote.Enum.Declared.{tagOf}
 use Rattle.request.proofs.Kind.{the-type}

@@ -7,8 +7,8 @@ use borrow.Author.Needs.{needs}
 use lib.ListN.{length, drop}
 use Rattle.definition.specs.Permission.AccessKind.{Write}
 use Rattle.definition.specs.Notation.{any}
+use Rattle.definition.proofs.Any.{any-here, any-later, any-end}
 use Rattle.permission.specs.Codes.{nodeRelation, nextCode, preventsCode}
-use Rattle.tree.proofs.Loops.{any-here, any-later, any-end}
 use Rattle.tree.proofs.deallocation.row_prevents_after_write.Statement.{statement}
 use Rattle.tree.proofs.deallocation.row_prevents_after_write.Tie as tie
 

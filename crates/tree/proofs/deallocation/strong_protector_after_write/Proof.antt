@@ -10,9 +10,9 @@ use Rattle.definition.proofs.Visits.{visited-length}
 use Rattle.definition.specs.Tree.{noNode, Node, nodeAt, visited, accessVisit}
 use Rattle.definition.specs.Memory.{nodePreventsDeallocation}
 use Rattle.definition.specs.Permission.AccessKind.{Write}
+use Rattle.definition.proofs.Any.{any-at, any-none}
 use Rattle.tree.specs.Table.{HoldsAll}
 use Rattle.tree.proofs.Strong.{strong-prevents, other-prevents-not}
-use Rattle.tree.proofs.Loops.{any-at, any-none}
 use Rattle.tree.proofs.Held.{node-fits, held-count, marks-count}
 use Rattle.visit.proofs.Sweeps.{Sweeping, sweeping-start, sweeping-up, sweeping-on, met}
 use borrow.Author.Needs.{needs}

@@ -6,8 +6,8 @@ use native.Mathlib.Omega.{arith}
 use borrow.Author.Needs.{needs}
 use lib.ListN.{length, drop}
 use Rattle.definition.specs.Notation.{any}
+use Rattle.definition.proofs.Any.{any-here, any-later, any-end}
 use Rattle.permission.specs.Codes.{isProtectedCode}
-use Rattle.tree.proofs.Loops.{any-here, any-later, any-end}
 use Rattle.tree.proofs.protector.has_unprotected.Statement.{statement}
 use Rattle.tree.proofs.protector.has_unprotected.Tie as tie
 

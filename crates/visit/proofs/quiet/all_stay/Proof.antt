@@ -2,8 +2,7 @@
 use Prim.Native.Nat.{ℕ, _-_}
 use mathlib.Core.Bool.{false≢true}
 use mathlib.Core.List.{List}
-use mathlib.Core.Path.{_≡_, refl}
-use lib.ListN.{length}
+use mathlib.Core.Path.{refl}
 use borrow.Author.Tests.{not-false}
 use Rattle.visit.proofs.Places.{row-in}
 use Rattle.visit.proofs.Sweeps.{Sweeping, sweeping-start, sweeping-up, sweeping-on, LooksFrom, each-looks, looks-next, looks-all}

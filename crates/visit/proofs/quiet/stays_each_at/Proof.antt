@@ -7,13 +7,9 @@ use lib.ListN.{replicate}
 use Rattle.permission.specs.Codes.{accessKind, nodeRelation}
 use Rattle.visit.specs.Walk.{Looks}
 use Rattle.visit.proofs.Places.{part-row}
-use native.Mathlib.Omega.{arith}
 use borrow.Author.Needs.{needs}
 use Rattle.visit.proofs.quiet.stays_each_at.Statement.{statement}
 use Rattle.visit.proofs.quiet.stays_each_at.Tie as tie
-use Rattle.visit.proofs.quiet.stays_each_at.Reads as reads
-use Rattle.visit.proofs.quiet.stays_each_at.Lts as lts
-use Rattle.visit.proofs.quiet.stays_each.Reads as stays-each-reads
 
 mul-start : tie.Need-mul-start
 mul-start c = search needs

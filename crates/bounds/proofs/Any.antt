@@ -1,2 +1,0 @@
--- Passed on, for those who name them here.
-pub use Rattle.definition.proofs.Any.{any-at, any-none}
