@@ -1,12 +1,9 @@
 -- The five buffers after a request: those that it does not touch are as they were, so that all of them hold the memory that the definition leaves.
 --     load-holds, store-holds, deallocate-holds     what the next request asks
---     load-viewed                                   what `load_view` asks, of an accepted load
-use Prim.Native.Nat.{ℕ, _+_, _≤_}
-use mathlib.Core.Path.{_≡_, refl, sym, ap, _∙_}
+use Prim.Native.Nat.{ℕ}
+use mathlib.Core.Path.{_≡_, refl, sym, _∙_}
 use mathlib.Core.List.{List, []}
-use native.Mathlib.Omega.{arith}
 use lib.Dec.{eqb}
-use lib.ListN.{length}
 use Rattle.definition.specs.Notation.{mutateAt, writeAt}
 use Rattle.definition.specs.Memory.{ThinPointer, Allocation, AllocationKind, Memory, MemoryAccess, allocationOf, offset, visitOf, accessRefusal, afterAccessIn, afterAccess, acceptAccess, performAccess, writeAll, afterDeallocateIn, acceptDeallocate, deallocate}
 use Rattle.definition.specs.Memory.Liveness.{Dead}
@@ -17,11 +14,9 @@ use Rattle.definition.proofs.Visits.{visited-length}
 use Rattle.definition.proofs.ValidMemory.{valid-load-store, valid-deallocate}
 use Rattle.definition.specs.Memory as definition
 use Rattle.answer.specs.declared.Answer.{Answer}
-use Rattle.answer.specs.declared.Answer.the-variants.{Words}
 use Rattle.tables.specs.Encoding.{recordOf, parentsOf, protectorsOf, wordsOf, held, encode}
 use Rattle.tables.specs.Held.{buffers, Holds}
-use Rattle.tables.proofs.Focus.{length-held, held-kept}
-use Rattle.tables.proofs.Sizes.{words-fit}
+use Rattle.tables.proofs.Focus.{held-kept}
 use Rattle.tables.proofs.ReadBack.{holds-allocs, holds-parents, holds-protectors, holds-words, holds-codes, holds-records, encode-of}
 use Rattle.memory.specs.Buffers.{HoldsTrees, HoldsWords, HoldsMarked}
 use Rattle.memory.specs.Access.{loadOf, storeOf, Loaded, Stored}
@@ -80,10 +75,6 @@ module _ {m : Memory} {A P R W C : List ℕ} (h : Holds m (buffers A P R W C)) (
   pub load-holds : (len exponent : ℕ) {answer : Answer} {C′ : List ℕ} → Loaded (loadOf p len exponent) m answer C′
       → Holds (performAccess (loadOf p len exponent) m .1) (buffers A P R W C′)
   load-holds len exponent k = record { valid = valid-load-store (loadOf p len exponent) tt m (h .valid); equal = load-encode len exponent k }
-
-  pub load-viewed : (len exponent start count : ℕ) {C′ : List ℕ} → Loaded (loadOf p len exponent) m (Words start count) C′ → start + count ≤ length W
-  load-viewed len exponent start count k =
-      omega (arith, k .inData, ap length (holds-words h), length-held 4096 wordsOf m (words-fit m (h .valid)))
 
   pub store-encode : (bytes : List ℕ) (exponent : ℕ) {answer : Answer} {W′ C′ : List ℕ} → Stored (storeOf p bytes exponent) m answer W′ C′
       → buffers A P R W′ C′ ≡ encode (performAccess (storeOf p bytes exponent) m .1)

@@ -6,7 +6,7 @@ use pointer::ThinPointer;
 ghost use mathlib.Core.Path.{_≡_};
 ghost use mathlib.Core.List.{List, _++_};
 ghost use Prim.Native.Nat.{ℕ, _+_, _≤_, _<_};
-ghost use lib.ListN.{length, take, drop};
+ghost use lib.ListN.{length, drop};
 ghost use lib.Seq.{paste};
 ghost use Rattle.definition.specs.Tree.{visitRefusal};
 ghost use Rattle.definition.specs.Memory.{Memory, allocationAt};
@@ -224,7 +224,7 @@ fn words_start(allocs: &[u64], p: ThinPointer, len: u64) -> usize
     }
 }
 
-// The loaded words are a part of the data: `load_view` hands it out.
+// The loaded words are a part of the data, which the answer names.
 pub fn load(
     allocs: &[u64],
     parents: &[u16],
@@ -247,15 +247,6 @@ pub fn load(
         start,
         len: len as usize,
     }
-}
-
-// The caller's own words, which an accepted load names.
-pub fn load_view<'d>(words: &'d [u32], start: usize, len: usize) -> &'d [u32]
-    requires { ⌜ start + len ≤ length (now words) ⌝ }
-    ensures { λ r. ⌜ now r ≡ take len (drop start (now (words .entry))) ⌝ }
-{
-    let end = start + len;
-    &words[start..end]
 }
 
 // Copies src to the front of dst.
