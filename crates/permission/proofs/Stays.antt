@@ -1,5 +1,5 @@
 -- A code that has its bit among those that stay is not refused, and stays: a test, computed. So does a number that is no code.
-use Prim.Native.Nat.{ℕ, _≤_, _<_}
+use Prim.Native.Nat.{ℕ, _<_}
 use mathlib.Core.Path.{_≡_, subst}
 use mathlib.Core.Bool.{Bool, true, _&&_}
 use mathlib.Core.Option.{some}

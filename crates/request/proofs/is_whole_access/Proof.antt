@@ -2,7 +2,6 @@
 use mathlib.Core.Bool.{or-false, false≢true}
 use mathlib.Core.Path.{refl, sym, ap, _∙_}
 use borrow.Author.Tests.{not-true}
-use lib.ListN.{drop}
 use Rattle.definition.specs.Notation.{any}
 use Rattle.definition.specs.Request.{isMalformed, badByte}
 use mathlib.Core.Logic.{inl, inr}
