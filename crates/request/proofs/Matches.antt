@@ -1,6 +1,6 @@
 -- What is known in the arms of a `match`, on a number and on a kind.
 use Prim.Native.Nat.{ℕ, zero, suc, _≤_, _%_}
-use mathlib.Core.Path.{_≡_, refl, subst⁻¹}
+use mathlib.Core.Path.{_≡_, refl, subst, subst⁻¹}
 use mathlib.Core.Bool.{Bool}
 use mathlib.Core.List.{List, [], _∷_}
 use native.Mathlib.Omega.{arith}
@@ -47,6 +47,12 @@ notStoreOrRetag = 0 ∷ 1 ∷ 2 ∷ 5 ∷ 6 ∷ 7 ∷ 8 ∷ 9 ∷ 10 ∷ []
 
 abbrev notRetag : List ℕ
 notRetag = 0 ∷ 1 ∷ 2 ∷ 3 ∷ 5 ∷ 6 ∷ 7 ∷ 8 ∷ 9 ∷ 10 ∷ []
+
+abbrev notStore : List ℕ
+notStore = 0 ∷ 1 ∷ 2 ∷ 4 ∷ 5 ∷ 6 ∷ 7 ∷ 8 ∷ 9 ∷ 10 ∷ []
+
+pub no-store : {k : Kind} → Among notStore k → k ≡ Store → ⊥
+no-store h e = miss notStore 3 tt (subst (Among notStore) e h)
 
 pub nothing-follows : (q : Request) (ws : List ℕ) (k : Kind) → q .kind ≡ k → Among notStoreOrRetag k → followingLength (requestOf q ws) ≡ 0
 unfolding followingLength

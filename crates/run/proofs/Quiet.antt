@@ -2,11 +2,9 @@
 use Prim.Native.Nat.{ℕ, _+_, _≤_}
 use mathlib.Core.Path.{_≡_, refl, sym, ap, subst, _∙_}
 use mathlib.Core.Bool.{false, not}
-use mathlib.Core.List.{List, [], _∷_}
+use mathlib.Core.List.{List, []}
 use native.Mathlib.Omega.{arith}
 use borrow.Author.Tests.{not-false, eqb-true}
-use denote.Enum.Declared.{tagOf}
-use types.Run.{OneOf, miss}
 use lib.Dec.{eqb, ltb}
 use lib.ListN.{length, drop, length-drop}
 use lib.Seq.{paste}
@@ -23,12 +21,10 @@ use Rattle.tables.specs.Encoding.{wordsOf}
 use Rattle.tables.specs.Held.{buffers}
 use Rattle.tables.proofs.Focus.{length-held}
 use Rattle.tables.proofs.Sizes.{words-fit}
-use Rattle.request.specs.declared.Kind.{Kind}
 use Rattle.request.specs.declared.Kind.the-variants.{Load, Store}
 use Rattle.request.specs.declared.Request as code
 use Rattle.request.specs.Fields.{requestOf, fieldsOf}
 use Rattle.request.specs.Plain.{PlainAccess}
-use Rattle.request.proofs.Kind.{the-type}
 use Rattle.memory.specs.declared.access.Quiet.{Quiet}
 use Rattle.memory.specs.declared.access.Quiet.the-variants.{No, At}
 use Rattle.memory.specs.Buffers.{HoldsTrees}
@@ -39,13 +35,6 @@ use Rattle.perform.specs.Performed.{HoldsState, isInMemory}
 use Rattle.perform.proofs.Memories.{load-left, store-left}
 use Rattle.run.specs.Steps.{isRefused, Stepped, QuietAt, QuietStep}
 use Rattle.run.proofs.Steps.{refused-by, asked-alone, stepped-alone}
-
--- ---- in the arm `_` behind that of a store
-abbrev notStore : List ℕ
-notStore = 0 ∷ 1 ∷ 2 ∷ 4 ∷ 5 ∷ 6 ∷ 7 ∷ 8 ∷ 9 ∷ 10 ∷ []
-
-pub no-store : {k : Kind} → OneOf notStore (tagOf the-type k) → k ≡ Store → ⊥
-no-store h e = miss notStore 3 tt (subst (λ (k : Kind). OneOf notStore (tagOf the-type k)) e h)
 
 -- ---- where it is looked for
 pub trees-held : {s : State} {A P R W C F : List ℕ} → HoldsState s (buffers A P R W C) F → HoldsTrees (s .memory) A P C

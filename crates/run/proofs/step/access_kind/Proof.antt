@@ -2,7 +2,7 @@
 use mathlib.Core.Path.{refl, sym, ap, _∙_}
 use denote.Enum.Declared.{tagOf}
 use Rattle.request.proofs.Kind.{the-type}
-use Rattle.run.proofs.Quiet.{no-store}
+use Rattle.request.proofs.Matches.{no-store}
 use native.Mathlib.Omega.{arith}
 use borrow.Author.Needs.{needs}
 use Rattle.run.proofs.step.access_kind.Statement.{statement}

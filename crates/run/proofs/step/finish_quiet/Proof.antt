@@ -1,7 +1,8 @@
 -- A store writes its bytes, a load names them (Quiet).
 use mathlib.Core.Logic.{⊎-elim}
 use Rattle.run.proofs.Steps.{all-words}
-use Rattle.run.proofs.Quiet.{no-store, quiet-load, quiet-fits, quiet-store}
+use Rattle.request.proofs.Matches.{no-store}
+use Rattle.run.proofs.Quiet.{quiet-load, quiet-fits, quiet-store}
 use native.Mathlib.Omega.{arith}
 use borrow.Author.Needs.{needs}
 use Rattle.run.proofs.step.finish_quiet.Statement.{statement}
