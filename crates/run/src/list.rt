@@ -1,5 +1,7 @@
 // A list of requests from the empty memory. It goes on after a refusal. specs/Lists.antt says what it comes to, with demand 3.
 use crate::ListRun;
+use crate::quick::Progress;
+use crate::quick::quick_turns;
 use transcript::Written;
 ghost use mathlib.Core.Path.{_≡_};
 ghost use Prim.Native.Nat.{_-_};
@@ -17,7 +19,7 @@ fn wide(x: u32) -> usize
 }
 
 // The words from one place up to another, as far as there are any.
-fn part<'a>(words: &'a [u32], from: usize, end: usize) -> &'a [u32]
+pub(crate) fn part<'a>(words: &'a [u32], from: usize, end: usize) -> &'a [u32]
     ensures { λ r. ⌜ now r ≡ take (end - from) (drop from (now (words .entry))) ⌝ }
 {
     let total = words.len();
@@ -33,7 +35,7 @@ fn part<'a>(words: &'a [u32], from: usize, end: usize) -> &'a [u32]
     &words[from..end]
 }
 
-// One request; its answer is written behind the others.
+// One request in full; its answer is written behind the others.
 fn turn(
     allocs: &mut [u64],
     parents: &mut [u16],
@@ -49,11 +51,11 @@ fn turn(
     ensures { λ r. ⌜ ((s : State) → HoldsState s (buffers (now (allocs .entry)) (now (parents .entry)) (now (protectors .entry)) (now (words .entry)) (now (codes .entry))) (now (frames .entry))
         → Turned s (now (request .entry)) w (now (answers .entry)) r (buffers (now (allocs .exit)) (now (parents .exit)) (now (protectors .exit)) (now (words .exit)) (now (codes .exit))) (now (frames .exit)) (now (answers .exit))) ⌝ }
 {
-    let answer = crate::step::step(allocs, parents, protectors, words, codes, frames, request);
+    let answer = crate::step::in_full(allocs, parents, protectors, words, codes, frames, request);
     transcript::put_answer(answers, w, answer, words)
 }
 
-// The whole list, on buffers that hold the empty state. The parts of `Written` are carried apart: a struct of both has bytes that belong to neither,
+// The whole list, on buffers that hold the empty state: one request in full, and then all that follow and take few steps. The parts of `Written` are carried apart: a struct of both has bytes that belong to neither,
 // and to carry those around the loop costs more than the rest of it.
 fn run_cleared(
     allocs: &mut [u64],
@@ -89,10 +91,25 @@ fn run_cleared(
             answers,
             Written { at, whole },
         );
-        at = w.at;
         whole = w.whole;
-        from = end;
-        i += 1;
+        let p = quick_turns(
+            allocs,
+            parents,
+            words,
+            codes,
+            frames,
+            requests,
+            ends,
+            answers,
+            Progress {
+                done: i + 1,
+                from: end,
+                at: w.at,
+            },
+        );
+        i = p.done;
+        from = p.from;
+        at = p.at;
     }
     Written { at, whole }
 }

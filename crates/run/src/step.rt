@@ -7,12 +7,13 @@ use request::Kind;
 use request::Request;
 ghost use mathlib.Core.Path.{_≡_};
 ghost use mathlib.Core.List.{List};
-ghost use Prim.Native.Nat.{ℕ};
-ghost use lib.ListN.{drop};
+ghost use Prim.Native.Nat.{ℕ, _≤_};
+ghost use lib.ListN.{length, drop};
 ghost use Rattle.definition.specs.Frame.{State};
 ghost use Rattle.definition.specs.Request as definition;
 ghost use Rattle.definition.specs.Permission.AccessKind.{Read, Write};
 ghost use Rattle.permission.specs.Codes.{accessKind};
+ghost use Rattle.answer.specs.Answer.{answerOf};
 ghost use Rattle.tables.specs.Held.{buffers};
 ghost use Rattle.entries.specs.Buffer.{HoldsFrames};
 ghost use Rattle.request.specs.Fields.{requestOf};
@@ -39,21 +40,24 @@ fn wide(x: u32) -> u64
 }
 
 // A request of any kind, with all that it may refuse and change.
-fn in_full(
+pub(crate) fn in_full(
     allocs: &mut [u64],
     parents: &mut [u16],
     protectors: &mut [u8],
     words: &mut [u32],
     codes: &mut [u8],
     frames: &mut [u32],
-    q: Request,
     request: &[u32],
 ) -> Answer
     requires { ⌜ ((s : State) × HoldsState s (buffers (now allocs) (now parents) (now protectors) (now words) (now codes)) (now frames)) ⌝ }
-    requires { ⌜ requestOf q (drop 4 (now request)) ≡ definition.request (now request) ⌝ }
     ensures { λ r. ⌜ ((s : State) → HoldsState s (buffers (now (allocs .entry)) (now (parents .entry)) (now (protectors .entry)) (now (words .entry)) (now (codes .entry))) (now (frames .entry))
         → Stepped s (now (request .entry)) r (buffers (now (allocs .exit)) (now (parents .exit)) (now (protectors .exit)) (now (words .exit)) (now (codes .exit))) (now (frames .exit))) ⌝ }
 {
+    // too few words even for the fields; from here on each of them is there to be read
+    if request.len() < 4 {
+        return Answer::Refused(2);
+    }
+    let q = Request::of(request);
     if is_refused(frames, q, request) {
         return Answer::Refused(2);
     }
@@ -82,7 +86,13 @@ fn access_kind(kind: Kind) -> AccessKind
 }
 
 // Where the bytes of such a request start.
-fn find_quiet(allocs: &[u64], parents: &[u16], codes: &[u8], q: Request, request: &[u32]) -> Quiet
+pub(crate) fn find_quiet(
+    allocs: &[u64],
+    parents: &[u16],
+    codes: &[u8],
+    q: Request,
+    request: &[u32],
+) -> Quiet
     requires { ⌜ ((s : State) × ((R : List ℕ) × ((W : List ℕ) × ((F : List ℕ) × HoldsState s (buffers (now allocs) (now parents) R W (now codes)) F)))) ⌝ }
     requires { ⌜ requestOf q (drop 4 (now request)) ≡ definition.request (now request) ⌝ }
     ensures { λ r. ⌜ ((s : State) (R W F : List ℕ) → HoldsState s (buffers (now (allocs .entry)) (now (parents .entry)) R W (now (codes .entry))) F
@@ -104,11 +114,12 @@ fn find_quiet(allocs: &[u64], parents: &[u16], codes: &[u8], q: Request, request
 }
 
 // Then only its words are left to give or to write.
-fn finish_quiet(words: &mut [u32], q: Request, request: &[u32], start: usize) -> Answer
+pub(crate) fn finish_quiet(words: &mut [u32], q: Request, request: &[u32], start: usize) -> Answer
     requires { ⌜ ((s : State) × ((A : List ℕ) × ((P : List ℕ) × ((R : List ℕ) × ((C : List ℕ) × ((F : List ℕ) × (HoldsState s (buffers A P R (now words) C) F × QuietAt s q (now request) C start))))))) ⌝ }
     requires { ⌜ requestOf q (drop 4 (now request)) ≡ definition.request (now request) ⌝ }
-    ensures { λ r. ⌜ ((s : State) (A P R C F : List ℕ) → HoldsState s (buffers A P R (now (words .entry)) C) F → QuietAt s q (now (request .entry)) C start
+    ensures stepped { λ r. ⌜ ((s : State) (A P R C F : List ℕ) → HoldsState s (buffers A P R (now (words .entry)) C) F → QuietAt s q (now (request .entry)) C start
         → Stepped s (now (request .entry)) r (buffers A P R (now (words .exit)) C) F) ⌝ }
+    ensures short { λ r. ⌜ length (answerOf r (now (words .exit)) .words) ≤ q .fourth ⌝ }
 {
     let kind = q.kind;
     match kind {
@@ -136,22 +147,12 @@ pub fn step(
     ensures { λ r. ⌜ ((s : State) → HoldsState s (buffers (now (allocs .entry)) (now (parents .entry)) (now (protectors .entry)) (now (words .entry)) (now (codes .entry))) (now (frames .entry))
         → Stepped s (now (request .entry)) r (buffers (now (allocs .exit)) (now (parents .exit)) (now (protectors .exit)) (now (words .exit)) (now (codes .exit))) (now (frames .exit))) ⌝ }
 {
-    // too few words even for the fields; from here on each of them is there to be read
     if request.len() < 4 {
         return Answer::Refused(2);
     }
     let q = Request::of(request);
     match find_quiet(allocs, parents, codes, q, request) {
         Quiet::At(start) => finish_quiet(words, q, request, start),
-        Quiet::No => in_full(
-            allocs,
-            parents,
-            protectors,
-            words,
-            codes,
-            frames,
-            q,
-            request,
-        ),
+        Quiet::No => in_full(allocs, parents, protectors, words, codes, frames, request),
     }
 }

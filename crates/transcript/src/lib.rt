@@ -2,8 +2,10 @@
 use answer::Answer;
 use pointer::Provenance;
 ghost use mathlib.Core.Path.{_≡_};
+ghost use mathlib.Core.Bool.{Bool};
 ghost use mathlib.Core.List.{List, [], _∷_, _++_};
 ghost use Prim.Native.Nat.{ℕ, _+_, _≤_, _<_, _^_};
+ghost use lib.Dec.{leb};
 ghost use lib.ListN.{length};
 ghost use Rattle.pointer.specs.Pointer.{provenanceOf};
 ghost use Rattle.answer.specs.Answer.{answerOf};
@@ -35,23 +37,19 @@ fn put(out: &mut [u32], w: Written, word: u32) -> Written
     Written { at, whole: false }
 }
 
-// All words of a text for which there is room. The place and the flag are carried apart: a struct of both has bytes that belong to neither.
-fn put_all(out: &mut [u32], w: Written, words: &[u32]) -> Written
-    requires { ⌜ w .at + length (now words) ≤ length (now out) ⌝ }
-    ensures { λ r. ⌜ ((text before : List ℕ) → WrittenTo text before (now (out .entry)) w
-        → WrittenTo (text ++ now (words .entry)) before (now (out .exit)) r) ⌝ }
+// The words of a text for which there is room; where the next one goes.
+fn put_all(out: &mut [u32], at: usize, words: &[u32]) -> usize
+    requires { ⌜ at + length (now words) ≤ length (now out) ⌝ }
+    ensures end { λ r. ⌜ r ≡ at + length (now (words .entry)) ⌝ }
+    ensures written { λ r. ⌜ ((text before : List ℕ) (whole : Bool) → WrittenTo text before (now (out .entry)) (record { at = at; whole = whole })
+        → WrittenTo (text ++ now (words .entry)) before (now (out .exit)) (record { at = r; whole = whole })) ⌝ }
 {
-    let start = w.at;
-    let whole = w.whole;
     let mut i: usize = 0;
     while i < words.len() {
-        out[start + i] = words[i];
+        out[at + i] = words[i];
         i += 1;
     }
-    Written {
-        at: start + words.len(),
-        whole,
-    }
+    at + words.len()
 }
 
 // The words of a text that may be too long, each by itself.
@@ -66,19 +64,6 @@ fn put_each(out: &mut [u32], w: Written, words: &[u32]) -> Written
         i += 1;
     }
     next
-}
-
-fn put_words(out: &mut [u32], w: Written, words: &[u32]) -> Written
-    ensures { λ r. ⌜ ((text before : List ℕ) → WrittenTo text before (now (out .entry)) w
-        → WrittenTo (text ++ now (words .entry)) before (now (out .exit)) r) ⌝ }
-{
-    let at = w.at;
-    if at <= out.len() {
-        if words.len() <= out.len() - at {
-            return put_all(out, w, words);
-        }
-    }
-    put_each(out, w, words)
 }
 
 fn given_provenance(answer: Answer) -> Provenance
@@ -102,18 +87,65 @@ fn heading(refusal: u8, provenance: Provenance, count: u32) -> [u32; 5]
     }
 }
 
+// What stands before an answer's loaded words, of which there are `count`.
+fn heading_of(answer: Answer, count: u32) -> [u32; 5]
+    ensures { λ r. ⌜ ((words : List ℕ) → r ≡ heading (answerOf answer words .refusal) (answerOf answer words .pointer) count) ⌝ }
+{
+    heading(answer.refusal(), given_provenance(answer), count)
+}
+
+// There is room for an answer with `count` loaded words.
+pub fn has_room(out: &[u32], at: usize, count: usize) -> bool
+    ensures { λ r. ⌜ r ≡ leb (at + (5 + count)) (length (now (out .entry))) ⌝ }
+{
+    let total = out.len();
+    if total < at {
+        return false;
+    }
+    let rest = total - at;
+    if rest < 5 {
+        return false;
+    }
+    count <= rest - 5
+}
+
+// An answer for which there is room, behind the others; where the next one goes.
+pub fn put_fitting(out: &mut [u32], at: usize, answer: Answer, words: &[u32]) -> usize
+    requires { ⌜ length (answerOf answer (now words) .words) < 2 ^ 32 ⌝ }
+    requires { ⌜ at + (5 + length (answerOf answer (now words) .words)) ≤ length (now out) ⌝ }
+    ensures { λ r. ⌜ ((text before : List ℕ) (whole : Bool) → WrittenTo text before (now (out .entry)) (record { at = at; whole = whole })
+        → WrittenTo (text ++ answerWords (answerOf answer (now (words .entry)))) before (now (out .exit)) (record { at = r; whole = whole })) ⌝ }
+{
+    let loaded = answer::loaded_words(answer, words);
+    let head = heading_of(answer, loaded.len() as u32);
+    let behind_head = put_all(out, at, &head);
+    put_all(out, behind_head, loaded)
+}
+
+// An answer that may be too long.
+fn put_cut(out: &mut [u32], w: Written, answer: Answer, words: &[u32]) -> Written
+    requires { ⌜ length (answerOf answer (now words) .words) < 2 ^ 32 ⌝ }
+    ensures { λ r. ⌜ ((text before : List ℕ) → WrittenTo text before (now (out .entry)) w
+        → WrittenTo (text ++ answerWords (answerOf answer (now (words .entry)))) before (now (out .exit)) r) ⌝ }
+{
+    let loaded = answer::loaded_words(answer, words);
+    let head = heading_of(answer, loaded.len() as u32);
+    let behind_head = put_each(out, w, &head);
+    put_each(out, behind_head, loaded)
+}
+
 // Writes an answer behind the others. The number of its loaded words has to fit a word; there are at most as many as `words` has.
 pub fn put_answer(out: &mut [u32], w: Written, answer: Answer, words: &[u32]) -> Written
     requires { ⌜ length (answerOf answer (now words) .words) < 2 ^ 32 ⌝ }
     ensures { λ r. ⌜ ((text before : List ℕ) → WrittenTo text before (now (out .entry)) w
         → WrittenTo (text ++ answerWords (answerOf answer (now (words .entry)))) before (now (out .exit)) r) ⌝ }
 {
+    let at = w.at;
+    let whole = w.whole;
     let loaded = answer::loaded_words(answer, words);
-    let head = heading(
-        answer.refusal(),
-        given_provenance(answer),
-        loaded.len() as u32,
-    );
-    let behind_head = put_words(out, w, &head);
-    put_words(out, behind_head, loaded)
+    if has_room(out, at, loaded.len()) {
+        let next = put_fitting(out, at, answer, words);
+        return Written { at: next, whole };
+    }
+    put_cut(out, w, answer, words)
 }

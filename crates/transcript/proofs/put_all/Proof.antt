@@ -3,7 +3,8 @@ use Rattle.transcript.proofs.Writing.{written-at, written-more, taken-m
 use Rattle.transcript.specs.Transcript.{WrittenTo}
 use lib.ListN.{length, take, getD}
 use lib.Seq.{take-length}
-use mathlib.Core.Path.{_≡_}
+use mathlib.Core.Bool.{Bool}
+use mathlib.Core.Path.{_≡_, refl}
 use mathlib.Core.List.{List, _++_, append-nil}
 use Prim.Native.Nat.{ℕ, _+_, _-_, _≤_, _<_}
 use borrow.Author.Needs.{needs}
@@ -12,15 +13,15 @@ use Rattle.transcript.proofs.put_all.Statement.{statement}
 use Rattle.transcript.proofs.put_all.Tie as tie
 
 abbrev Inv-loop : tie.InvT-loop
-Inv-loop out₀ words start whole i₀ out i = (i ≤ length words)
+Inv-loop out₀ at words i₀ out i = (i ≤ length words)
     × (length out ≡ length out₀)
-    × ((text before : List ℕ) → WrittenTo text before out₀ (record { at = start; whole = whole }) → WrittenTo (text ++ take i words) before out (record { at = start + i; whole = whole }))
+    × ((text before : List ℕ) (whole : Bool) → WrittenTo text before out₀ (record { at = at; whole = whole }) → WrittenTo (text ++ take i words) before out (record { at = at + i; whole = whole }))
 
 abbrev μ-loop : tie.MeasureT-loop
-μ-loop out₀ words start whole i₀ out i = length words - i
+μ-loop out₀ at words i₀ out i = length words - i
 
 loop-holds : tie.Need-loop-holds Inv-loop μ-loop
-loop-holds c = (search needs, search needs, λ text before h. rw append-nil (written-at (omega arith) h))
+loop-holds c = (search needs, search needs, λ text before whole h. rw append-nil (written-at (omega arith) h))
 
 mul-out : tie.Need-mul-out Inv-loop μ-loop
 mul-out c = search needs
@@ -52,11 +53,11 @@ loop-again c =
     let held = c .before .before .loop .inv .2 in (
       search needs,
       search needs,
-      λ text before h. rw (taken-more text words i more) at (written-at {at′ = s .args .w .at + (i + 1)} (omega arith) (written-more (text ++ take i words) before (c .before .before .loop .out) (record { at = s .args .w .at + i; whole = s .args .w .whole }) (held text before h) (getD words i 0) (omega arith))),
+      λ text before whole h. rw (taken-more text words i more) at (written-at {at′ = s .args .at + (i + 1)} (omega arith) (written-more (text ++ take i words) before (c .before .before .loop .out) (record { at = s .args .at + i; whole = whole }) (held text before whole h) (getD words i 0) (omega arith))),
     )
 
-add-t15 : tie.Need-add-t15 Inv-loop μ-loop
-add-t15 c = search needs
+add-result : tie.Need-add-result Inv-loop μ-loop
+add-result c = search needs
 
 same-length : tie.Need-same-length Inv-loop μ-loop
 same-length c = search needs
@@ -65,7 +66,7 @@ returns : tie.Need-returns Inv-loop μ-loop
 returns c =
     let words = c .before .before .args .words .now in
     let e : c .before .loop .i ≡ length words = omega arith in
-    λ text before h. rw (e, take-length words) at (c .before .loop .inv .2 text before h)
+    (refl, λ text before whole h. rw (e, take-length words) at (c .before .loop .inv .2 text before whole h))
 
 pub put-all-spec : {M : Type 1} → statement M
 put-all-spec =
@@ -82,6 +83,6 @@ put-all-spec =
     add-i
     loop-less
     loop-again
-    add-t15
+    add-result
     same-length
     returns)

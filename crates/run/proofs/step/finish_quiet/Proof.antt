@@ -1,5 +1,6 @@
 -- A store writes its bytes, a load names them (Quiet).
 use mathlib.Core.Logic.{⊎-elim}
+use lib.ListN.{drop, length-take}
 use Rattle.run.proofs.Steps.{all-words}
 use Rattle.request.proofs.Matches.{no-store}
 use Rattle.run.proofs.Quiet.{quiet-load, quiet-fits, quiet-store}
@@ -26,15 +27,21 @@ same-length : tie.Need-same-length
 same-length c = search needs
 
 returns : tie.Need-returns
-returns c = λ s A P R C F h k.
-    let a = c .before .before .before .before .before .before .before .before .before in
-    quiet-store h (a .args .request .now) (all-words (a .args .request .now) (λ i. omega (arith, c .before .before .before .before .before .before .before .shared-slice-known .given i))) (a .args .q) (a .pre .1) k (c .before .before .before .before .before .enum-told .given .1) (c .before .before .before .following .ensures) (c .before .before .put-words .ensures)
+returns c = (
+  λ s A P R C F h k.
+      let a = c .before .before .before .before .before .before .before .before .before in
+      quiet-store h (a .args .request .now) (all-words (a .args .request .now) (λ i. omega (arith, c .before .before .before .before .before .before .before .shared-slice-known .given i))) (a .args .q) (a .pre .1) k (c .before .before .before .before .before .enum-told .given .1) (c .before .before .before .following .ensures) (c .before .before .put-words .ensures),
+  omega arith,
+)
 
 returns-2 : tie.Need-returns-2
-returns-2 c = λ s A P R C F h k.
-    let a = c .before .before .before .before in
-    quiet-load h (a .args .request .now) (all-words (a .args .request .now) (λ i. omega (arith, c .before .before .shared-slice-known .given i))) (a .args .q) (a .pre .1) k
-    (⊎-elim (λ e. e) (λ e. absurd (no-store (c .before .match .keys2) e)) (k .plain .access))
+returns-2 c = (
+  λ s A P R C F h k.
+      let a = c .before .before .before .before in
+      quiet-load h (a .args .request .now) (all-words (a .args .request .now) (λ i. omega (arith, c .before .before .shared-slice-known .given i))) (a .args .q) (a .pre .1) k
+      (⊎-elim (λ e. e) (λ e. absurd (no-store (c .before .match .keys2) e)) (k .plain .access)),
+  omega (arith, length-take (c .before .before .before .before .args .q .fourth) (drop (c .before .before .before .before .args .start) (c .before .before .before .before .args .words .now))),
+)
 
 pub finish-quiet-spec : {M : Type 1} → statement M
 finish-quiet-spec =

@@ -1,7 +1,7 @@
 -- Too few words are refused; a quiet load or store is finished, and any other request made in full.
-use mathlib.Core.Path.{subst}
-use Rattle.run.specs.Steps.{QuietStep}
 use Rattle.run.proofs.Steps.{short-refused, stepped-refused}
+use Rattle.run.specs.Steps.{QuietStep}
+use mathlib.Core.Path.{subst}
 use borrow.Author.Needs.{needs}
 use Rattle.run.proofs.step.step.Statement.{statement}
 use Rattle.run.proofs.step.step.Tie as tie
@@ -49,7 +49,7 @@ returns-2 c =
     λ s h.
     let a = c .before .before .before .before .before .before .before .before .before .before .before .before .before .before .before .before .before .before .before .before in
     let found = subst (QuietStep s (c .before .before .before .before .before .before .before .before .before .before .before .of .result) (a .args .request .now) (a .args .codes .now)) (c .before .before .before .before .before .start .given .1) (c .before .before .before .before .before .before .before .find-quiet .ensures s _ _ _ h) in
-    c .before .before .finish-quiet .ensures s _ _ _ _ _ h found
+    c .before .before .finish-quiet .ensures .0 s _ _ _ _ _ h found
 
 same-length-5 : tie.Need-same-length-5
 same-length-5 c = search needs
