@@ -1,24 +1,14 @@
-// Requests in a run, the port beside the Rust: each row is a run whose last request is measured. The port makes it in `run_list`, through the
+// Requests in a run, the port beside the Rust: each row is a run whose last requests are measured. The port makes them in `run_list`, through the
 // archive of the proved library; the Rust in `oracle --time`, from the same memory. Usage: requests ORACLE [ROW..]
 use std::hint::black_box;
 use std::io::Write;
 use std::process::{Command, Stdio};
 use std::time::Instant;
 
-#[repr(C)]
-struct ListReply {
-    refusal: u8,
-    whole: bool,
-    at: usize,
-}
+#[path = "../oracle/lent/src/run_list.rs"]
+mod run_list;
 
-unsafe extern "C" {
-    fn tree_borrows_run_list(
-        allocs: *mut u64, _: usize, parents: *mut u16, _: usize, protectors: *mut u8, _: usize, words: *mut u32, _: usize,
-        codes: *mut u8, _: usize, frames: *mut u32, _: usize, requests: *const u32, _: usize, ends: *const u32, _: usize,
-        answers: *mut u32, _: usize,
-    ) -> ListReply;
-}
+use run_list::{ListReply, run_list};
 
 /// The buffers of a run.
 struct Lent {
@@ -45,14 +35,10 @@ impl Lent {
     }
 
     fn run(&mut self, list: &List) -> ListReply {
-        unsafe {
-            tree_borrows_run_list(
-                self.allocs.as_mut_ptr(), 768, self.parents.as_mut_ptr(), 1024, self.protectors.as_mut_ptr(), 1024,
-                self.words.as_mut_ptr(), 4096, self.codes.as_mut_ptr(), 32768, self.frames.as_mut_ptr(), 2080,
-                list.words.as_ptr(), list.words.len(), list.ends.as_ptr(), list.ends.len(), self.answers.as_mut_ptr(),
-                self.answers.len(),
-            )
-        }
+        run_list(
+            &mut self.allocs, &mut self.parents, &mut self.protectors, &mut self.words, &mut self.codes, &mut self.frames, &list.words, &list.ends,
+            &mut self.answers,
+        )
     }
 
     /// Some answer of the last list is a refusal.
@@ -120,8 +106,16 @@ fn trees(allocations: u32, bytes: u32, nodes: u32, chain: bool) -> List {
 struct Row {
     name: String,
     before: List,
-    /// made one after the other, each at about the same cost; the last is what the Rust is asked for
+    /// made one after the other, each at about the same cost
     requests: Vec<Vec<u32>>,
+    /// how many of the last ones the Rust is asked for, each by itself
+    asked: usize,
+}
+
+impl Row {
+    fn new(name: String, before: List, requests: Vec<Vec<u32>>) -> Row {
+        Row { name, before, requests, asked: 1 }
+    }
 }
 
 fn rows() -> Vec<Row> {
@@ -135,12 +129,13 @@ fn rows() -> Vec<Row> {
             let shape = if nodes == 1 { "" } else if chain { ", a chain" } else { ", children of the root" };
             let last = nodes - 1;
             for (kind, request) in [("load", load(last, bytes)), ("store", store(0, last, bytes))] {
-                rows.push(Row { name: format!("{kind} of {bytes} bytes, {nodes} nodes{shape}"), before: trees(1, bytes, nodes, chain), requests: vec![request; 200] });
+                rows.push(Row::new(format!("{kind} of {bytes} bytes, {nodes} nodes{shape}"), trees(1, bytes, nodes, chain), vec![request; 200]));
             }
             rows.extend(first_stores(bytes, nodes, chain, shape));
             rows.push(retags(bytes, nodes, chain, shape));
         }
     }
+    rows.push(calls());
     for (entries, bytes) in [(0, 1), (1, 1), (1, 64), (8, 64), (64, 64), (7, 4096)] {
         rows.push(end_calls(entries, bytes));
     }
@@ -151,7 +146,8 @@ fn rows() -> Vec<Row> {
 fn first_stores(bytes: u32, nodes: u32, chain: bool, shape: &str) -> Option<Row> {
     let allocations = if nodes == 1024 { return None } else { (4096 / bytes).min(32768 / (bytes * nodes)).min(16) };
     let requests = (0..allocations).map(|a| store(a, nodes - 1, bytes)).collect();
-    Some(Row { name: format!("first store of {bytes} bytes, {nodes} nodes{shape}{}", among(allocations)), before: trees(allocations, bytes, nodes, chain), requests })
+    let name = format!("first store of {bytes} bytes, {nodes} nodes{shape}{}", among(allocations));
+    Some(Row::new(name, trees(allocations, bytes, nodes, chain), requests))
 }
 
 fn among(allocations: u32) -> String {
@@ -167,12 +163,23 @@ fn retags(bytes: u32, nodes: u32, chain: bool, shape: &str) -> Row {
         _ => (16, nodes, 1),
     };
     let requests = (0..allocations).flat_map(|a| vec![retag(a, nodes - 1, bytes, None); times]).collect();
-    Row { name: format!("retag of {bytes} bytes, {nodes} nodes{shape}{}", among(allocations)), before: trees(allocations, bytes, nodes, chain), requests }
+    let name = format!("retag of {bytes} bytes, {nodes} nodes{shape}{}", among(allocations));
+    Row::new(name, trees(allocations, bytes, nodes, chain), requests)
+}
+
+/// A frame that is opened and closed again, without entries.
+fn calls() -> Row {
+    let requests = (0..200).map(|n| vec![(5 + n % 2) << 28, 0, 0, 0]).collect();
+    Row { asked: 2, ..Row::new("new call and end call, no entries".into(), trees(1, 1, 1, false), requests) }
 }
 
 /// A frame for each of several allocations, all of whose nodes but the root it protects.
 fn end_calls(entries: u32, bytes: u32) -> Row {
-    let frames = if entries * bytes > 512 { 1 } else { 16 };
+    let frames = match entries * bytes {
+        0 => 32,
+        1..=512 => 16,
+        _ => 1,
+    };
     let mut before = List::default();
     for f in 0..frames {
         before.add(&[1, 0, address(f), bytes]);
@@ -182,37 +189,39 @@ fn end_calls(entries: u32, bytes: u32) -> Row {
         }
     }
     let requests = (0..frames).map(|f| vec![6 << 28, 0, 0, f]).collect();
-    Row { name: format!("end call of {entries} entries, {bytes} bytes{}", among(frames)), before, requests }
+    Row::new(format!("end call of {entries} entries, {bytes} bytes{}", among(frames)), before, requests)
 }
 
-/// The least nanoseconds that one run of a list takes, of each list: the lists take turns, so that what slows the machine slows them alike.
-fn time<const N: usize>(lent: &mut Lent, lists: [&List; N], rounds: u32) -> [f64; N] {
-    let mut least = [f64::MAX; N];
-    for _ in 0..rounds {
-        for (list, least) in lists.iter().zip(&mut least) {
-            let start = Instant::now();
-            black_box(lent.run(black_box(list)));
-            *least = least.min(start.elapsed().as_nanos() as f64);
-        }
-    }
-    least
+/// The nanoseconds that one run of a list takes.
+fn time(lent: &mut Lent, list: &List) -> f64 {
+    let start = Instant::now();
+    black_box(lent.run(black_box(list)));
+    start.elapsed().as_nanos() as f64
 }
 
+/// What the requests of a row add to the run before them, each: the median over a stretch of runs with and without them, by turns, so that
+/// what slows the machine slows both.
 fn port(lent: &mut Lent, row: &Row) -> f64 {
     let mut with = row.before.clone();
     for request in &row.requests {
         with.add(request);
     }
     assert!(lent.run(&with).whole && !lent.refused(&with), "{}: refused", row.name);
-    let [once] = time(lent, [&with], 3);
-    let rounds = (200_000_000.0 / once).clamp(20.0, 50_000.0) as u32;
-    let [all, before] = time(lent, [&with, &row.before], rounds);
-    (all - before) / row.requests.len() as f64
+    let rounds = (50_000_000.0 / time(lent, &with)).clamp(20.0, 10_000.0) as usize;
+    let mut added: Vec<f64> = (0..rounds).map(|_| time(lent, &with) - time(lent, &row.before)).collect();
+    added.sort_by(f64::total_cmp);
+    added[rounds / 2] / row.requests.len() as f64
 }
 
+/// The mean of the requests that the Rust is asked for.
 fn rust(oracle: &str, row: &Row) -> f64 {
+    let count = row.requests.len();
+    (count - row.asked..count).map(|last| rust_request(oracle, row, last)).sum::<f64>() / row.asked as f64
+}
+
+fn rust_request(oracle: &str, row: &Row, last: usize) -> f64 {
     let mut list = row.before.clone();
-    for request in &row.requests {
+    for request in &row.requests[..=last] {
         list.add(request);
     }
     let bytes: Vec<u8> = list.words.iter().flat_map(|w| w.to_be_bytes()).collect();
@@ -222,9 +231,12 @@ fn rust(oracle: &str, row: &Row) -> f64 {
         let out = child.wait_with_output().unwrap();
         String::from_utf8_lossy(&out.stdout).trim().parse().expect("nanoseconds")
     };
-    let once = ask(3);
-    let times = (200_000_000.0 / once.max(1.0)).clamp(3.0, 20_000.0) as u32;
-    (0..3).map(|_| ask(times)).fold(f64::MAX, f64::min)
+    ask((50_000_000.0 / ask(3).max(1.0)).clamp(3.0, 200_000.0) as u32)
+}
+
+/// The least of some stretches of each, by turns: what the machine does when nothing disturbs it.
+fn compare(lent: &mut Lent, oracle: &str, row: &Row) -> (f64, f64) {
+    (0..5).fold((f64::MAX, f64::MAX), |(p, r), _| (p.min(port(lent, row)), r.min(rust(oracle, row))))
 }
 
 fn main() {
@@ -237,7 +249,7 @@ fn main() {
         if !wanted.is_empty() && !wanted.iter().any(|w| row.name.contains(w.as_str())) {
             continue;
         }
-        let (port, rust) = (port(&mut lent, &row), rust(&oracle, &row));
+        let (port, rust) = compare(&mut lent, &oracle, &row);
         println!("{:<72} {:>12.1} {:>14.1} {:>8.1}", row.name, port, rust, rust / port);
     }
 }

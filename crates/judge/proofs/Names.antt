@@ -1,13 +1,12 @@
 -- The allocation that 25 names, and what is loaded.
-use Prim.Native.Nat.{ℕ, _+_, _-_, _≤_}
+use Prim.Native.Nat.{ℕ}
 use mathlib.Core.Path.{_≡_, refl, sym, ap, subst, _∙_}
 use mathlib.Core.Bool.{Bool, true, false, not, false≢true}
 use mathlib.Core.Option.{Option, none, some}
 use mathlib.Core.List.{List, []}
 use native.Mathlib.Omega.{arith}
-use native.Mathlib.Decide.{decLt}
-use borrow.Author.Tests.{ne-eqb, le-leb, lt-leb}
-use lib.Dec.{eqb, leb}
+use borrow.Author.Tests.{ne-eqb}
+use lib.Dec.{eqb}
 use Rattle.definition.specs.Notation.{if_then_else_, any}
 use Rattle.definition.specs.Refusal.{memoryLeak}
 use Rattle.definition.specs.Memory as definition
@@ -93,11 +92,3 @@ line-written {m} {answer} {shown} k index words {before} {at} {after} {end} {ref
       written = subst (λ (text : List ℕ). WrittenInside before at text after end) line w;
       told = e ∙ ap (λ (n : ℕ). not (eqb n 0)) (refusal-any shown words ∙ ap (λ (a : definition.Answer). a .refusal) (k .same words));
     }
-
--- ---- room behind a place
-pub leb-room : (at more room : ℕ) → at ≤ room → leb more (room - at) ≡ leb (at + more) room
-leb-room at more room h =
-    elim (decLt (room - at) more) [
-      | yes l ↦ lt-leb more (room - at) l ∙ sym (lt-leb (at + more) room (omega arith))
-      | no l ↦ le-leb more (room - at) (omega arith) ∙ sym (le-leb (at + more) room (omega arith))
-    ]

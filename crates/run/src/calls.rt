@@ -1,4 +1,5 @@
 // Calls that reach no memory: a new call, and an end call of a frame without entries. Only the frame changes.
+use crate::wide;
 ghost use mathlib.Core.Path.{_≡_};
 ghost use mathlib.Core.Bool.{true};
 ghost use mathlib.Core.List.{List};
@@ -6,12 +7,6 @@ ghost use Prim.Native.Nat.{_<_};
 ghost use Rattle.definition.specs.Frame.{Frame, State};
 ghost use Rattle.entries.specs.Buffer.{HoldsFrames};
 ghost use Rattle.run.specs.Calls.{IsCall, Opened, Ended, Called};
-
-fn wide(x: u32) -> usize
-    ensures { λ r. ⌜ r ≡ x ⌝ }
-{
-    x as usize
-}
 
 // The request is its first word, zeros and the number of a frame: then nothing of 2 applies to such a call but what its frame may break.
 fn is_call(request: &[u32], first: u32) -> bool

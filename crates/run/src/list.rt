@@ -2,6 +2,7 @@
 use crate::ListRun;
 use crate::quick::Progress;
 use crate::quick::quick_turns;
+use crate::wide;
 use transcript::Written;
 ghost use mathlib.Core.Path.{_≡_};
 ghost use Prim.Native.Nat.{_-_};
@@ -11,12 +12,6 @@ ghost use Rattle.tables.specs.Held.{buffers};
 ghost use Rattle.perform.specs.Performed.{HoldsState};
 ghost use Rattle.run.specs.Lists.{requestsIn, Ran, ListRan};
 ghost use Rattle.run.specs.Turns.{Turned};
-
-fn wide(x: u32) -> usize
-    ensures { λ r. ⌜ r ≡ x ⌝ }
-{
-    x as usize
-}
 
 // The words from one place up to another, as far as there are any.
 pub(crate) fn part<'a>(words: &'a [u32], from: usize, end: usize) -> &'a [u32]

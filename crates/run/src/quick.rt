@@ -1,5 +1,6 @@
 // Turns of a list that are made in few steps: quiet loads and stores, and calls that reach no memory. Most requests of a run are such,
 // and a loop that holds nothing else goes through them.
+use crate::wide;
 use answer::Answer;
 use memory::access::Quiet;
 use request::Request;
@@ -28,12 +29,6 @@ pub(crate) struct Progress {
     pub done: usize,
     pub from: usize,
     pub at: usize,
-}
-
-fn wide(x: u32) -> usize
-    ensures { λ r. ⌜ r ≡ x ⌝ }
-{
-    x as usize
 }
 
 // A call that reaches no memory.

@@ -1,13 +1,12 @@
 -- Nothing written, a word more, and what can be read back.
-use Prim.Native.Nat.{ℕ, _+_, _-_, _<_, _≤_}
+use Prim.Native.Nat.{ℕ, _+_, _<_, _≤_}
 use native.Mathlib.Numerals.{add-one}
-use native.Mathlib.Decide.{decLt}
 use native.Mathlib.Omega.{arith}
 use mathlib.Core.Bool.{Bool, true, false}
 use mathlib.Core.Path.{_≡_, sym, ap, subst, _∙_}
 use mathlib.Core.List.{List, [], _∷_, _++_, append-assoc}
 use borrow.Author.Tests.{le-leb, lt-leb, leb-true}
-use lib.Dec.{leb, leb·zero}
+use lib.Dec.{leb·zero}
 use lib.ListN.{length, take, getD, set, length-append}
 use lib.Seq.{set-out, take-suc}
 use Rattle.definition.specs.Notation.{writeAt}
@@ -66,14 +65,6 @@ written-at {text} {before} {out} {whole = whole} e h = subst (λ (at : ℕ). Wri
 
 pub taken-more : (text words : List ℕ) (i : ℕ) → i < length words → (text ++ take i words) ++ (getD words i 0 ∷ []) ≡ text ++ take (i + 1) words
 taken-more text words i h = rw (append-assoc, add-one, take-suc words i 0 h)
-
--- ---- room behind a place
-pub leb-room : (at more room : ℕ) → at ≤ room → leb more (room - at) ≡ leb (at + more) room
-leb-room at more room h =
-    elim (decLt (room - at) more) [
-      | yes l ↦ lt-leb more (room - at) l ∙ sym (lt-leb (at + more) room (omega arith))
-      | no l ↦ le-leb more (room - at) (omega arith) ∙ sym (le-leb (at + more) room (omega arith))
-    ]
 
 -- ---- reading back
 pub written-back : (text before out : List ℕ) (w : Written) → WrittenTo text before out w → w .whole ≡ true → take (w .at) out ≡ text

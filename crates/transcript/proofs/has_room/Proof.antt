@@ -3,7 +3,7 @@ use Prim.Native.Nat.{_+_, _-_}
 use mathlib.Core.Path.{sym, _∙_}
 use borrow.Author.Tests.{lt-leb}
 use lib.ListN.{length}
-use Rattle.transcript.proofs.Writing.{leb-room}
+use Rattle.definition.proofs.Booleans.{leb-room}
 use native.Mathlib.Omega.{arith}
 use Rattle.transcript.proofs.has_room.Statement.{statement}
 use Rattle.transcript.proofs.has_room.Tie as tie

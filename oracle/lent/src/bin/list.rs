@@ -4,21 +4,17 @@
 #[allow(dead_code)]
 #[path = "../buffers.rs"]
 mod buffers;
+#[path = "../run_list.rs"]
+mod run_list;
 
 use buffers::Buffers;
+use run_list::run_list;
 use runs::reference::next_request;
 use std::cell::RefCell;
 use std::fmt::Write;
 use tools::framing;
 
 const FRAMES: usize = 32 * 65;
-
-#[repr(C)]
-struct ListReply {
-    refusal: u8,
-    whole: bool,
-    at: usize,
-}
 
 #[repr(C)]
 struct Reply {
@@ -29,10 +25,6 @@ struct Reply {
 }
 
 extern "C" {
-    fn tree_borrows_run_list(
-        allocs: *mut u64, _: usize, parents: *mut u16, _: usize, protectors: *mut u8, _: usize, words: *mut u32, _: usize, codes: *mut u8, _: usize,
-        frames: *mut u32, _: usize, requests: *const u32, _: usize, ends: *const u32, _: usize, answers: *mut u32, _: usize,
-    ) -> ListReply;
     fn tree_borrows_leak_check(
         allocs: *const u64, _: usize, parents: *const u16, _: usize, protectors: *const u8, _: usize, words: *const u32, _: usize, codes: *const u8, _: usize,
     ) -> Reply;
@@ -61,13 +53,9 @@ impl Lent {
     fn run(&mut self, words: &[u32], ends: &[u32]) {
         self.answers.resize(ends.len() * (5 + buffers::WORDS), 0);
         let m = &mut self.memory;
-        let reply = unsafe {
-            tree_borrows_run_list(
-                m.allocs.as_mut_ptr(), m.allocs.len(), m.parents.as_mut_ptr(), m.parents.len(), m.protectors.as_mut_ptr(), m.protectors.len(),
-                m.words.as_mut_ptr(), m.words.len(), m.codes.as_mut_ptr(), m.codes.len(), self.frames.as_mut_ptr(), self.frames.len(), words.as_ptr(), words.len(),
-                ends.as_ptr(), ends.len(), self.answers.as_mut_ptr(), self.answers.len(),
-            )
-        };
+        let reply = run_list(
+            &mut m.allocs, &mut m.parents, &mut m.protectors, &mut m.words, &mut m.codes, &mut self.frames, words, ends, &mut self.answers,
+        );
         assert!(reply.refusal == 0 && reply.whole && reply.at <= self.answers.len());
     }
 

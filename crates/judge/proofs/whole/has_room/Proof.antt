@@ -3,7 +3,7 @@ use Prim.Native.Nat.{_+_}
 use mathlib.Core.Path.{sym}
 use native.Mathlib.Omega.{arith}
 use borrow.Author.Tests.{lt-leb}
-use Rattle.judge.proofs.Names.{leb-room}
+use Rattle.definition.proofs.Booleans.{leb-room}
 use Rattle.judge.proofs.whole.has_room.Statement.{statement}
 use Rattle.judge.proofs.whole.has_room.Tie as tie
 
