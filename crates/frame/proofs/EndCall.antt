@@ -20,12 +20,13 @@ use Rattle.definition.proofs.ValidMemory.{valid-release-all}
 use Rattle.definition.proofs.Parts.{fill-all}
 use Rattle.tables.specs.Encoding.{recordOf, parentsOf, wordsOf, held, encode}
 use Rattle.tables.specs.Held.{buffers, Holds}
-use Rattle.tables.proofs.ReadBack.{holds-allocs, holds-parents, holds-protectors, holds-words, holds-codes, encode-of}
+use Rattle.tables.proofs.ReadBack.{holds-allocs, holds-parents, holds-words, encode-of}
 use Rattle.entries.specs.Buffer.{entriesIn, FitsEntry, HoldsFrames}
 use Rattle.entries.specs.List.{entriesOf}
 use Rattle.entries.specs.declared.Entries.{Entries}
 use Rattle.entries.proofs.FromValid.{made-fits}
-use Rattle.frame.specs.Release.{HoldsTrees, HoldsNodes, AllMade, unlessRefused, ReleasedAll, afterEndCall, Checked}
+use Rattle.parts.specs.Trees.{HoldsMarked}
+use Rattle.frame.specs.Release.{HoldsNodes, AllMade, unlessRefused, ReleasedAll, afterEndCall, Checked}
 use Rattle.frame.proofs.Releases.{all-kept, same-record, same-parents, same-words, rest-at}
 
 -- ---- 4
@@ -46,7 +47,7 @@ pub all-made : (m : Memory) (es : List Provenance) → any (isUnmade m) es ≡ f
 all-made m es n = all-imp (λ e. isUnmade m e ≡ false) (λ e. wasMade m e ≡ true) (λ e. not-not-false (wasMade m e)) es (none-pass (isUnmade m) es n)
 
 -- entries that were made have numbers
-pub all-fit : {m : Memory} (es : List Provenance) {A P R C : List ℕ} → HoldsTrees m A P R C → AllMade m es → All FitsEntry es
+pub all-fit : {m : Memory} (es : List Provenance) {A P R C : List ℕ} → HoldsMarked m A P R C → AllMade m es → All FitsEntry es
 all-fit {m} es h made = all-imp (λ e. wasMade m e ≡ true) FitsEntry (λ e w. made-fits m e (h .valid) w) es made
 
 -- the numbers that were written for a list, as a part that is lent
@@ -61,7 +62,7 @@ none-unmade m [] made = refl
 none-unmade m (e ∷ es) made = rw (made .0) (none-unmade m es (made .1))
 
 module _ {m : Memory} {es : List Provenance} {R C : List ℕ} where
-  pub refused-unmade : any (isUnmade m) es ≡ true → {A P : List ℕ} → HoldsTrees m A P R C → Checked m es 4 R C
+  pub refused-unmade : any (isUnmade m) es ≡ true → {A P : List ℕ} → HoldsMarked m A P R C → Checked m es 4 R C
   unfolding endCallRefusal
   refused-unmade n h =
       let e : endCallRefusal m es ≡ 4 = ap (λ (b : Bool). neverMade when b or releaseAllRefusal m es) n in
@@ -87,12 +88,6 @@ all-zero n new old l e = e ∙ fill-all n 0 old (omega arith)
 
 -- ---- the five buffers
 module _ {m : Memory} {A P R W C : List ℕ} (h : Holds m (buffers A P R W C)) where
-  pub trees-held : HoldsTrees m A P R C
-  trees-held = record {
-    valid = h .valid;
-    trees = record { allocs = holds-allocs h; parents = holds-parents h; protectors = holds-protectors h; codes = holds-codes h };
-  }
-
   module _ (es : List Provenance) where
     end-kept : (total : ℕ) (f : Allocation → List ℕ) → ((n : ℕ) (a : Allocation) → f (afterReleaseIn n a) ≡ f a) → held total f m ≡ held total f (afterEndCall m es)
     end-kept total f same =

@@ -23,7 +23,8 @@ use Rattle.definition.proofs.Parts.{drop-next}
 use Rattle.tables.specs.Encoding.{stateNumber, recordOf, parentsOf, wordsOf, held}
 use Rattle.tables.specs.Held.{Records}
 use Rattle.tables.proofs.Focus.{held-kept}
-use Rattle.frame.specs.Release.{HoldsTrees, HoldsNodes, AllMade, unlessRefused, Released, untilRefused, ReleasedUntil, ReleasedAll}
+use Rattle.parts.specs.Trees.{HoldsMarked}
+use Rattle.frame.specs.Release.{HoldsNodes, AllMade, unlessRefused, Released, untilRefused, ReleasedUntil, ReleasedAll}
 
 -- ---- what no release changes
 -- a field of the allocations that is the same after every release
@@ -68,7 +69,7 @@ valid-until [] m v = v
 valid-until (e ∷ es) m v =
     if-holds Valid (eqb (releaseRefusal m e) 0) (untilRefused (afterRelease m e) es) m (λ t. valid-until es (afterRelease m e) (release-kept m e v .valid)) (λ t. v)
 
-pub records-until : {m : Memory} {A P R C : List ℕ} → HoldsTrees m A P R C → (es : List Provenance) → Records (untilRefused m es) A
+pub records-until : {m : Memory} {A P R C : List ℕ} → HoldsMarked m A P R C → (es : List Provenance) → Records (untilRefused m es) A
 records-until {m} h es = record { valid = valid-until es m (h .valid); allocs = h .trees .allocs ∙ sym (until-kept 768 recordOf same-record es m) }
 
 -- ---- a list from place i on
@@ -79,12 +80,12 @@ rest-at l i x d h q = drop-next l i d h ∙ ap (λ y. y ∷ drop (i + 1) l) (sym
 -- the releases of `rest` are left, in the memory that the ones before them left
 pub record Turn (m : Memory) (es rest : List Provenance) (A P R C : List ℕ) : Type 0 where
   pub memory : Memory
-  pub holds : HoldsTrees memory A P R C
+  pub holds : HoldsMarked memory A P R C
   pub made : AllMade memory rest
   pub refusal : releaseAllRefusal m es ≡ releaseAllRefusal memory rest
   pub until : untilRefused m es ≡ untilRefused memory rest
 
-pub turn-first : {m : Memory} {es : List Provenance} {A P R C : List ℕ} → HoldsTrees m A P R C → AllMade m es → Turn m es es A P R C
+pub turn-first : {m : Memory} {es : List Provenance} {A P R C : List ℕ} → HoldsMarked m A P R C → AllMade m es → Turn m es es A P R C
 turn-first {m} h made = record { memory = m; holds = h; made = made; refusal = refl; until = refl }
 
 pub turn-at : {m : Memory} {es : List Provenance} {A P R C : List ℕ} (i : ℕ) (e d : Provenance) → i < length es → e ≡ getD es i d

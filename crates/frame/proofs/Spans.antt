@@ -25,8 +25,9 @@ use Rattle.tables.specs.declared.Starts.{Starts}
 use Rattle.tables.proofs.Focus.{concat-append, length-held}
 use Rattle.tables.proofs.Sizes.{protectors-fit, codes-fit}
 use Rattle.entries.specs.Buffer.{entriesIn}
-use Rattle.frame.specs.Release.{HoldsTrees, HoldsNodes, AllMade, Spans, Touched, untilRefused, ReleasedUntil, ReleasedAll}
-use Rattle.frame.proofs.Lent.{records-held}
+use Rattle.parts.specs.Trees.{HoldsMarked}
+use Rattle.frame.specs.Release.{HoldsNodes, AllMade, Spans, Touched, untilRefused, ReleasedUntil, ReleasedAll}
+use Rattle.parts.proofs.Lent.{records-of}
 use Rattle.frame.proofs.Releases.{records-until}
 
 -- ---- the least and the greatest number of a list
@@ -181,7 +182,7 @@ restored start end before now others h fits front back {saved} {new} is put =
     ∙ ap (λ (x : List ℕ). take start before ++ x) (take-append-drop k (drop start before))
     ∙ take-append-drop start before
 
-module _ {m : Memory} {A P R C : List ℕ} (h : HoldsTrees m A P R C) where
+module _ {m : Memory} {A P R C : List ℕ} (h : HoldsMarked m A P R C) where
   pub marks-length : length R ≡ 1024
   marks-length = ap length (h .trees .protectors) ∙ length-held 1024 protectorsOf m (protectors-fit m (h .valid))
 
@@ -190,10 +191,10 @@ module _ {m : Memory} {A P R C : List ℕ} (h : HoldsTrees m A P R C) where
 
   module _ {es : List Provenance} {from to : Starts} (t : Touched A es from to) where
     here : StartsAt m (t .first) (from .words) (from .nodes) (from .codes)
-    here = t .starts m (records-held h)
+    here = t .starts m (records-of h)
 
     there : StartsAt m (t .end) (to .words) (to .nodes) (to .codes)
-    there = t .ends m (records-held h)
+    there = t .ends m (records-of h)
 
     pub nodes-ordered : from .nodes ≤ to .nodes
     nodes-ordered = omega (arith, here .protectors, there .protectors, start-within 1024 protectorsOf m (t .first) (t .end) (t .spans .ordered))

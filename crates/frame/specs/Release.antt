@@ -7,17 +7,12 @@ use lib.Dec.{eqb}
 use Rattle.definition.specs.Notation.{if_then_else_}
 use Rattle.definition.specs.Memory.{Memory, Provenance, refusedWith, wasMade}
 use Rattle.definition.specs.Frame.{releaseRefusal, afterRelease, releaseAllRefusal, afterReleaseAll, endCallRefusal}
-use Rattle.definition.specs.Valid.{All, Valid}
+use Rattle.definition.specs.Valid.{All}
 use Rattle.answer.specs.Answer.{answerOf}
 use Rattle.answer.specs.declared.Answer.{Answer}
 use Rattle.tables.specs.Encoding.{protectorsOf, codesOf, held}
-use Rattle.tables.specs.Held.{Trees, Records, StartsAt}
+use Rattle.tables.specs.Held.{Records, StartsAt}
 use Rattle.tables.specs.declared.Starts.{Starts}
-
--- all buffers but the words hold m
-pub record HoldsTrees (m : Memory) (A P R C : List ℕ) : Type 0 where
-  pub valid : Valid m
-  pub trees : Trees m A P R C
 
 -- the marks and the codes are those of m
 pub record HoldsNodes (m : Memory) (R C : List ℕ) : Type 0 where

@@ -19,7 +19,8 @@ ghost use Rattle.entries.specs.Buffer.{entriesIn};
 ghost use Rattle.tables.specs.Held.{buffers, Records};
 ghost use Rattle.tree.specs.Table.{HoldsAll, Some, Each};
 ghost use Rattle.tree.specs.Requests as tree;
-ghost use Rattle.frame.specs.Release.{HoldsTrees, AllMade, Spans, Touched, Released, ReleasedUntil, ReleasedAll, Checked, Ended};
+ghost use Rattle.parts.specs.Trees.{HoldsMarked};
+ghost use Rattle.frame.specs.Release.{AllMade, Spans, Touched, Released, ReleasedUntil, ReleasedAll, Checked, Ended};
 ghost use Rattle.frame.specs.EndCall.{isLent, EndedLent};
 
 // ---- one entry
@@ -51,33 +52,31 @@ fn release_entry(
     codes: &mut [u8],
     e: Entry,
 ) -> u8
-    requires { ⌜ ((m : Memory) × (HoldsTrees m (now allocs) (now parents) (now protectors) (now codes) × (wasMade m (provenanceOf e) ≡ true))) ⌝ }
-    ensures { λ r. ⌜ ((m : Memory) → HoldsTrees m (now (allocs .entry)) (now (parents .entry)) (now (protectors .entry)) (now (codes .entry)) → wasMade m (provenanceOf e) ≡ true
+    requires { ⌜ ((m : Memory) × (HoldsMarked m (now allocs) (now parents) (now protectors) (now codes) × (wasMade m (provenanceOf e) ≡ true))) ⌝ }
+    ensures { λ r. ⌜ ((m : Memory) → HoldsMarked m (now (allocs .entry)) (now (parents .entry)) (now (protectors .entry)) (now (codes .entry)) → wasMade m (provenanceOf e) ≡ true
         → Released m (provenanceOf e) r (now (protectors .exit)) (now (codes .exit))) ⌝ }
 {
     let n = e.allocation as usize;
     let node = e.node as usize;
     let a = tables::allocation_at(allocs, n);
-    let size = a.size;
-    let nodes = a.nodes;
-    let s = tables::starts_at(allocs, n);
-    let node_start = s.nodes;
-    let node_end = node_start + nodes;
-    let code_start = s.codes;
-    let code_end = code_start + nodes * size;
+    let t = parts::parts_at(allocs, n);
+    let first = t.first;
+    let behind = t.behind;
+    let start = t.start;
+    let end = t.end;
     if a.state != 1 {
         return tree::release_dead(
-            &protectors[node_start..node_end],
-            &mut codes[code_start..code_end],
-            size,
+            &protectors[first..behind],
+            &mut codes[start..end],
+            t.width,
             node,
         );
     }
     release_live(
-        &parents[node_start..node_end],
-        &mut protectors[node_start..node_end],
-        &mut codes[code_start..code_end],
-        size,
+        &parents[first..behind],
+        &mut protectors[first..behind],
+        &mut codes[start..end],
+        t.width,
         node,
     )
 }
@@ -113,8 +112,8 @@ fn release_until(
     codes: &mut [u8],
     words: &[u32],
 ) -> u8
-    requires { ⌜ ((m : Memory) × (HoldsTrees m (now allocs) (now parents) (now protectors) (now codes) × AllMade m (entriesIn (now words)))) ⌝ }
-    ensures { λ r. ⌜ ((m : Memory) → HoldsTrees m (now (allocs .entry)) (now (parents .entry)) (now (protectors .entry)) (now (codes .entry)) → AllMade m (entriesIn (now (words .entry)))
+    requires { ⌜ ((m : Memory) × (HoldsMarked m (now allocs) (now parents) (now protectors) (now codes) × AllMade m (entriesIn (now words)))) ⌝ }
+    ensures { λ r. ⌜ ((m : Memory) → HoldsMarked m (now (allocs .entry)) (now (parents .entry)) (now (protectors .entry)) (now (codes .entry)) → AllMade m (entriesIn (now (words .entry)))
         → ReleasedUntil m (entriesIn (now (words .entry))) r (now (protectors .exit)) (now (codes .exit))) ⌝ }
 {
     let mut i: usize = 0;
@@ -205,9 +204,9 @@ fn release_all(
     from: Starts,
     to: Starts,
 ) -> u8
-    requires { ⌜ ((m : Memory) × (HoldsTrees m (now allocs) (now parents) (now protectors) (now codes) × AllMade m (entriesIn (now words)))) ⌝ }
+    requires { ⌜ ((m : Memory) × (HoldsMarked m (now allocs) (now parents) (now protectors) (now codes) × AllMade m (entriesIn (now words)))) ⌝ }
     requires { ⌜ Touched (now allocs) (entriesIn (now words)) from to × (to .codes - from .codes ≤ length (now area)) ⌝ }
-    ensures { λ r. ⌜ ((m : Memory) → HoldsTrees m (now (allocs .entry)) (now (parents .entry)) (now (protectors .entry)) (now (codes .entry)) → AllMade m (entriesIn (now (words .entry)))
+    ensures { λ r. ⌜ ((m : Memory) → HoldsMarked m (now (allocs .entry)) (now (parents .entry)) (now (protectors .entry)) (now (codes .entry)) → AllMade m (entriesIn (now (words .entry)))
         → ReleasedAll m (entriesIn (now (words .entry))) r (now (protectors .exit)) (now (codes .exit))) ⌝ }
 {
     let node_start = from.nodes;
@@ -233,8 +232,8 @@ fn release_list(
     codes: &mut [u8],
     words: &[u32],
 ) -> u8
-    requires { ⌜ ((m : Memory) × (HoldsTrees m (now allocs) (now parents) (now protectors) (now codes) × AllMade m (entriesIn (now words)))) ⌝ }
-    ensures { λ r. ⌜ ((m : Memory) → HoldsTrees m (now (allocs .entry)) (now (parents .entry)) (now (protectors .entry)) (now (codes .entry)) → AllMade m (entriesIn (now (words .entry)))
+    requires { ⌜ ((m : Memory) × (HoldsMarked m (now allocs) (now parents) (now protectors) (now codes) × AllMade m (entriesIn (now words)))) ⌝ }
+    ensures { λ r. ⌜ ((m : Memory) → HoldsMarked m (now (allocs .entry)) (now (parents .entry)) (now (protectors .entry)) (now (codes .entry)) → AllMade m (entriesIn (now (words .entry)))
         → ReleasedAll m (entriesIn (now (words .entry))) r (now (protectors .exit)) (now (codes .exit))) ⌝ }
 {
     if words.len() < 2 {
@@ -278,9 +277,9 @@ fn release_lent(
     area: &mut [u8],
     words: &[u32],
 ) -> u8
-    requires { ⌜ ((m : Memory) × (HoldsTrees m (now allocs) (now parents) (now protectors) (now codes) × AllMade m (entriesIn (now words)))) ⌝ }
+    requires { ⌜ ((m : Memory) × (HoldsMarked m (now allocs) (now parents) (now protectors) (now codes) × AllMade m (entriesIn (now words)))) ⌝ }
     requires { ⌜ length (now area) ≡ 32768 ⌝ }
-    ensures { λ r. ⌜ ((m : Memory) → HoldsTrees m (now (allocs .entry)) (now (parents .entry)) (now (protectors .entry)) (now (codes .entry)) → AllMade m (entriesIn (now (words .entry)))
+    ensures { λ r. ⌜ ((m : Memory) → HoldsMarked m (now (allocs .entry)) (now (parents .entry)) (now (protectors .entry)) (now (codes .entry)) → AllMade m (entriesIn (now (words .entry)))
         → ReleasedAll m (entriesIn (now (words .entry))) r (now (protectors .exit)) (now (codes .exit))) ⌝ }
 {
     let span = span_of(words);
@@ -298,8 +297,8 @@ pub fn end_call_in_run(
     codes: &mut [u8],
     words: &[u32],
 ) -> Answer
-    requires { ⌜ ((m : Memory) × (HoldsTrees m (now allocs) (now parents) (now protectors) (now codes) × AllMade m (entriesIn (now words)))) ⌝ }
-    ensures { λ r. ⌜ ((m : Memory) → HoldsTrees m (now (allocs .entry)) (now (parents .entry)) (now (protectors .entry)) (now (codes .entry)) → AllMade m (entriesIn (now (words .entry)))
+    requires { ⌜ ((m : Memory) × (HoldsMarked m (now allocs) (now parents) (now protectors) (now codes) × AllMade m (entriesIn (now words)))) ⌝ }
+    ensures { λ r. ⌜ ((m : Memory) → HoldsMarked m (now (allocs .entry)) (now (parents .entry)) (now (protectors .entry)) (now (codes .entry)) → AllMade m (entriesIn (now (words .entry)))
         → Ended m (entriesIn (now (words .entry))) r (now (protectors .exit)) (now (codes .exit))) ⌝ }
 {
     let refused = release_list(allocs, parents, protectors, codes, words);
@@ -315,9 +314,9 @@ fn end_call_refusal(
     area: &mut [u8],
     list: Entries,
 ) -> u8
-    requires { ⌜ ((m : Memory) × HoldsTrees m (now allocs) (now parents) (now protectors) (now codes)) ⌝ }
+    requires { ⌜ ((m : Memory) × HoldsMarked m (now allocs) (now parents) (now protectors) (now codes)) ⌝ }
     requires { ⌜ (list .count ≤ 64) × (length (now area) ≡ 32768) ⌝ }
-    ensures { λ r. ⌜ ((m : Memory) → HoldsTrees m (now (allocs .entry)) (now (parents .entry)) (now (protectors .entry)) (now (codes .entry))
+    ensures { λ r. ⌜ ((m : Memory) → HoldsMarked m (now (allocs .entry)) (now (parents .entry)) (now (protectors .entry)) (now (codes .entry))
         → Checked m (entriesOf list) r (now (protectors .exit)) (now (codes .exit))) ⌝ }
 {
     if any_never_made(allocs, list) {
@@ -337,9 +336,9 @@ pub fn end_call_held(
     area: &mut [u8],
     list: Entries,
 ) -> Answer
-    requires { ⌜ ((m : Memory) × HoldsTrees m (now allocs) (now parents) (now protectors) (now codes)) ⌝ }
+    requires { ⌜ ((m : Memory) × HoldsMarked m (now allocs) (now parents) (now protectors) (now codes)) ⌝ }
     requires { ⌜ (list .count ≤ 64) × (length (now area) ≡ 32768) ⌝ }
-    ensures ended { λ r. ⌜ ((m : Memory) → HoldsTrees m (now (allocs .entry)) (now (parents .entry)) (now (protectors .entry)) (now (codes .entry))
+    ensures ended { λ r. ⌜ ((m : Memory) → HoldsMarked m (now (allocs .entry)) (now (parents .entry)) (now (protectors .entry)) (now (codes .entry))
         → Ended m (entriesOf list) r (now (protectors .exit)) (now (codes .exit))) ⌝ }
     ensures zero { λ _. ⌜ now (area .exit) ≡ replicate 32768 0 ⌝ }
 {

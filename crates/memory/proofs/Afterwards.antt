@@ -17,22 +17,16 @@ use Rattle.answer.specs.declared.Answer.{Answer}
 use Rattle.tables.specs.Encoding.{recordOf, parentsOf, protectorsOf, wordsOf, held, encode}
 use Rattle.tables.specs.Held.{buffers, Holds}
 use Rattle.tables.proofs.Focus.{held-kept}
-use Rattle.tables.proofs.ReadBack.{holds-allocs, holds-parents, holds-protectors, holds-words, holds-codes, holds-records, encode-of}
-use Rattle.memory.specs.Buffers.{HoldsTrees, HoldsWords, HoldsMarked}
+use Rattle.tables.proofs.ReadBack.{holds-allocs, holds-parents, holds-protectors, holds-words, encode-of}
+use Rattle.parts.proofs.Trees.{visited-parentsOf, visited-protectorsOf}
+use Rattle.parts.proofs.Lent.{holds-trees}
+use Rattle.memory.specs.Buffers.{HoldsWords}
 use Rattle.memory.specs.Access.{loadOf, storeOf, Loaded, Stored}
 use Rattle.memory.specs.Deallocate.{Deallocated}
-use Rattle.memory.proofs.OneTree.{visited-parentsOf, visited-protectorsOf}
 
--- ---- all five, and those that a request asks for
-module _ {m : Memory} {A P R W C : List ℕ} (h : Holds m (buffers A P R W C)) where
-  pub holds-trees : HoldsTrees m A P C
-  holds-trees = record { records = holds-records h; parents = holds-parents h; codes = holds-codes h }
-
-  pub holds-bytes : HoldsWords m A P W C
-  holds-bytes = record { trees = holds-trees; words = holds-words h }
-
-  pub holds-marked : HoldsMarked m A P R C
-  holds-marked = record { trees = holds-trees; protectors = holds-protectors h }
+-- ---- all five, and those that a store asks for
+pub holds-bytes : {m : Memory} {A P R W C : List ℕ} → Holds m (buffers A P R W C) → HoldsWords m A P W C
+holds-bytes h = record { trees = holds-trees h; words = holds-words h }
 
 -- ---- load and store
 module _ (x : MemoryAccess) where

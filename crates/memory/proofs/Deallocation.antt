@@ -28,7 +28,8 @@ use Rattle.tables.proofs.Lookup.{record-start, state-at, live-state, kind-at, e
 use Rattle.tables.specs.declared.Allocation as record-of
 use Rattle.bounds.proofs.Points.{recordAt}
 use Rattle.tree.specs.Requests as tree
-use Rattle.memory.specs.Buffers.{HoldsMarked, afterVisit, TreeVisited}
+use Rattle.parts.specs.Trees.{HoldsMarked, afterVisit}
+use Rattle.memory.specs.Buffers.{TreeVisited}
 use Rattle.memory.specs.Deallocate.{recordRefusal, refusalThrough, NodeIn, WrittenAll, Deallocated}
 use Rattle.memory.proofs.OneTree.{same-parts, visited-part}
 
@@ -74,7 +75,7 @@ module _ (p : ThinPointer) (k : AllocationKind) (len exponent : ℕ) (m : Memory
       let o = performed (suc r) e in
       record {
         answers = λ words. ap (λ o. o .0) (sym o);
-        allocs = h .trees .records .allocs ∙ ap (λ o. held 768 recordOf (o .1)) (sym o);
+        allocs = h .trees .allocs ∙ ap (λ o. held 768 recordOf (o .1)) (sym o);
         codes = c ∙ ap (λ o. held 32768 codesOf (o .1)) (sym o);
       }
 
@@ -127,13 +128,13 @@ module _ (p : ThinPointer) {m : Memory} {A P R C : List ℕ} (h : HoldsMarked m 
   dead-records : set A (n * 6) 2 ≡ held 768 recordOf (mutateAt n (afterDeallocateIn p) m)
   dead-records =
       let e : n * 6 ≡ startOf recordOf m n + 0 = sym (record-start m n (omega arith)) ∙ sym (add-zero (startOf recordOf m n)) in
-      ap₂ (λ (l : List ℕ) (i : ℕ). set l i 2) (h .trees .records .allocs) e ∙ focus-set 768 recordOf m n made (afterDeallocateIn p) 0 2 (omega arith) dead-record
+      ap₂ (λ (l : List ℕ) (i : ℕ). set l i 2) (h .trees .allocs) e ∙ focus-set 768 recordOf m n made (afterDeallocateIn p) 0 2 (omega arith) dead-record
 
   dead-codes : held 32768 codesOf (mutateAt n (afterVisit (writeAll p (allocationAt m n))) m) ≡ held 32768 codesOf (mutateAt n (afterDeallocateIn p) m)
   unfolding afterDeallocateIn codesOf
   dead-codes =
       let v : Visit = writeAll p (allocationAt m n) in
-      same-parts 32768 codesOf m n made (afterVisit v) (afterDeallocateIn p) (visited-part m n (h .trees .records .valid) made v) refl
+      same-parts 32768 codesOf m n made (afterVisit v) (afterDeallocateIn p) (visited-part m n (h .valid) made v) refl
 
   pub deallocate-accepted : (k : AllocationKind) (len exponent : ℕ) {C′ : List ℕ} → C′ ≡ held 32768 codesOf (mutateAt n (afterVisit (writeAll p (allocationAt m n))) m)
       → definition.deallocateRefusal m p k len exponent ≡ 0 → Deallocated p k len exponent m Accepted (set A (n * 6) 2) C′

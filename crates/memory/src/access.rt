@@ -13,7 +13,8 @@ ghost use Rattle.definition.specs.Memory.{Memory, allocationAt};
 ghost use Rattle.pointer.specs.Pointer.{thinPointerOf};
 ghost use Rattle.permission.specs.Codes.{accessKind};
 ghost use Rattle.tables.specs.Held.{Records};
-ghost use Rattle.memory.specs.Buffers.{HoldsTrees, HoldsWords, TreeVisited};
+ghost use Rattle.parts.specs.Trees.{HoldsTrees};
+ghost use Rattle.memory.specs.Buffers.{HoldsWords, TreeVisited};
 ghost use Rattle.memory.specs.Access.{accessOf, loadOf, storeOf, boundsRefusal, Checked, Reached, visitAt, wordsStart, Accessed, QuietInTree, QuietAccess, Loaded, Stored};
 
 // 4, 6 and 7 to 9.
@@ -49,18 +50,16 @@ fn access_tree(
 {
     let a = tables::allocation_at(allocs, n);
     let address = a.address;
-    let size = a.size;
-    let nodes = a.nodes;
-    let s = tables::starts_at(allocs, n);
-    let node_start = s.nodes;
-    let node_end = node_start + nodes;
-    let code_start = s.codes;
-    let code_end = code_start + nodes * size;
+    let t = parts::parts_at(allocs, n);
+    let first = t.first;
+    let behind = t.behind;
+    let start = t.start;
+    let end = t.end;
     let from = (addr - address) as usize;
     tree::access(
-        &parents[node_start..node_end],
-        &mut codes[code_start..code_end],
-        size,
+        &parents[first..behind],
+        &mut codes[start..end],
+        t.width,
         node,
         kind,
         from,
@@ -134,25 +133,23 @@ fn quiet_in_tree(
 {
     let a = tables::allocation_at(allocs, n);
     let address = a.address;
-    let size = a.size;
-    let nodes = a.nodes;
-    let s = tables::starts_at(allocs, n);
-    let node_start = s.nodes;
-    let node_end = node_start + nodes;
-    let code_start = s.codes;
-    let code_end = code_start + nodes * size;
-    let word_start = s.words;
+    let t = parts::parts_at(allocs, n);
+    let first = t.first;
+    let behind = t.behind;
+    let start = t.start;
+    let end = t.end;
+    let word = t.word;
     let from = (addr - address) as usize;
     if tree::stays(
-        &parents[node_start..node_end],
-        &codes[code_start..code_end],
-        size,
+        &parents[first..behind],
+        &codes[start..end],
+        t.width,
         node,
         kind,
         from,
         len,
     ) {
-        return Quiet::At(word_start + from);
+        return Quiet::At(word + from);
     }
     Quiet::No
 }

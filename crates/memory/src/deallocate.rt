@@ -4,11 +4,10 @@ use pointer::Provenance;
 use pointer::ThinPointer;
 use tables::Allocation;
 ghost use mathlib.Core.Path.{_≡_};
-ghost use Prim.Native.Nat.{_+_};
 ghost use Rattle.definition.specs.Memory.{Memory, AllocationKind, kindNumber};
 ghost use Rattle.pointer.specs.Pointer.{thinPointerOf};
 ghost use Rattle.tables.specs.Held.{Records};
-ghost use Rattle.memory.specs.Buffers.{HoldsMarked};
+ghost use Rattle.parts.specs.Trees.{HoldsMarked};
 ghost use Rattle.memory.specs.Deallocate.{recordRefusal, refusalThrough, NodeIn, WrittenAll, Deallocated};
 
 // 8 and 10 to 13.
@@ -68,19 +67,16 @@ fn write_all(
     ensures { λ r. ⌜ ((m : Memory) → HoldsMarked m (now (allocs .entry)) (now (parents .entry)) (now (protectors .entry)) (now (codes .entry)) → NodeIn m n node
         → WrittenAll m n node r (now (codes .exit))) ⌝ }
 {
-    let a = tables::allocation_at(allocs, n);
-    let size = a.size;
-    let nodes = a.nodes;
-    let s = tables::starts_at(allocs, n);
-    let node_start = s.nodes;
-    let node_end = node_start + nodes;
-    let code_start = s.codes;
-    let code_end = code_start + nodes * size;
+    let t = parts::parts_at(allocs, n);
+    let first = t.first;
+    let behind = t.behind;
+    let start = t.start;
+    let end = t.end;
     tree::deallocate(
-        &parents[node_start..node_end],
-        &protectors[node_start..node_end],
-        &mut codes[code_start..code_end],
-        size,
+        &parents[first..behind],
+        &protectors[first..behind],
+        &mut codes[start..end],
+        t.width,
         node,
     )
 }

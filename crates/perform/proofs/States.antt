@@ -9,8 +9,8 @@ use Rattle.tables.specs.Held.{buffers, Holds, Records, Trees}
 use Rattle.tables.proofs.ReadBack.{encode-of}
 use Rattle.entries.specs.Buffer.{HoldsFrames}
 use Rattle.entries.proofs.FromValid.{valid-holds}
-use Rattle.frame.specs.Release as frame
-use Rattle.reborrow.specs.Retag as reborrow
+use Rattle.parts.specs.Trees.{HoldsMarked}
+use Rattle.parts.proofs.Lent.{records-of}
 use Rattle.perform.specs.Performed.{HoldsTrees}
 
 -- ---- trees and frames
@@ -18,14 +18,11 @@ module _ {s : State} {A P R C F : List ℕ} (h : HoldsTrees s A P R C F) where
   pub frames-held : HoldsFrames (s .frames) F
   frames-held = valid-holds s F (h .valid) (h .frames)
 
-  pub trees-held : frame.HoldsTrees (s .memory) A P R C
+  pub trees-held : HoldsMarked (s .memory) A P R C
   trees-held = record { valid = h .valid .memory; trees = h .trees }
 
-  pub nodes-held : reborrow.HoldsNodes (s .memory) A P R C
-  nodes-held = record { valid = h .valid .memory; trees = h .trees }
-
   pub records-held : Records (s .memory) A
-  records-held = record { valid = h .valid .memory; allocs = h .trees .allocs }
+  records-held = records-of trees-held
 
   -- with the words that the memory has
   pub all-held : Holds (s .memory) (buffers A P R (held 4096 wordsOf (s .memory)) C)

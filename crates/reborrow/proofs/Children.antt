@@ -29,11 +29,13 @@ use Rattle.tables.specs.Encoding.{protectorNumber, codesOf, held}
 use Rattle.tables.specs.Held.{withNode, Trees, NodeFits}
 use Rattle.reborrow.specs.declared.ReborrowSettings as code
 use Rattle.reborrow.specs.Settings.{settingsOf, startCodes, placeIn, childAt}
-use Rattle.reborrow.specs.declared.TreePart.{TreePart}
-use Rattle.reborrow.specs.Retag.{HoldsNodes, PartOf, TreeAt, boundsRefusal, Reached, afterVisit, Fits, Passed, Added, Asked}
+use Rattle.parts.specs.declared.Parts.{Parts}
+use Rattle.parts.specs.Trees.{HoldsMarked, PartsOf, TreeAt, afterVisit}
+use Rattle.parts.proofs.Lent.{trees-of, tree-at}
+use Rattle.reborrow.specs.Retag.{boundsRefusal, Reached, Fits, Passed, Added, Asked}
 use Rattle.reborrow.proofs.Codes.{inside-length, inside-permissions, row-of-child, row-long}
 use Rattle.reborrow.proofs.Tests.{pointerAt, points-at, placed, refusal-split, or-first, passed-at}
-use Rattle.reborrow.proofs.Parts.{trees-of, tree-at, visited-trees}
+use Rattle.reborrow.proofs.Grown.{visited-trees}
 
 module _ (settings : code.ReborrowSettings) (mask : FreezeMask) {codes : List ℕ} (e : codes ≡ startCodes settings mask) (addr n node : ℕ) (m : Memory) (valid : Valid m)
     (h : Passed m n node addr (length codes)) where
@@ -98,7 +100,7 @@ module _ (settings : code.ReborrowSettings) (mask : FreezeMask) {codes : List �
       there : allocationAt grown n ≡ withNode child a
       there = mutate-here (withNode child) noAllocation m n (h .fits .reached .made)
 
-      pub grown-at : {A P R C : List ℕ} {r : TreePart} → Trees grown A P R C → PartOf grown n r → TreeAt grown n P C r
+      pub grown-at : {A P R C : List ℕ} {r : Parts} → Trees grown A P R C → PartsOf grown n r → TreeAt grown n P C r
       grown-at t part = tree-at (trees-of (record { valid = grown-valid; trees = t })) part
 
       module _ {number : ℕ} (last : number ≡ nodeCount a) where
@@ -147,7 +149,7 @@ added settings mask e q {n} {node} at m valid h place long last {A} {P} {R} {C} 
 
 -- ---- what the tables ask of the child
 pub child-fits : (settings : code.ReborrowSettings) (mask : FreezeMask) {m : Memory} {n node from bytes : ℕ} {A P R C codes : List ℕ} {outside number : ℕ}
-    → HoldsNodes m A P R C → Fits m n node from (length codes) → bytes ≡ size (allocationAt m n) → codes ≡ startCodes settings mask
+    → HoldsMarked m A P R C → Fits m n node from (length codes) → bytes ≡ size (allocationAt m n) → codes ≡ startCodes settings mask
     → outside ≡ permissions.code (settingsOf settings mask .outside) → number ≡ protectorNumber (protector (settings .protected))
     → NodeFits m n (childAt (settingsOf settings mask) node from bytes) A P R C node number (writeAt from codes (replicate bytes outside))
 child-fits settings mask {m} {n} {node} {from} {bytes} h f long e o k =

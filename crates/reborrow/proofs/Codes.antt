@@ -79,7 +79,7 @@ row-of-child settings mask node from bytes {codes} {outside} e o =
     ∙ ap (writeAt from (map code (w .inside))) (sym (map-replicate code bytes (w .outside)))
     ∙ sym (map-write code from (w .inside) (replicate bytes (w .outside)))
 
-pub permissions-long : (w : definition.ReborrowSettings) (node from bytes : ℕ) → length (childAt w node from bytes .permissions) ≡ bytes
+permissions-long : (w : definition.ReborrowSettings) (node from bytes : ℕ) → length (childAt w node from bytes .permissions) ≡ bytes
 permissions-long w node from bytes = write-length from (w .inside) (replicate bytes (w .outside)) ∙ length-replicate bytes (w .outside)
 
 pub row-long : (w : definition.ReborrowSettings) (node from bytes : ℕ) → length (rowOf (childAt w node from bytes)) ≡ bytes

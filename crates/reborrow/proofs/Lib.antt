@@ -1,5 +1,5 @@
 pub mod Codes
 pub mod Tests
-pub mod Parts
+pub mod Grown
 pub mod Children
 pub mod Requests

@@ -9,54 +9,25 @@ use lib.ListN.{length, getD, set}
 use Rattle.definition.specs.Notation.{if_then_else_, _when_, _or_, sumOf, mutateAt}
 use Rattle.definition.specs.Refusal.{neverMade, belowStart, sizeExceeded}
 use Rattle.definition.specs.Permission.{Protected, isYes}
-use Rattle.definition.specs.Tree.{Visit, visited}
 use Rattle.definition.specs.Layout.{FreezeMask}
-use Rattle.definition.specs.Memory.{Provenance, ThinPointer, Allocation, changed, size, Memory, allocationAt, target, namesNeverMade, checkPtr, nodeCount, exceedsBounds}
+use Rattle.definition.specs.Memory.{Provenance, ThinPointer, size, Memory, allocationAt, target, namesNeverMade, checkPtr, nodeCount, exceedsBounds}
 use Rattle.definition.specs.Frame.{Frame, entries, State, frameAt}
 use Rattle.definition.specs.Frame.Frame.{Closed, Open}
 use Rattle.definition.specs.Retag.{ReborrowSettings, ofNode, entryBound, afterReborrowIn, retag}
-use Rattle.definition.specs.Valid.{Valid}
 use Rattle.answer.specs.Answer.{answerOf}
 use Rattle.answer.specs.declared.Answer.{Answer}
-use Rattle.tables.specs.Encoding.{parentsOf, codesOf, held}
-use Rattle.tables.specs.Held.{startOf, Records, Used, Trees}
+use Rattle.tables.specs.Held.{Used, Trees}
 use Rattle.tables.specs.declared.Starts.{Starts}
+use Rattle.parts.specs.declared.Parts.{Parts}
+use Rattle.parts.specs.Trees.{PartsOf}
 use Rattle.reborrow.specs.declared.ReborrowSettings as code
-use Rattle.reborrow.specs.declared.TreePart.{TreePart}
 use Rattle.reborrow.specs.Settings.{startCodes, placeIn}
 
--- ---- buffers that hold a memory
--- the records, the parents and the codes are those of m
-pub record HoldsTrees (m : Memory) (A P C : List ℕ) : Type 0 where
-  pub records : Records m A
-  pub parents : P ≡ held 1024 parentsOf m
-  pub codes : C ≡ held 32768 codesOf m
-
--- and so are the protectors: all buffers but the words
-pub record HoldsNodes (m : Memory) (A P R C : List ℕ) : Type 0 where
-  pub valid : Valid m
-  pub trees : Trees m A P R C
-
--- where allocation n's nodes and codes lie
-pub record PartOf (m : Memory) (n : ℕ) (r : TreePart) : Type 0 where
-  pub first : r .first ≡ startOf parentsOf m n
-  pub behind : r .behind ≡ startOf parentsOf m n + nodeCount (allocationAt m n)
-  pub start : r .start ≡ startOf codesOf m n
-  pub end : r .end ≡ startOf codesOf m n + length (codesOf (allocationAt m n))
-  pub width : r .width ≡ size (allocationAt m n)
-
--- the parents and the codes are those of m, and allocation n's tree lies at r
-pub record TreeAt (m : Memory) (n : ℕ) (P C : List ℕ) (r : TreePart) : Type 0 where
-  pub valid : Valid m
-  pub parents : P ≡ held 1024 parentsOf m
-  pub codes : C ≡ held 32768 codesOf m
-  pub part : PartOf m n r
-
--- an allocation and node that were made, how much m uses, and where the allocation's tree lies
-pub record Located (m : Memory) (provenance : Option Provenance) (n : ℕ) (u : Starts) (r : TreePart) : Type 0 where
+-- an allocation and node that were made, how much m uses, and where the allocation's parts lie
+pub record Located (m : Memory) (provenance : Option Provenance) (n : ℕ) (u : Starts) (r : Parts) : Type 0 where
   pub made : namesNeverMade m provenance ≡ false
   pub used : Used m (sumOf size m) (u .nodes) (u .codes)
-  pub part : PartOf m n r
+  pub part : PartsOf m n r
 
 -- ---- the tests before the tree is visited: 4, 7 to 9, 14, 15
 unfoldable pub boundsRefusal : Bool → ℕ → ℕ → ThinPointer → Memory → ℕ
@@ -73,9 +44,6 @@ pub record Reached (m : Memory) (n node from len : ℕ) : Type 0 where
   pub made : n < length m
   pub inTree : node < nodeCount (allocationAt m n)
   pub within : from + len ≤ size (allocationAt m n)
-
-abbrev pub afterVisit : Visit → Allocation → Allocation
-afterVisit v a = changed a (a .state) (a .words) (visited v (a .nodes))
 
 -- ---- the new node
 -- the tests were passed: there is room for a child

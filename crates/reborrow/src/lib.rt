@@ -1,6 +1,7 @@
 // Retags that add a node. mem.rs: `ReborrowSettings`, `reborrow`, `retag_ptr`. Whatever can be refused is tested on the tree as it stands, so that a
 // refusal leaves nothing to undo; then the child is made and its inside bytes are read through it.
 use answer::Answer;
+use parts::Parts;
 use permission::Protected;
 use permission::SafePointer;
 use pointer::Provenance;
@@ -31,7 +32,8 @@ ghost use Rattle.tables.specs.Encoding.{protectorNumber, codesOf, held};
 ghost use Rattle.tables.specs.Held.{Records, Used, Trees, PlaceFor, withNode};
 ghost use Rattle.bounds.specs.Bounds.{Points};
 ghost use Rattle.reborrow.specs.Settings.{maskOf, settingsOf, chosenCode, codesFor, startCodes, placeIn, childAt};
-ghost use Rattle.reborrow.specs.Retag.{HoldsTrees, HoldsNodes, PartOf, TreeAt, Located, boundsRefusal, Reached, afterVisit, Fits, Passed, Added, Asked, Retagged};
+ghost use Rattle.parts.specs.Trees.{HoldsTrees, HoldsMarked, PartsOf, TreeAt, afterVisit};
+ghost use Rattle.reborrow.specs.Retag.{Located, boundsRefusal, Reached, Fits, Passed, Added, Asked, Retagged};
 
 // The pointer that is made, the protector, and whether the bytes outside the pointee are freeze bytes.
 pub struct ReborrowSettings {
@@ -153,40 +155,12 @@ fn bounds_refusal(
     0
 }
 
-// Where an allocation's nodes and codes lie in the tables, and how wide its rows are.
-struct TreePart {
-    first: usize,
-    behind: usize,
-    start: usize,
-    end: usize,
-    width: usize,
-}
-
-fn tree_part(allocs: &[u64], n: usize) -> TreePart
-    requires { ⌜ ((m : Memory) × (Records m (now allocs) × (n < length m))) ⌝ }
-    ensures { λ r. ⌜ ((m : Memory) → Records m (now (allocs .entry)) → n < length m → PartOf m n r) ⌝ }
-{
-    let a = tables::allocation_at(allocs, n);
-    let nodes = a.nodes;
-    let width = a.size;
-    let s = tables::starts_at(allocs, n);
-    let first = s.nodes;
-    let start = s.codes;
-    TreePart {
-        first,
-        behind: first + nodes,
-        start,
-        end: start + nodes * width,
-        width,
-    }
-}
-
 // The reads of the inside bytes through a node of the tree at t, each on the tree as it stands: the first refusal, or 0.
 fn reads_refusal(
     parents: &[u16],
     codes: &[u8],
     inside: &[u8],
-    t: TreePart,
+    t: Parts,
     node: usize,
     from: usize,
 ) -> u8
@@ -221,7 +195,7 @@ fn retag_refusal(
     node: usize,
     entries: usize,
     used: Starts,
-    t: TreePart,
+    t: Parts,
 ) -> u8
     requires { ⌜ ((m : Memory) × (HoldsTrees m (now allocs) (now parents) (now codes) × Located m (provenanceOf (p .provenance)) n used t)) ⌝ }
     requires { ⌜ p .provenance ≡ Of n node ⌝ }
@@ -245,14 +219,7 @@ fn retag_refusal(
 // ---- the child
 
 // The reads made, all in one visit.
-fn apply_reads(
-    parents: &[u16],
-    codes: &mut [u8],
-    inside: &[u8],
-    t: TreePart,
-    node: usize,
-    from: usize,
-)
+fn apply_reads(parents: &[u16], codes: &mut [u8], inside: &[u8], t: Parts, node: usize, from: usize)
     requires { ⌜ ((m : Memory) × ((n : ℕ) × (TreeAt m n (now parents) (now codes) t × Reached m n node from (length (now inside))))) ⌝ }
     ensures { λ _. ⌜ ((m : Memory) (n : ℕ) → TreeAt m n (now (parents .entry)) (now (codes .entry)) t → Reached m n node from (length (now (inside .entry)))
         → now (codes .exit) ≡ held 32768 codesOf (mutateAt n (afterVisit (readsVisit node from (map permission (now (inside .entry))))) m)) ⌝ }
@@ -285,10 +252,10 @@ fn insert_child(
     bytes: usize,
     place: NodePlace,
 )
-    requires { ⌜ ((m : Memory) × (HoldsNodes m (now allocs) (now parents) (now protectors) (now codes) × Fits m n node from (length (now inside)) × (bytes ≡ size (allocationAt m n))
+    requires { ⌜ ((m : Memory) × (HoldsMarked m (now allocs) (now parents) (now protectors) (now codes) × Fits m n node from (length (now inside)) × (bytes ≡ size (allocationAt m n))
         × PlaceFor m n (place .nodes) (place .codes) (place .node) (place .code))) ⌝ }
     requires { ⌜ ((mask : FreezeMask) × (now inside ≡ startCodes settings mask)) ⌝ }
-    ensures { λ _. ⌜ ((m : Memory) (mask : FreezeMask) → HoldsNodes m (now (allocs .entry)) (now (parents .entry)) (now (protectors .entry)) (now (codes .entry))
+    ensures { λ _. ⌜ ((m : Memory) (mask : FreezeMask) → HoldsMarked m (now (allocs .entry)) (now (parents .entry)) (now (protectors .entry)) (now (codes .entry))
         → Fits m n node from (length (now (inside .entry))) → bytes ≡ size (allocationAt m n) → PlaceFor m n (place .nodes) (place .codes) (place .node) (place .code)
         → now (inside .entry) ≡ startCodes settings mask
         → Trees (mutateAt n (withNode (childAt (settingsOf settings mask) node from bytes)) m) (now (allocs .exit)) (now (parents .exit)) (now (protectors .exit)) (now (codes .exit))) ⌝ }
@@ -314,8 +281,8 @@ fn insert_child(
 }
 
 // Where a tree's next node goes.
-fn node_place(used: Starts, t: TreePart) -> NodePlace
-    ensures { λ r. ⌜ ((m : Memory) (n : ℕ) → n < length m → Used m (sumOf size m) (used .nodes) (used .codes) → PartOf m n t
+fn node_place(used: Starts, t: Parts) -> NodePlace
+    ensures { λ r. ⌜ ((m : Memory) (n : ℕ) → Valid m → Used m (sumOf size m) (used .nodes) (used .codes) → PartsOf m n t
         → PlaceFor m n (r .nodes) (r .codes) (r .node) (r .code)) ⌝ }
 {
     NodePlace {
@@ -326,13 +293,14 @@ fn node_place(used: Starts, t: TreePart) -> NodePlace
     }
 }
 
-// Where a tree lies that has a node more.
-fn grown_part(t: TreePart) -> TreePart
-    requires { ⌜ ((m : Memory) × ((n : ℕ) × (Valid m × (n < length m) × PartOf m n t))) ⌝ }
-    ensures { λ r. ⌜ ((m : Memory) (n : ℕ) (x : Node) → n < length m → length (x .permissions) ≡ size (allocationAt m n) → PartOf m n t → PartOf (mutateAt n (withNode x) m) n r) ⌝ }
+// Where the parts of an allocation lie that has a node more.
+fn grown_part(t: Parts) -> Parts
+    requires { ⌜ ((m : Memory) × ((n : ℕ) × (Valid m × PartsOf m n t))) ⌝ }
+    ensures { λ r. ⌜ ((m : Memory) (n : ℕ) (x : Node) → PartsOf m n t → PartsOf (mutateAt n (withNode x) m) n r) ⌝ }
 {
     let width = t.width;
-    TreePart {
+    Parts {
+        word: t.word,
         first: t.first,
         behind: t.behind + 1,
         start: t.start,
@@ -353,13 +321,13 @@ fn add_child(
     n: usize,
     node: usize,
     used: Starts,
-    t: TreePart,
+    t: Parts,
 ) -> usize
-    requires { ⌜ ((m : Memory) × (HoldsNodes m (now allocs) (now parents) (now protectors) (now codes) × Located m (provenanceOf (p .provenance)) n used t
+    requires { ⌜ ((m : Memory) × (HoldsMarked m (now allocs) (now parents) (now protectors) (now codes) × Located m (provenanceOf (p .provenance)) n used t
         × Passed m n node (p .addr) (length (now inside)))) ⌝ }
     requires { ⌜ p .provenance ≡ Of n node ⌝ }
     requires { ⌜ ((mask : FreezeMask) × (now inside ≡ startCodes settings mask)) ⌝ }
-    ensures { λ r. ⌜ ((m : Memory) (mask : FreezeMask) → HoldsNodes m (now (allocs .entry)) (now (parents .entry)) (now (protectors .entry)) (now (codes .entry))
+    ensures { λ r. ⌜ ((m : Memory) (mask : FreezeMask) → HoldsMarked m (now (allocs .entry)) (now (parents .entry)) (now (protectors .entry)) (now (codes .entry))
         → Located m (provenanceOf (p .provenance)) n used t
         → Passed m n node (p .addr) (length (now (inside .entry))) → now (inside .entry) ≡ startCodes settings mask
         → Added (settingsOf settings mask) (thinPointerOf p) m n r (now (allocs .exit)) (now (parents .exit)) (now (protectors .exit)) (now (codes .exit))) ⌝ }
@@ -400,9 +368,9 @@ fn reborrow_inside(
     p: ThinPointer,
     entries: usize,
 ) -> Answer
-    requires { ⌜ ((m : Memory) × HoldsNodes m (now allocs) (now parents) (now protectors) (now codes)) ⌝ }
+    requires { ⌜ ((m : Memory) × HoldsMarked m (now allocs) (now parents) (now protectors) (now codes)) ⌝ }
     requires { ⌜ ((mask : FreezeMask) × (now inside ≡ startCodes settings mask)) ⌝ }
-    ensures { λ r. ⌜ ((s : State) (frame : ℕ) (mask : FreezeMask) → HoldsNodes (s .memory) (now (allocs .entry)) (now (parents .entry)) (now (protectors .entry)) (now (codes .entry))
+    ensures { λ r. ⌜ ((s : State) (frame : ℕ) (mask : FreezeMask) → HoldsMarked (s .memory) (now (allocs .entry)) (now (parents .entry)) (now (protectors .entry)) (now (codes .entry))
         → Asked s frame entries settings mask (now (inside .entry))
         → Retagged (settingsOf settings mask) frame (thinPointerOf p) s r (now (allocs .exit)) (now (parents .exit)) (now (protectors .exit)) (now (codes .exit))) ⌝ }
 {
@@ -421,7 +389,7 @@ fn reborrow_inside(
                 return Answer::Refused(4);
             }
             let used = tables::used(allocs);
-            let t = tree_part(allocs, n);
+            let t = parts::parts_at(allocs, n);
             let refused = retag_refusal(
                 allocs,
                 parents,
@@ -472,9 +440,9 @@ pub fn reborrow(
     p: ThinPointer,
     entries: usize,
 ) -> Answer
-    requires { ⌜ ((m : Memory) × HoldsNodes m (now allocs) (now parents) (now protectors) (now codes)) ⌝ }
+    requires { ⌜ ((m : Memory) × HoldsMarked m (now allocs) (now parents) (now protectors) (now codes)) ⌝ }
     requires { ⌜ len ≤ length (now mask) ⌝ }
-    ensures { λ r. ⌜ ((s : State) (frame : ℕ) → HoldsNodes (s .memory) (now (allocs .entry)) (now (parents .entry)) (now (protectors .entry)) (now (codes .entry))
+    ensures { λ r. ⌜ ((s : State) (frame : ℕ) → HoldsMarked (s .memory) (now (allocs .entry)) (now (parents .entry)) (now (protectors .entry)) (now (codes .entry))
         → entries ≡ length (frames.entries (frameAt s frame))
         → Retagged (settingsOf settings (maskOf (take len (now (mask .entry))))) frame (thinPointerOf p) s r (now (allocs .exit)) (now (parents .exit)) (now (protectors .exit)) (now (codes .exit))) ⌝ }
     ensures { λ _. ⌜ now (mask .exit) ≡ startCodes settings (maskOf (take len (now (mask .entry)))) ++ drop len (now (mask .entry)) ⌝ }

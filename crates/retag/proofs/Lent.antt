@@ -25,14 +25,15 @@ use Rattle.answer.specs.declared.Answer.the-variants.{Refused}
 use Rattle.tables.specs.Encoding.{Buffers, encode}
 use Rattle.tables.specs.Decoding.{view}
 use Rattle.tables.specs.Held.{buffers, Holds}
-use Rattle.tables.proofs.ReadBack.{view-held, encode-of, holds-words, holds-allocs, holds-parents, holds-protectors, holds-codes}
+use Rattle.tables.proofs.ReadBack.{view-held, encode-of, holds-words}
 use Rattle.wellformed.specs.WellFormed.{wellFormed}
 use Rattle.wellformed.proofs.Sound.{sound}
 use Rattle.wellformed.proofs.Complete.{complete}
 use Rattle.entries.specs.List as list
 use Rattle.entries.specs.List.{entryOf, firstOf, noEntry}
 use Rattle.entries.specs.declared.Entry.{Entry}
-use Rattle.reborrow.specs.Retag.{HoldsNodes}
+use Rattle.parts.specs.Trees.{HoldsMarked}
+use Rattle.parts.proofs.Lent.{holds-marked}
 use Rattle.retag.specs.declared.RetagSettings.{RetagSettings}
 use Rattle.retag.specs.declared.RetagOutcome.{RetagOutcome}
 use Rattle.retag.specs.Settings.{retagOf, badFields, protects}
@@ -77,13 +78,8 @@ module _ (len count : ℕ) (b : Buffers) (fine : isLent len count b ≡ true) wh
   pub lent-formed : wellFormed b ≡ true
   lent-formed = and-right (leb count 64) (wellFormed b) counted
 
-  pub lent-nodes : HoldsNodes (view b) (b .allocs) (b .parents) (b .protectors) (b .codes)
-  lent-nodes =
-      let h : Holds (view b) b = sound b lent-formed in
-      record {
-        valid = h .valid;
-        trees = record { allocs = holds-allocs h; parents = holds-parents h; protectors = holds-protectors h; codes = holds-codes h };
-      }
+  pub lent-nodes : HoldsMarked (view b) (b .allocs) (b .parents) (b .protectors) (b .codes)
+  lent-nodes = holds-marked (sound b lent-formed)
 
 -- ---- what `entered` is
 module _ (bad : Bool) (request : State → definition.Answer × State) (l : Lent) where
@@ -194,7 +190,7 @@ module _ (settings : RetagSettings) (p : definition.ThinPointer) (layout : List 
             ∙ sym (entered-good (badFields settings layout) (retagOf settings p layout) (lent places count b) (passes places whole fine) good)
 
     pub retagged : badFields settings layout ≡ false → {answer : Answer} {A P R C : List ℕ}
-        → ((s : State) → HoldsNodes (s .memory) (b .allocs) (b .parents) (b .protectors) (b .codes) → count ≡ length (entries (frameAt s 0))
+        → ((s : State) → HoldsMarked (s .memory) (b .allocs) (b .parents) (b .protectors) (b .codes) → count ≡ length (entries (frameAt s 0))
         → Performed (retagOf settings p layout s) answer A P R C)
         → (node : Provenance) → ((words : List ℕ) → provenanceOf node ≡ enteredNode (protects settings) (answerOf answer words .pointer))
         → {r : RetagOutcome} → r ≡ outcomeOf answer node count len → Promised r (buffers A P R (b .words) C)

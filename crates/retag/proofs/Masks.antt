@@ -7,7 +7,7 @@ use mathlib.Core.List.{List}
 use native.Mathlib.Omega.{arith}
 use lib.ListN.{length, take, replicate, length-replicate}
 use Rattle.definition.specs.Layout.{FreezeMask, freezeMask}
-use Rattle.definition.specs.Memory.{ThinPointer, Memory}
+use Rattle.definition.specs.Memory.{ThinPointer}
 use Rattle.definition.specs.Memory as definition
 use Rattle.definition.specs.Frame.{State}
 use Rattle.definition.specs.Retag.{ReborrowSettings, retagWithoutNode, retag}
@@ -17,20 +17,17 @@ use Rattle.definition.specs.Run.{retagWithMask}
 use Rattle.answer.specs.Answer.{answerOf}
 use Rattle.answer.specs.declared.Answer.{Answer}
 use Rattle.answer.specs.declared.Answer.the-variants.{Refused}
-use Rattle.tables.specs.Held.{Trees, Records}
+use Rattle.tables.specs.Held.{Trees}
 use Rattle.layout.specs.Filled.{maskByte, maskBytes, afterwards}
 use Rattle.layout.proofs.Answers.{HasMask}
 use Rattle.reborrow.specs.declared.ReborrowSettings as code
 use Rattle.reborrow.specs.Settings.{maskOf, settingsOf}
-use Rattle.reborrow.specs.Retag.{HoldsNodes, Retagged}
+use Rattle.reborrow.specs.Retag.{Retagged}
 use Rattle.reborrow.proofs.Requests.{without-node-same, mask-back}
 use Rattle.retag.specs.declared.RetagSettings.{RetagSettings}
 use Rattle.retag.specs.Settings.{requestOf, retagOf, fieldsOf}
 use Rattle.retag.specs.Outcome.{Performed}
 use Rattle.retag.proofs.Performed.{masked, unmasked, without-node, with-mask}
-
-pub nodes-records : {m : Memory} {A P R C : List ℕ} → HoldsNodes m A P R C → Records m A
-nodes-records h = record { valid = h .valid; allocs = h .trees .allocs }
 
 -- the buffer before it is filled
 abbrev pub blank : List ℕ

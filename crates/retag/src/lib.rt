@@ -24,7 +24,7 @@ ghost use Rattle.answer.specs.Answer.{answerOf};
 ghost use Rattle.permission.specs.Codes as permission;
 ghost use Rattle.tables.specs.Held.{buffers};
 ghost use Rattle.reborrow.specs.Settings.{settingsOf};
-ghost use Rattle.reborrow.specs.Retag.{HoldsNodes};
+ghost use Rattle.parts.specs.Trees.{HoldsMarked};
 ghost use Rattle.retag.specs.Settings.{requestOf, retagOf, fieldsOf, badFields, protects};
 ghost use Rattle.retag.specs.Entry.{lent, isLent, Entered};
 ghost use Rattle.retag.specs.Outcome.{Performed, enteredNode, outcomeOf};
@@ -100,8 +100,8 @@ fn retag_with_mask(
     settings: RetagSettings,
     count: usize,
 ) -> Answer
-    requires { ⌜ ((m : Memory) × HoldsNodes m (now allocs) (now parents) (now protectors) (now codes)) ⌝ }
-    ensures { λ r. ⌜ ((s : State) → HoldsNodes (s .memory) (now (allocs .entry)) (now (parents .entry)) (now (protectors .entry)) (now (codes .entry))
+    requires { ⌜ ((m : Memory) × HoldsMarked m (now allocs) (now parents) (now protectors) (now codes)) ⌝ }
+    ensures { λ r. ⌜ ((s : State) → HoldsMarked (s .memory) (now (allocs .entry)) (now (parents .entry)) (now (protectors .entry)) (now (codes .entry))
         → count ≡ length (frames.entries (frameAt s 0))
         → Performed (retagWithMask (freezeMask (now (layout .entry))) s (requestOf settings (thinPointerOf p) (now (layout .entry))))
         r (now (allocs .exit)) (now (parents .exit)) (now (protectors .exit)) (now (codes .exit))) ⌝ }
@@ -139,8 +139,8 @@ fn retag_held(
     settings: RetagSettings,
     count: usize,
 ) -> Answer
-    requires { ⌜ ((m : Memory) × HoldsNodes m (now allocs) (now parents) (now protectors) (now codes)) ⌝ }
-    ensures { λ r. ⌜ ((s : State) → HoldsNodes (s .memory) (now (allocs .entry)) (now (parents .entry)) (now (protectors .entry)) (now (codes .entry))
+    requires { ⌜ ((m : Memory) × HoldsMarked m (now allocs) (now parents) (now protectors) (now codes)) ⌝ }
+    ensures { λ r. ⌜ ((s : State) → HoldsMarked (s .memory) (now (allocs .entry)) (now (parents .entry)) (now (protectors .entry)) (now (codes .entry))
         → count ≡ length (frames.entries (frameAt s 0))
         → Performed (retagOf settings (thinPointerOf p) (now (layout .entry)) s)
         r (now (allocs .exit)) (now (parents .exit)) (now (protectors .exit)) (now (codes .exit))) ⌝ }

@@ -27,10 +27,11 @@ use Rattle.request.specs.Fields.{requestOf, fieldsOf}
 use Rattle.request.specs.Plain.{PlainAccess}
 use Rattle.memory.specs.declared.access.Quiet.{Quiet}
 use Rattle.memory.specs.declared.access.Quiet.the-variants.{No, At}
-use Rattle.memory.specs.Buffers.{HoldsTrees}
+use Rattle.parts.specs.Trees.{HoldsTrees}
+use Rattle.parts.proofs.Lent.{holds-trees}
 use Rattle.memory.specs.Access.{accessOf, storeOf, Accessed, QuietAccess, wordsStart}
 use Rattle.memory.proofs.LoadStore.{words-in, accessed-checked, load-accepted, store-accepted}
-use Rattle.memory.proofs.Afterwards.{holds-trees, holds-bytes}
+use Rattle.memory.proofs.Afterwards.{holds-bytes}
 use Rattle.perform.specs.Performed.{HoldsState, isInMemory}
 use Rattle.perform.proofs.Memories.{load-left, store-left}
 use Rattle.run.specs.Steps.{isRefused, Stepped, QuietAt, QuietStep}

@@ -7,7 +7,7 @@ use Rattle.tables.specs.Held.{buffers}
 use Rattle.tables.specs.Decoding.{view}
 use Rattle.frame.specs.EndCall.{isLent}
 use Rattle.frame.proofs.LentCall.{not-lent, lent-count, lent-area, lent-holds, ended-lent}
-use Rattle.frame.proofs.EndCall.{trees-held}
+use Rattle.parts.proofs.Lent.{holds-marked}
 use Rattle.frame.proofs.end_call_list.Statement.{statement}
 use Rattle.frame.proofs.end_call_list.Tie as tie
 
@@ -34,7 +34,7 @@ end-call-held-requires c κs = let s = c .before .before .before .before .before
     let count = s .args .count in
     let area = s .args .area .now in
     let e : isLent len count area b ≡ true = sym (c .before .before .before .before .is-lent .ensures) ∙ not-false _ (c .before .before .before .if1 .left) in
-    ((view b, trees-held (lent-holds len count area b e)), (lent-count len count area b e, lent-area len count area b e))
+    ((view b, holds-marked (lent-holds len count area b e)), (lent-count len count area b e, lent-area len count area b e))
 
 same-length-4 : tie.Need-same-length-4
 same-length-4 c = search needs
@@ -53,7 +53,7 @@ returns-2 c = let s = c .before .before .before .before .before .before .before 
     let area = s .args .area .now in
     let e : isLent len count area b ≡ true = sym (c .before .before .before .before .before .before .before .before .before .before .before .is-lent .ensures) ∙ not-false _ (c .before .before .before .before .before .before .before .before .before .before .if1 .left) in
     let k = c .before .before .before .before .before .before .end-call-held .ensures in
-    ended-lent len count area e (k .0 (view b) (trees-held (lent-holds len count area b e))) (k .1)
+    ended-lent len count area e (k .0 (view b) (holds-marked (lent-holds len count area b e))) (k .1)
 
 pub end-call-list-spec : {M : Type 1} → statement M
 end-call-list-spec =

@@ -8,15 +8,15 @@ use Rattle.definition.specs.Notation.{any}
 use Rattle.entries.specs.List.{entriesOf}
 use Rattle.frame.specs.Release.{AllMade, ReleasedAll}
 use Rattle.frame.proofs.EndCall.{isUnmade, all-made, all-fit, written, refused-unmade, made-released}
-use Rattle.frame.proofs.Lent.{records-held}
+use Rattle.parts.proofs.Lent.{records-of}
 use Rattle.frame.proofs.end_call_refusal.Statement.{statement}
 use Rattle.frame.proofs.end_call_refusal.Tie as tie
 
 any-never-made-requires : tie.Need-any-never-made-requires
-any-never-made-requires c κs = let s = c .before .before .before .before .before in ((s .pre .0 .0, records-held (s .pre .0 .1)), s .pre .1 .0)
+any-never-made-requires c κs = let s = c .before .before .before .before .before in ((s .pre .0 .0, records-of (s .pre .0 .1)), s .pre .1 .0)
 
 returns : tie.Need-returns
-returns c = λ m h. refused-unmade (sym (c .before .any-never-made .ensures m (records-held h)) ∙ c .if1 .taken) h
+returns c = λ m h. refused-unmade (sym (c .before .any-never-made .ensures m (records-of h)) ∙ c .if1 .taken) h
 
 words-of-requires : tie.Need-words-of-requires
 words-of-requires c κs =
@@ -24,7 +24,7 @@ words-of-requires c κs =
     let m = s .pre .0 .0 in
     let h = s .pre .0 .1 in
     let es = entriesOf (s .args .list) in
-    (s .pre .1 .0, all-fit es h (all-made m es (sym (c .before .any-never-made .ensures m (records-held h)) ∙ c .if1 .left)))
+    (s .pre .1 .0, all-fit es h (all-made m es (sym (c .before .any-never-made .ensures m (records-of h)) ∙ c .if1 .left)))
 
 sub-release-lent : tie.Need-sub-release-lent
 sub-release-lent c = search needs
@@ -42,7 +42,7 @@ release-lent-requires c κs =
     let m = s .pre .0 .0 in
     let h = s .pre .0 .1 in
     let list = s .args .list in
-    let n : any (isUnmade m) (entriesOf list) ≡ false = sym (w .before .before .any-never-made .ensures m (records-held h)) ∙ w .before .if1 .left in
+    let n : any (isUnmade m) (entriesOf list) ≡ false = sym (w .before .before .any-never-made .ensures m (records-of h)) ∙ w .before .if1 .left in
     ((m, (h, subst⁻¹ (AllMade m) (written list (w .words-of .result) (w .words-of .ensures)) (all-made m (entriesOf list) n))), s .pre .1 .1)
 
 same-length : tie.Need-same-length
@@ -60,7 +60,7 @@ returns-2 c = λ m h.
     let s = w .before .before .before .before .before .before .before .before in
     let list = s .args .list in
     let r = c .before .before .before .before .before .before .release-lent in
-    let n : any (isUnmade m) (entriesOf list) ≡ false = sym (w .before .before .any-never-made .ensures m (records-held h)) ∙ w .before .if1 .left in
+    let n : any (isUnmade m) (entriesOf list) ≡ false = sym (w .before .before .any-never-made .ensures m (records-of h)) ∙ w .before .if1 .left in
     let same = written list (w .words-of .result) (w .words-of .ensures) in
     made-released n
     (subst (λ (es : List Provenance). ReleasedAll m es (r .result) (r .last .1 .1 .0) (r .last .1 .1 .1 .0)) same

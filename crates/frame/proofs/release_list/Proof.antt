@@ -5,7 +5,7 @@ use borrow.Author.Needs.{needs}
 use lib.ListN.{length}
 use Rattle.entries.specs.Buffer.{entriesIn}
 use Rattle.entries.proofs.FrameWords.{words-count}
-use Rattle.frame.proofs.Lent.{records-held}
+use Rattle.parts.proofs.Lent.{records-of}
 use Rattle.frame.proofs.Releases.{all-by-one}
 use Rattle.frame.proofs.Spans.{spans-made, touched, codes-ordered, codes-total}
 use Rattle.frame.proofs.release_list.Statement.{statement}
@@ -35,13 +35,13 @@ starts-at-requires c κs =
     let s = c .before .before .before .before .before .before .before in
     let m = s .pre .0 in
     let spans = c .span-of .ensures in
-    (m, (records-held (s .pre .1 .0), omega (arith, spans .ordered, spans-made m (entriesIn (s .args .words .now)) _ _ spans (s .pre .1 .1))))
+    (m, (records-of (s .pre .1 .0), omega (arith, spans .ordered, spans-made m (entriesIn (s .args .words .now)) _ _ spans (s .pre .1 .1))))
 
 starts-at-requires-2 : tie.Need-starts-at-requires-2
 starts-at-requires-2 c κs =
     let s = c .before .before .before .before .before .before .before .before in
     let m = s .pre .0 in
-    (m, (records-held (s .pre .1 .0), spans-made m (entriesIn (s .args .words .now)) _ _ (c .before .span-of .ensures) (s .pre .1 .1)))
+    (m, (records-of (s .pre .1 .0), spans-made m (entriesIn (s .args .words .now)) _ _ (c .before .span-of .ensures) (s .pre .1 .1)))
 
 sub-if2 : tie.Need-sub-if2
 sub-if2 c =

@@ -7,7 +7,8 @@ use lib.ListN.{length, drop, drop-of-length-le}
 use Rattle.definition.specs.Memory.{Memory}
 use Rattle.entries.specs.Buffer.{entriesIn}
 use Rattle.entries.proofs.FrameWords.{word-at, words-count}
-use Rattle.frame.specs.Release.{HoldsTrees, AllMade}
+use Rattle.parts.specs.Trees.{HoldsMarked}
+use Rattle.frame.specs.Release.{AllMade}
 use Rattle.frame.proofs.Releases.{Turn, turn-first, turn-at, turn-next, turn-stops, turn-done}
 use Rattle.frame.proofs.release_until.Statement.{statement}
 use Rattle.frame.proofs.release_until.Tie as tie
@@ -15,7 +16,7 @@ use Rattle.frame.proofs.release_until.Tie as tie
 abbrev Inv-loop : tie.InvT-loop
 Inv-loop allocs parents protectors₀ codes₀ words i₀ protectors codes i =
     (i ≤ length words) × (length protectors ≡ length protectors₀) × (length codes ≡ length codes₀)
-    × ((m : Memory) → HoldsTrees m allocs parents protectors₀ codes₀ → AllMade m (entriesIn words) → Turn m (entriesIn words) (drop i (entriesIn words)) allocs parents protectors codes)
+    × ((m : Memory) → HoldsMarked m allocs parents protectors₀ codes₀ → AllMade m (entriesIn words) → Turn m (entriesIn words) (drop i (entriesIn words)) allocs parents protectors codes)
 
 abbrev μ-loop : tie.MeasureT-loop
 μ-loop allocs parents protectors₀ codes₀ words i₀ protectors codes i = length words - i

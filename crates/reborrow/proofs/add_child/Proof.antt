@@ -11,9 +11,9 @@ use Rattle.tables.specs.Held.{withNode}
 use Rattle.bounds.proofs.Points.{read-address, read-size}
 use Rattle.reborrow.specs.Settings.{settingsOf, placeIn, childAt}
 use Rattle.reborrow.proofs.Children.{grown-at, grown-reached, added}
-use Rattle.reborrow.proofs.Codes.{permissions-long}
 use Rattle.reborrow.proofs.Tests.{fits-at}
-use Rattle.reborrow.proofs.Parts.{trees-of, read-nodes}
+use Rattle.parts.proofs.Lent.{trees-of}
+use Rattle.reborrow.proofs.Grown.{read-nodes}
 use Rattle.reborrow.proofs.add_child.Statement.{statement}
 use Rattle.reborrow.proofs.add_child.Tie as tie
 
@@ -29,7 +29,7 @@ node-place-requires : tie.Need-node-place-requires
 node-place-requires c κs = search needs
 
 grown-part-requires : tie.Need-grown-part-requires
-grown-part-requires c κs = let t = c .before .before .before .before .before .before .before .before .before in let (h, l, k) = t .pre .0 .1 in (t .pre .0 .0, (t .args .n, (h .valid, k .fits .reached .made, l .part)))
+grown-part-requires c κs = let t = c .before .before .before .before .before .before .before .before .before in let (h, l, k) = t .pre .0 .1 in (t .pre .0 .0, (t .args .n, (h .valid, l .part)))
 
 insert-child-requires : tie.Need-insert-child-requires
 insert-child-requires c κs =
@@ -41,7 +41,7 @@ insert-child-requires c κs =
     let q = c .before .before .before .before .before .before .before .allocation-at .ensures in
     let place = c .before .before .before .before .before .before .place-in .ensures ∙ ap (λ (j : ℕ). placeIn j (t .args .p .addr) (length (now (t .args .inside)))) (read-address (trees-of h .records) made q) in
     let long = read-size (trees-of h .records) made q in
-    let behind = c .before .before .before .before .before .node-place .ensures m (t .args .n) made (l .used) (l .part) in
+    let behind = c .before .before .before .before .before .node-place .ensures m (t .args .n) (h .valid) (l .used) (l .part) in
     ((m, (h, fits-at k place, long, behind)), t .pre .1 .1)
 
 apply-reads-requires : tie.Need-apply-reads-requires
@@ -54,12 +54,12 @@ apply-reads-requires c κs =
     let q = c .before .before .before .before .before .before .before .before .before .before .before .before .before .before .before .before .before .before .allocation-at .ensures in
     let place = c .before .before .before .before .before .before .before .before .before .before .before .before .before .before .before .before .before .place-in .ensures ∙ ap (λ (j : ℕ). placeIn j (t .args .p .addr) (length (now (t .args .inside)))) (read-address (trees-of h .records) made q) in
     let long = read-size (trees-of h .records) made q in
-    let behind = c .before .before .before .before .before .before .before .before .before .before .before .before .before .before .before .before .node-place .ensures m (t .args .n) made (l .used) (l .part) in
+    let behind = c .before .before .before .before .before .before .before .before .before .before .before .before .before .before .before .before .node-place .ensures m (t .args .n) (h .valid) (l .used) (l .part) in
     let last = read-nodes (trees-of h .records) made q in
     let trees = c .before .before .before .before .before .before .before .before .before .before .insert-child .ensures m mask h (fits-at k place) long behind e in
     let w = settingsOf (t .args .settings) mask in
     let child = childAt w (t .args .node) (c .before .before .before .before .before .before .before .before .before .before .before .before .before .before .before .before .before .place-in .result) (c .before .before .before .before .before .before .before .before .before .before .before .before .before .before .before .before .before .before .allocation-at .result .size) in
-    let part = c .before .before .before .before .before .before .before .before .before .before .before .before .before .before .before .grown-part .ensures m (t .args .n) child made (permissions-long w (t .args .node) (c .before .before .before .before .before .before .before .before .before .before .before .before .before .before .before .before .before .place-in .result) (c .before .before .before .before .before .before .before .before .before .before .before .before .before .before .before .before .before .before .allocation-at .result .size) ∙ long) (l .part) in
+    let part = c .before .before .before .before .before .before .before .before .before .before .before .before .before .before .before .grown-part .ensures m (t .args .n) child (l .part) in
     let at = grown-at (t .args .settings) mask e (t .args .p .addr) (t .args .n) (t .args .node) m (h .valid) k place long trees part in
     let reached = grown-reached (t .args .settings) mask e (t .args .p .addr) (t .args .n) (t .args .node) m (h .valid) k place long last in
     (mutateAt (t .args .n) (withNode child) m, (t .args .n, (at, reached)))
@@ -83,12 +83,12 @@ returns c = λ m mask h l k e.
     let q = c .before .before .before .before .before .before .before .before .before .before .before .before .before .before .before .before .before .before .before .before .before .allocation-at .ensures in
     let place = c .before .before .before .before .before .before .before .before .before .before .before .before .before .before .before .before .before .before .before .before .place-in .ensures ∙ ap (λ (j : ℕ). placeIn j (t .args .p .addr) (length (now (t .args .inside)))) (read-address (trees-of h .records) made q) in
     let long = read-size (trees-of h .records) made q in
-    let behind = c .before .before .before .before .before .before .before .before .before .before .before .before .before .before .before .before .before .before .before .node-place .ensures m (t .args .n) made (l .used) (l .part) in
+    let behind = c .before .before .before .before .before .before .before .before .before .before .before .before .before .before .before .before .before .before .before .node-place .ensures m (t .args .n) (h .valid) (l .used) (l .part) in
     let last = read-nodes (trees-of h .records) made q in
     let trees = c .before .before .before .before .before .before .before .before .before .before .before .before .before .insert-child .ensures m mask h (fits-at k place) long behind e in
     let w = settingsOf (t .args .settings) mask in
     let child = childAt w (t .args .node) (c .before .before .before .before .before .before .before .before .before .before .before .before .before .before .before .before .before .before .before .before .place-in .result) (c .before .before .before .before .before .before .before .before .before .before .before .before .before .before .before .before .before .before .before .before .before .allocation-at .result .size) in
-    let part = c .before .before .before .before .before .before .before .before .before .before .before .before .before .before .before .before .before .before .grown-part .ensures m (t .args .n) child made (permissions-long w (t .args .node) (c .before .before .before .before .before .before .before .before .before .before .before .before .before .before .before .before .before .before .before .before .place-in .result) (c .before .before .before .before .before .before .before .before .before .before .before .before .before .before .before .before .before .before .before .before .before .allocation-at .result .size) ∙ long) (l .part) in
+    let part = c .before .before .before .before .before .before .before .before .before .before .before .before .before .before .before .before .before .before .grown-part .ensures m (t .args .n) child (l .part) in
     let at = grown-at (t .args .settings) mask e (t .args .p .addr) (t .args .n) (t .args .node) m (h .valid) k place long trees part in
     let reached = grown-reached (t .args .settings) mask e (t .args .p .addr) (t .args .n) (t .args .node) m (h .valid) k place long last in
     added (t .args .settings) mask e (t .args .p) (t .pre .1 .0) m (h .valid) k place long last trees (c .before .before .apply-reads .ensures (mutateAt (t .args .n) (withNode child) m) (t .args .n) at reached)

@@ -3,7 +3,7 @@ use native.Mathlib.Omega.{arith}
 use borrow.Author.Needs.{needs}
 use Rattle.reborrow.specs.Settings.{settingsOf, childAt}
 use Rattle.reborrow.proofs.Children.{child-fits}
-use Rattle.reborrow.proofs.Parts.{count-small}
+use Rattle.reborrow.proofs.Grown.{count-small}
 use Rattle.reborrow.proofs.insert_child.Statement.{statement}
 use Rattle.reborrow.proofs.insert_child.Tie as tie
 

@@ -11,18 +11,20 @@ use Rattle.pointer.specs.Pointer.{provenanceOf, thinPointerOf}
 use Rattle.answer.specs.declared.Answer.the-variants.{Refused, Pointer}
 use Rattle.bounds.proofs.Points.{points-made}
 use Rattle.reborrow.specs.Settings.{settingsOf}
-use Rattle.reborrow.specs.Retag.{HoldsNodes, Located}
+use Rattle.parts.specs.Trees.{HoldsMarked}
+use Rattle.parts.proofs.Lent.{trees-of}
+use Rattle.reborrow.specs.Retag.{Located}
 use Rattle.reborrow.proofs.Requests.{nowhere, nowhere-refused, retagged, retagged-refused, retagged-child}
 use Rattle.reborrow.proofs.Children.{refused-by-tests}
-use Rattle.reborrow.proofs.Parts.{trees-of, count-small}
+use Rattle.reborrow.proofs.Grown.{count-small}
 use Rattle.reborrow.proofs.Codes.{inside-length}
 use Rattle.reborrow.proofs.Tests.{first-4}
 use Rattle.reborrow.proofs.reborrow_inside.Statement.{statement}
 use Rattle.reborrow.proofs.reborrow_inside.Tie as tie
 
 -- how much is used, and where the tree lies
-located : (c : tie.After-tree-part) → let t = c .before .before .before .before .before .before .before .before .before .before .before .before .before .before .before in (m : Memory) → HoldsNodes m (now (t .args .allocs)) (now (t .args .parents)) (now (t .args .protectors)) (now (t .args .codes))
-    → Located m (provenanceOf (t .args .p .provenance)) (c .before .before .before .before .before .before .before .before .provenance .given .0 .0) (c .before .before .used .result) (c .tree-part .result)
+located : (c : tie.After-parts-at) → let t = c .before .before .before .before .before .before .before .before .before .before .before .before .before .before .before in (m : Memory) → HoldsMarked m (now (t .args .allocs)) (now (t .args .parents)) (now (t .args .protectors)) (now (t .args .codes))
+    → Located m (provenanceOf (t .args .p .provenance)) (c .before .before .before .before .before .before .before .before .provenance .given .0 .0) (c .before .before .used .result) (c .parts-at .result)
 located c m h =
     let t = c .before .before .before .before .before .before .before .before .before .before .before .before .before .before .before in
     let r = trees-of h .records in
@@ -31,7 +33,7 @@ located c m h =
     record {
       made = known;
       used = record { words = refl; nodes = u .nodes; codes = u .codes };
-      part = c .tree-part .ensures m r (points-made (t .args .p) (c .before .before .before .before .before .before .before .before .provenance .given .1) (record { records = r; made = known }));
+      part = c .parts-at .ensures m r (points-made (t .args .p) (c .before .before .before .before .before .before .before .before .provenance .given .1) (record { records = r; made = known }));
     }
 
 enum-told : tie.Need-enum-told
@@ -70,8 +72,8 @@ returns-2 c = λ s frame mask h a.
 used-requires : tie.Need-used-requires
 used-requires c κs = let t = c .before .before .before .before .before .before .before .before .before .before .before .before in (t .pre .0 .0, trees-of (t .pre .0 .1) .records)
 
-tree-part-requires : tie.Need-tree-part-requires
-tree-part-requires c κs =
+parts-at-requires : tie.Need-parts-at-requires
+parts-at-requires c κs =
     let t = c .before .before .before .before .before .before .before .before .before .before .before .before .before .before in
     let r = trees-of (t .pre .0 .1) .records in
     let known = ap (λ (q : Provenance). namesNeverMade (t .pre .0 .0) (provenanceOf q)) (c .before .before .before .before .before .before .before .provenance .given .1) ∙ sym (c .before .before .before .before .never-made .ensures (t .pre .0 .0) r) ∙ c .before .before .before .if2 .left in
@@ -151,7 +153,7 @@ reborrow-inside-spec =
     same-length
     returns-2
     used-requires
-    tree-part-requires
+    parts-at-requires
     retag-refusal-requires
     same-length-2
     same-length-3

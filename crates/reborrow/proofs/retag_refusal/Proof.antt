@@ -10,10 +10,11 @@ use Rattle.permission.specs.Codes.{protector}
 use Rattle.pointer.specs.Pointer.{provenanceOf}
 use Rattle.tables.proofs.Lookup.{record-in}
 use Rattle.bounds.proofs.Points.{read-address}
-use Rattle.reborrow.specs.Retag.{HoldsTrees, Located, Passed}
+use Rattle.parts.specs.Trees.{HoldsTrees}
+use Rattle.parts.proofs.Lent.{tree-at}
+use Rattle.reborrow.specs.Retag.{Located, Passed}
 use Rattle.reborrow.specs.Settings.{placeIn}
 use Rattle.reborrow.proofs.Children.{refused-by-tests, refused-by-reads}
-use Rattle.reborrow.proofs.Parts.{tree-at}
 use Rattle.reborrow.proofs.Tests.{passed-at, fits-at}
 use Rattle.reborrow.proofs.retag_refusal.Statement.{statement}
 use Rattle.reborrow.proofs.retag_refusal.Tie as tie

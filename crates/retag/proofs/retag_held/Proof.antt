@@ -1,7 +1,8 @@
 -- By whether a node may be added (Masks).
 use mathlib.Core.Path.{sym, _∙_}
 use Rattle.pointer.specs.Pointer.{thinPointerOf}
-use Rattle.retag.proofs.Masks.{nodes-records, performed-same, performed-node}
+use Rattle.parts.proofs.Lent.{records-of}
+use Rattle.retag.proofs.Masks.{performed-same, performed-node}
 use borrow.Author.Needs.{needs}
 use Rattle.retag.proofs.retag_held.Statement.{statement}
 use Rattle.retag.proofs.retag_held.Tie as tie
@@ -10,7 +11,7 @@ adds-no-node-requires : tie.Need-adds-no-node-requires
 adds-no-node-requires c κs = search needs
 
 retag-without-node-requires : tie.Need-retag-without-node-requires
-retag-without-node-requires c κs = (c .before .before .before .before .before .before .before .before .pre .0, nodes-records (c .before .before .before .before .before .before .before .before .pre .1))
+retag-without-node-requires c κs = (c .before .before .before .before .before .before .before .before .pre .0, records-of (c .before .before .before .before .before .before .before .before .pre .1))
 
 same-length : tie.Need-same-length
 same-length c = search needs
@@ -20,7 +21,7 @@ returns c =
     let t = c .before .before .before .before .before .before .before .before .before .args in
     λ s held count.
     performed-same (t .settings) (thinPointerOf (t .p)) (t .layout .now) s (sym (c .before .before .before .adds-no-node .ensures) ∙ c .before .before .if1 .taken)
-    (λ words. c .retag-without-node .ensures s words (nodes-records held)) (held .trees)
+    (λ words. c .retag-without-node .ensures s words (records-of held)) (held .trees)
 
 retag-with-mask-requires : tie.Need-retag-with-mask-requires
 retag-with-mask-requires c κs = search needs

@@ -3,7 +3,7 @@ use mathlib.Core.Path.{_∙_, sym}
 use borrow.Author.Needs.{needs}
 use borrow.Author.Tests.{not-true, not-false}
 use Rattle.wellformed.proofs.Sound.{sound}
-use Rattle.memory.proofs.Afterwards.{holds-marked}
+use Rattle.parts.proofs.Lent.{holds-marked}
 use Rattle.library.proofs.Entered.{not-formed, bad-field}
 use Rattle.library.proofs.Fine.{allocation-kind}
 use Rattle.library.proofs.Performed.{deallocated}

@@ -3,7 +3,7 @@ use mathlib.Core.Path.{_∙_, sym}
 use borrow.Author.Needs.{needs}
 use borrow.Author.Tests.{not-true, not-false}
 use Rattle.wellformed.proofs.Sound.{sound}
-use Rattle.memory.proofs.Afterwards.{holds-trees}
+use Rattle.parts.proofs.Lent.{holds-trees}
 use Rattle.library.proofs.Entered.{not-formed, bad-field}
 use Rattle.library.proofs.Fine.{exponent-shifts}
 use Rattle.library.proofs.Performed.{loaded}

@@ -1,74 +1,67 @@
 -- The allocation's parts hold its tree (`tree-held`), and come back as its visit leaves them (`access-visited`).
+use mathlib.Core.Path.{_≡_}
 use native.Mathlib.Omega.{arith}
 use borrow.Author.Needs.{needs}
 use denote.Ref.{now}
-use Rattle.definition.specs.Memory.{Memory}
+use Rattle.definition.specs.Memory.{Memory, allocationAt}
 use Rattle.permission.specs.Codes.{accessKind}
 use Rattle.tables.proofs.Lookup.{record-in}
-use Rattle.bounds.proofs.Points.{read-address, read-size}
-use Rattle.memory.specs.Buffers.{HoldsTrees}
+use Rattle.bounds.proofs.Points.{read-address}
+use Rattle.parts.specs.Trees.{HoldsTrees, TreeAt}
+use Rattle.parts.proofs.Lent.{tree-at, nodes-ordered, codes-ordered, nodes-small, parents-in, codes-in, tree-held, node-in}
 use Rattle.memory.specs.Access.{Reached}
-use Rattle.memory.proofs.OneTree.{nodes-small, codes-small, parents-in, codes-in, tree-held, node-in, access-visited, Parts}
+use Rattle.memory.proofs.OneTree.{access-visited}
 use Rattle.memory.proofs.access.access_tree.Statement.{statement}
 use Rattle.memory.proofs.access.access_tree.Tie as tie
 
--- the parts of the tables that are lent, for each memory that they hold; and for the one that the caller has
-parts : (c : tie.After-starts-at) (m : Memory) → let a = c .before .before .before .before .before .args in HoldsTrees m (now (a .allocs)) (now (a .parents)) (now (a .codes)) → Reached m (a .n) (a .node) (a .addr) (a .len)
-    → Parts m (now (a .allocs)) (now (a .parents)) (now (a .codes)) (a .n) (c .before .allocation-at .result) (c .starts-at .result)
-parts c m h k = record { tables = h; made = k .made; read = c .before .allocation-at .ensures; starts = c .starts-at .ensures m (h .records) }
+-- the tree that is lent, for each memory that the tables hold; and for the one that the caller has
+lent : (c : tie.After-parts-at) (m : Memory) → let a = c .before .before .before .before .before .args in HoldsTrees m (now (a .allocs)) (now (a .parents)) (now (a .codes)) → Reached m (a .n) (a .node) (a .addr) (a .len)
+    → TreeAt m (a .n) (now (a .parents)) (now (a .codes)) (c .parts-at .result)
+lent c m h k = tree-at h (c .parts-at .ensures m (h .records) (k .made))
 
-given : (c : tie.After-starts-at) → let a = c .before .before .before .before .before .args in Parts (c .before .before .before .before .before .pre .0) (now (a .allocs)) (now (a .parents)) (now (a .codes)) (a .n) (c .before .allocation-at .result) (c .starts-at .result)
-given c = parts c (c .before .before .before .before .before .pre .0) (c .before .before .before .before .before .pre .1 .0) (c .before .before .before .before .before .pre .1 .1)
+given : (c : tie.After-parts-at) → let t = c .before .before .before .before .before in TreeAt (t .pre .0) (t .args .n) (now (t .args .parents)) (now (t .args .codes)) (c .parts-at .result)
+given c = let (m, (h, k)) = c .before .before .before .before .before .pre in lent c m h k
+
+-- where the allocation starts
+base : (c : tie.After-parts-at) (m : Memory) → let a = c .before .before .before .before .before .args in HoldsTrees m (now (a .allocs)) (now (a .parents)) (now (a .codes)) → Reached m (a .n) (a .node) (a .addr) (a .len)
+    → c .before .allocation-at .result .address ≡ allocationAt m (a .n) .address
+base c m h k = read-address (h .records) (k .made) (c .before .allocation-at .ensures)
 
 allocation-at-requires : tie.Need-allocation-at-requires
 allocation-at-requires c κs = record-in (c .before .before .before .pre .1 .0 .records) (c .before .before .before .args .n) (c .before .before .before .pre .1 .1 .made)
 
-starts-at-requires : tie.Need-starts-at-requires
-starts-at-requires c κs = (c .before .before .before .before .pre .0, (c .before .before .before .before .pre .1 .0 .records, omega (arith, c .before .before .before .before .pre .1 .1 .made)))
-
-add-node-end : tie.Need-add-node-end
-add-node-end c = omega (arith, nodes-small (given c))
-
-mul-code-end : tie.Need-mul-code-end
-mul-code-end c = omega (arith, codes-small (given c))
-
-add-code-end : tie.Need-add-code-end
-add-code-end c = omega (arith, codes-small (given c))
+parts-at-requires : tie.Need-parts-at-requires
+parts-at-requires c κs = let (m, (h, k)) = c .before .before .before .before .pre in (m, (h .records, k .made))
 
 sub-from : tie.Need-sub-from
-sub-from c = omega (arith, read-address (given c .tables .records) (given c .made) (given c .read), c .before .before .before .before .before .pre .1 .1 .above)
+sub-from c = let (m, (h, k)) = c .before .before .before .before .before .pre in omega (arith, base c m h k, k .above)
 
 mul-access : tie.Need-mul-access
-mul-access c = omega (arith, nodes-small (given c))
+mul-access c = omega (arith, nodes-small (given c), nodes-ordered (given c))
 
 sub-access : tie.Need-sub-access
-sub-access c = search needs
+sub-access c = omega (arith, nodes-ordered (given c))
 
 part-access-start : tie.Need-part-access-start
-part-access-start c = search needs
+part-access-start c = nodes-ordered (given c)
 
 part-access-end : tie.Need-part-access-end
-part-access-end c = omega (arith, parents-in (given c))
+part-access-end c = parents-in (given c)
 
 sub-access-2 : tie.Need-sub-access-2
-sub-access-2 c = search needs
+sub-access-2 c = omega (arith, codes-ordered (given (c .before)))
 
 part-access-start-2 : tie.Need-part-access-start-2
-part-access-start-2 c = search needs
+part-access-start-2 c = codes-ordered (given (c .before))
 
 part-access-end-2 : tie.Need-part-access-end-2
-part-access-end-2 c = omega (arith, codes-in (given (c .before)))
+part-access-end-2 c = codes-in (given (c .before))
 
 access-requires : tie.Need-access-requires
 access-requires c κs =
     let t = given (c .before .before) in
-    let k = c .before .before .before .before .before .before .before .pre .1 .1 in (
-      (_, tree-held t),
-      (
-        node-in t (c .before .before .before .before .before .before .before .args .node) (k .inTree),
-        omega (arith, read-address (t .tables .records) (t .made) (t .read), read-size (t .tables .records) (t .made) (t .read), k .above, k .within),
-      ),
-    )
+    let (m, (h, k)) = c .before .before .before .before .before .before .before .pre in
+    ((_, tree-held t), (node-in t (k .inTree), omega (arith, base (c .before .before) m h k, t .part .width, k .above, k .within)))
 
 same-length : tie.Need-same-length
 same-length c = search needs
@@ -76,18 +69,15 @@ same-length c = search needs
 returns : tie.Need-returns
 returns c = λ m h k.
     let a = c .before .before .before .before .before .before .before .before .before .before .args in
-    let t = parts (c .before .before .before .before .before) m h k in
-    access-visited t (accessKind (a .kind)) (a .node) (a .addr) (a .len) _ (c .before .before .access .ensures _ (tree-held t))
+    let t = lent (c .before .before .before .before .before) m h k in
+    access-visited t (accessKind (a .kind)) (a .node) (a .addr) (a .len) (base (c .before .before .before .before .before) m h k) _ (c .before .before .access .ensures _ (tree-held t))
 
 pub access-tree-spec : {M : Type 1} → statement M
 access-tree-spec =
     tie.close
     (tie.spec
     allocation-at-requires
-    starts-at-requires
-    add-node-end
-    mul-code-end
-    add-code-end
+    parts-at-requires
     sub-from
     mul-access
     sub-access

@@ -2,6 +2,7 @@
 use native.Mathlib.Omega.{arith}
 use borrow.Author.Needs.{needs}
 use Rattle.tables.proofs.Lookup.{record-in}
+use Rattle.parts.proofs.Lent.{records-of}
 use Rattle.memory.proofs.Deallocation.{node-made, refused-through, prevented-through, accepted-through, missing-through}
 use Rattle.memory.proofs.deallocate.deallocate.Statement.{statement}
 use Rattle.memory.proofs.deallocate.deallocate.Tie as tie
@@ -13,7 +14,7 @@ enum-known-provenance : tie.Need-enum-known-provenance
 enum-known-provenance c = search needs
 
 deallocate-refusal-requires : tie.Need-deallocate-refusal-requires
-deallocate-refusal-requires c κs = search needs
+deallocate-refusal-requires c κs = search (needs, records-of)
 
 same-length : tie.Need-same-length
 same-length c = search needs
@@ -21,7 +22,7 @@ same-length c = search needs
 returns : tie.Need-returns
 returns c = λ m k h e.
     let refused = c .before .deallocate-refusal in
-    refused-through (c .before .before .before .before .before .before .before .before .before .before .args .p) (c .before .before .before .before .provenance .given .1) k e h (refused .result) (refused .ensures m (h .trees .records)) (c .if1 .taken)
+    refused-through (c .before .before .before .before .before .before .before .before .before .before .args .p) (c .before .before .before .before .provenance .given .1) k e h (refused .result) (refused .ensures m (records-of h)) (c .if1 .taken)
 
 cast-n : tie.Need-cast-n
 cast-n c = search needs
@@ -35,7 +36,7 @@ write-all-requires c κs =
     let m = c .before .before .before .before .before .before .before .before .before .before .before .before .pre .0 in
     let h = c .before .before .before .before .before .before .before .before .before .before .before .before .pre .1 in
     let refused = c .before .before .before .deallocate-refusal in
-    (m, (h, node-made _ (a .p .addr) (a .kind) (a .len) (a .exponent) m (refused .result) (refused .ensures m (h .trees .records)) (c .before .before .if1 .left)))
+    (m, (h, node-made _ (a .p .addr) (a .kind) (a .len) (a .exponent) m (refused .result) (refused .ensures m (records-of h)) (c .before .before .if1 .left)))
 
 same-length-2 : tie.Need-same-length-2
 same-length-2 c = search needs
@@ -47,7 +48,7 @@ returns-2 : tie.Need-returns-2
 returns-2 c = λ m k h e.
     let a = c .before .before .before .before .before .before .before .before .before .before .before .before .before .before .before .before .args in
     let refused = c .before .before .before .before .before .before .before .deallocate-refusal in
-    let r = refused .ensures m (h .trees .records) in
+    let r = refused .ensures m (records-of h) in
     let node = node-made _ (a .p .addr) (a .kind) (a .len) (a .exponent) m (refused .result) r (c .before .before .before .before .before .before .if1 .left) in
     prevented-through (a .p) (c .before .before .before .before .before .before .before .before .before .before .provenance .given .1) k e h (refused .result) r (c .before .before .before .before .before .before .if1 .left) (c .before .before .before .write-all .ensures m h node) (c .if2 .taken)
 
@@ -63,8 +64,8 @@ slice-write-allocs c =
     let m = c .before .before .before .before .before .before .before .before .before .before .before .before .before .before .before .before .pre .0 in
     let h = c .before .before .before .before .before .before .before .before .before .before .before .before .before .before .before .before .pre .1 in
     let refused = c .before .before .before .before .before .before .before .deallocate-refusal in
-    let node = node-made _ (a .p .addr) (a .kind) (a .len) (a .exponent) m (refused .result) (refused .ensures m (h .trees .records)) (c .before .before .before .before .before .before .if1 .left) in
-    omega (arith, record-in (h .trees .records) _ (node .made))
+    let node = node-made _ (a .p .addr) (a .kind) (a .len) (a .exponent) m (refused .result) (refused .ensures m (records-of h)) (c .before .before .before .before .before .before .if1 .left) in
+    omega (arith, record-in (records-of h) _ (node .made))
 
 returns-3 : tie.Need-returns-3
 returns-3 c = λ m k h e. missing-through (c .before .before .before .before .before .before .args .p) (c .enum-told .given .1) k (c .before .before .before .before .before .before .args .len) (c .before .before .before .before .before .before .args .exponent) h
@@ -79,7 +80,7 @@ returns-4 : tie.Need-returns-4
 returns-4 c = λ m k h e.
     let a = c .before .before .before .before .before .before .before .before .before .before .before .before .before .before .before .before .args in
     let refused = c .before .before .before .before .before .before .before .deallocate-refusal in
-    let r = refused .ensures m (h .trees .records) in
+    let r = refused .ensures m (records-of h) in
     let node = node-made _ (a .p .addr) (a .kind) (a .len) (a .exponent) m (refused .result) r (c .before .before .before .before .before .before .if1 .left) in
     accepted-through (a .p) (c .before .before .before .before .before .before .before .before .before .before .provenance .given .1) k e h (refused .result) r (c .before .before .before .before .before .before .if1 .left) (c .before .before .before .write-all .ensures m h node) (c .if2 .left)
 

@@ -4,7 +4,8 @@ use mir.Syntax.{w64}
 use mir.Facts.{toZ-ofZ}
 use borrow.Author.Needs.{needs, sfits-of}
 use Rattle.pointer.specs.Pointer.{back, ahead}
-use Rattle.memory.proofs.Afterwards.{holds-trees, holds-bytes, holds-marked}
+use Rattle.memory.proofs.Afterwards.{holds-bytes}
+use Rattle.parts.proofs.Lent.{holds-trees, holds-marked}
 use Rattle.tables.proofs.ReadBack.{holds-records}
 use Rattle.perform.proofs.Memories.{can, allocate-left, deallocate-kind, deallocate-left, load-exponent, store-exponent, load-left, store-left, dereferenceable-left, signed-left, leak-left, not-alone, not-a-kind}
 use Rattle.perform.proofs.in_memory.in_memory.Statement.{statement}

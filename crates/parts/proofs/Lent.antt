@@ -1,0 +1,158 @@
+-- One allocation's parts of the tables, as they are lent: they hold its tree, and what comes back makes the tables of the memory with the tree changed.
+use Prim.Native.Nat.{ℕ, _+_, _-_, _*_, _≤_, _<_}
+use mathlib.Core.Path.{_≡_, refl, sym, ap, ap₂, _∙_}
+use mathlib.Core.Bool.{Bool, true, false}
+use mathlib.Core.List.{List}
+use native.Mathlib.Omega.{arith}
+use borrow.Rule.Slice.PartMut.{putMid}
+use lib.ListN.{length, take, drop}
+use Rattle.definition.specs.Notation.{if_then_else_, mutateAt}
+use Rattle.definition.specs.Tree.{Visit, visited}
+use Rattle.definition.specs.Memory.{Allocation, Memory, allocationAt, size, nodeCount, codeCount}
+use Rattle.definition.specs.Valid.{ValidAllocation, Valid}
+use Rattle.definition.proofs.Places.{valid-at}
+use Rattle.tables.specs.Encoding.{Buffers, recordOf, parentsOf, protectorsOf, wordsOf, codesOf, held}
+use Rattle.tables.specs.Held as tables
+use Rattle.tables.specs.Held.{buffers, Records, StartsAt}
+use Rattle.tables.proofs.Focus.{length-held, focus-same}
+use Rattle.tables.proofs.Sizes.{length-parents, length-protectors, parents-fit, words-fit, codes-fit, codes-at}
+use Rattle.tables.proofs.ReadBack.{holds-allocs, holds-parents, holds-protectors, holds-codes, encode-of}
+use Rattle.tables.proofs.Lent as lent
+use Rattle.tree.specs.Table.{rowsOf, marks, Holds, HoldsMarks, HoldsAll}
+use Rattle.parts.specs.declared.Parts.{Parts}
+use Rattle.parts.specs.Trees.{HoldsTrees, HoldsMarked, PartsOf, TreeAt, afterVisit}
+use Rattle.parts.proofs.Trees.{codes-rows, protectors-marks, holds-tree, holds-marks, holds-all, visited-codes}
+
+-- ---- from more buffers to fewer
+pub holds-marked : {m : Memory} {b : Buffers} → tables.Holds m b → HoldsMarked m (b .allocs) (b .parents) (b .protectors) (b .codes)
+holds-marked h = record {
+  valid = h .valid;
+  trees = record { allocs = holds-allocs h; parents = holds-parents h; protectors = holds-protectors h; codes = holds-codes h };
+}
+
+pub records-of : {m : Memory} {A P R C : List ℕ} → HoldsMarked m A P R C → Records m A
+records-of h = record { valid = h .valid; allocs = h .trees .allocs }
+
+pub trees-of : {m : Memory} {A P R C : List ℕ} → HoldsMarked m A P R C → HoldsTrees m A P C
+trees-of h = record { records = records-of h; parents = h .trees .parents; codes = h .trees .codes }
+
+pub holds-trees : {m : Memory} {b : Buffers} → tables.Holds m b → HoldsTrees m (b .allocs) (b .parents) (b .codes)
+holds-trees h = trees-of (holds-marked h)
+
+pub tree-at : {m : Memory} {n : ℕ} {A P C : List ℕ} {r : Parts} → HoldsTrees m A P C → PartsOf m n r → TreeAt m n P C r
+tree-at h t = record { valid = h .records .valid; parents = h .parents; codes = h .codes; part = t }
+
+pub tree-of : {m : Memory} {n : ℕ} {r : Parts} → Valid m → PartsOf m n r → TreeAt m n (held 1024 parentsOf m) (held 32768 codesOf m) r
+tree-of v t = record { valid = v; parents = refl; codes = refl; part = t }
+
+-- ---- from what is read of the records
+pub parts-of : {m : Memory} {n : ℕ} → n < length m → {w b c nodes bytes : ℕ} → StartsAt m n w b c → nodes ≡ nodeCount (allocationAt m n) → bytes ≡ size (allocationAt m n)
+    → PartsOf m n (record { word = w; first = b; behind = b + nodes; start = c; end = c + nodes * bytes; width = bytes })
+parts-of made {w} {b} {c} s count long = record {
+  made = made;
+  starts = s;
+  behind = ap (λ (k : ℕ). b + k) count;
+  end = ap₂ (λ (k z : ℕ). c + k * z) count long;
+  width = long;
+}
+
+module _ {m : Memory} {n : ℕ} {P C : List ℕ} {r : Parts} (h : TreeAt m n P C r) where
+  abbrev x : Allocation
+  x = allocationAt m n
+
+  made : n < length m
+  made = h .part .made
+
+  starts : StartsAt m n (r .word) (r .first) (r .start)
+  starts = h .part .starts
+
+  valid : ValidAllocation x
+  valid = valid-at m n (h .valid) made
+
+  -- the other buffers may be those of m
+  whole : {R : List ℕ} → R ≡ held 1024 protectorsOf m → tables.Holds m (buffers (held 768 recordOf m) P R (held 4096 wordsOf m) C)
+  whole marked = record { valid = h .valid; equal = encode-of m refl (h .parents) marked refl (h .codes) }
+
+  node-span : r .behind - r .first ≡ nodeCount x
+  node-span = omega (arith, h .part .behind)
+
+  code-span : r .end - r .start ≡ codeCount x
+  code-span = omega (arith, h .part .end)
+
+  -- ---- they lie in the tables
+  pub nodes-ordered : r .first ≤ r .behind
+  nodes-ordered = omega (arith, h .part .behind)
+
+  pub codes-ordered : r .start ≤ r .end
+  codes-ordered = omega (arith, h .part .end)
+
+  pub parents-in : r .behind ≤ length P
+  parents-in = omega (arith, h .part .behind, lent.parents-room (whole refl) made starts)
+
+  pub codes-in : r .end ≤ length C
+  codes-in = omega (arith, h .part .end, lent.codes-room (whole refl) made starts)
+
+  pub nodes-small : r .behind ≤ 1024
+  nodes-small = omega (arith, parents-in, ap length (h .parents), length-held 1024 parentsOf m (parents-fit m (h .valid)))
+
+  pub codes-small : r .end ≤ 32768
+  codes-small = omega (arith, codes-in, ap length (h .codes), length-held 32768 codesOf m (codes-fit m (h .valid)))
+
+  pub words-small : r .word + r .width ≤ 4096
+  words-small = omega (arith, h .part .width, lent.words-room (whole refl) made starts, length-held 4096 wordsOf m (words-fit m (h .valid)))
+
+  -- ---- they hold its tree
+  parents-part : take (r .behind - r .first) (drop (r .first) P) ≡ parentsOf x
+  parents-part = ap (λ (k : ℕ). take k (drop (r .first) P)) node-span ∙ lent.parents-part (whole refl) made starts
+
+  codes-part : take (r .end - r .start) (drop (r .start) C) ≡ codesOf x
+  codes-part = ap (λ (k : ℕ). take k (drop (r .start) C)) code-span ∙ lent.codes-part (whole refl) made starts
+
+  pub tree-held : Holds (x .nodes) (r .width) (take (r .behind - r .first) (drop (r .first) P)) (take (r .end - r .start) (drop (r .start) C))
+  tree-held = rw (parents-part, codes-part, h .part .width) (holds-tree x valid)
+
+  pub node-in : {node : ℕ} → node < nodeCount x → node < length (take (r .behind - r .first) (drop (r .first) P))
+  node-in l = omega (arith, ap length parents-part, length-parents x)
+
+  -- ---- and come back, with the tree as it was or as g leaves it
+  given-codes : (g : Allocation → Allocation) (last : List ℕ) → length last ≡ codeCount x → codesOf (g x) ≡ last
+      → putMid (r .start) (r .end - r .start) C last ≡ held 32768 codesOf (mutateAt n g m)
+  given-codes g last l e = ap (λ (k : ℕ). putMid (r .start) k C last) code-span ∙ lent.given-codes (whole refl) made starts g last l e
+
+  pub codes-after : (g : Allocation → Allocation) → length (rowsOf (g x .nodes)) ≡ codeCount x → (t : Bool) (last : List ℕ) → last ≡ rowsOf (if t then g x .nodes else x .nodes)
+      → putMid (r .start) (r .end - r .start) C last ≡ held 32768 codesOf (if t then mutateAt n g m else m)
+  codes-after g l true last e = given-codes g last (ap length e ∙ l) (codes-rows (g x) ∙ sym e)
+  codes-after g l false last e =
+      let e′ : codesOf x ≡ last = codes-rows x ∙ sym e in
+      given-codes (λ y. y) last (ap length (sym e′) ∙ codes-at m (h .valid) n made) e′ ∙ focus-same 32768 codesOf m n made (λ y. y) refl
+
+  pub visit-after : (v : Visit) (t : Bool) (last : List ℕ) → last ≡ rowsOf (if t then visited v (x .nodes) else x .nodes)
+      → putMid (r .start) (r .end - r .start) C last ≡ held 32768 codesOf (if t then mutateAt n (afterVisit v) m else m)
+  visit-after v = codes-after (afterVisit v) (visited-codes x valid v)
+
+  -- ---- the same of its protectors
+  module _ {R : List ℕ} (marked : R ≡ held 1024 protectorsOf m) where
+    pub protectors-in : r .behind ≤ length R
+    protectors-in = omega (arith, h .part .behind, lent.protectors-room (whole marked) made starts)
+
+    protectors-part : take (r .behind - r .first) (drop (r .first) R) ≡ protectorsOf x
+    protectors-part = ap (λ (k : ℕ). take k (drop (r .first) R)) node-span ∙ lent.protectors-part (whole marked) made starts
+
+    pub all-held : HoldsAll (x .nodes) (r .width) (take (r .behind - r .first) (drop (r .first) P)) (take (r .behind - r .first) (drop (r .first) R)) (take (r .end - r .start) (drop (r .start) C))
+    all-held = rw (parents-part, protectors-part, codes-part, h .part .width) (holds-all x valid)
+
+    pub marks-held : HoldsMarks (x .nodes) (r .width) (take (r .behind - r .first) (drop (r .first) R)) (take (r .end - r .start) (drop (r .start) C))
+    marks-held = rw (protectors-part, codes-part, h .part .width) (holds-marks x valid)
+
+    pub node-in-marks : {node : ℕ} → node < nodeCount x → node < length (take (r .behind - r .first) (drop (r .first) R))
+    node-in-marks l = omega (arith, ap length protectors-part, length-protectors x)
+
+    given-marks : (g : Allocation → Allocation) (last : List ℕ) → nodeCount (g x) ≡ nodeCount x → protectorsOf (g x) ≡ last
+        → putMid (r .first) (r .behind - r .first) R last ≡ held 1024 protectorsOf (mutateAt n g m)
+    given-marks g last l e =
+        ap (λ (k : ℕ). putMid (r .first) k R last) node-span ∙ lent.given-protectors (whole marked) made starts g last (ap length (sym e) ∙ length-protectors (g x) ∙ l) e
+
+    pub marks-after : (g : Allocation → Allocation) → nodeCount (g x) ≡ nodeCount x → (t : Bool) (last : List ℕ) → last ≡ marks (if t then g x .nodes else x .nodes)
+        → putMid (r .first) (r .behind - r .first) R last ≡ held 1024 protectorsOf (if t then mutateAt n g m else m)
+    marks-after g l true last e = given-marks g last l (protectors-marks (g x) ∙ sym e)
+    marks-after g l false last e = given-marks (λ y. y) last refl (protectors-marks x ∙ sym e) ∙ focus-same 1024 protectorsOf m n made (λ y. y) refl

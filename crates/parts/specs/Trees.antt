@@ -1,0 +1,43 @@
+-- Buffers that hold a memory's trees, where one allocation's parts of them lie, and a visit of its tree.
+use Prim.Native.Nat.{ℕ, _+_, _<_}
+use mathlib.Core.Path.{_≡_}
+use mathlib.Core.List.{List}
+use lib.ListN.{length}
+use Rattle.definition.specs.Tree.{Visit, visited}
+use Rattle.definition.specs.Memory.{Allocation, Memory, allocationAt, changed, size, nodeCount, codeCount}
+use Rattle.definition.specs.Valid.{Valid}
+use Rattle.tables.specs.Encoding.{parentsOf, codesOf, held}
+use Rattle.tables.specs.Held.{Records, StartsAt, Trees}
+use Rattle.parts.specs.declared.Parts.{Parts}
+
+-- ---- for requests that do not touch all buffers
+-- the records, the parents and the codes are those of m
+pub record HoldsTrees (m : Memory) (A P C : List ℕ) : Type 0 where
+  pub records : Records m A
+  pub parents : P ≡ held 1024 parentsOf m
+  pub codes : C ≡ held 32768 codesOf m
+
+-- and so are the protectors: all buffers but the words
+pub record HoldsMarked (m : Memory) (A P R C : List ℕ) : Type 0 where
+  pub valid : Valid m
+  pub trees : Trees m A P R C
+
+-- ---- one allocation
+-- allocation n was made, and its words, nodes and codes lie where r says
+pub record PartsOf (m : Memory) (n : ℕ) (r : Parts) : Type 0 where
+  pub made : n < length m
+  pub starts : StartsAt m n (r .word) (r .first) (r .start)
+  pub behind : r .behind ≡ r .first + nodeCount (allocationAt m n)
+  pub end : r .end ≡ r .start + codeCount (allocationAt m n)
+  pub width : r .width ≡ size (allocationAt m n)
+
+-- the parents and the codes are those of m, and allocation n's parts lie at r
+pub record TreeAt (m : Memory) (n : ℕ) (P C : List ℕ) (r : Parts) : Type 0 where
+  pub valid : Valid m
+  pub parents : P ≡ held 1024 parentsOf m
+  pub codes : C ≡ held 32768 codesOf m
+  pub part : PartsOf m n r
+
+-- an allocation whose tree was visited
+abbrev pub afterVisit : Visit → Allocation → Allocation
+afterVisit v a = changed a (a .state) (a .words) (visited v (a .nodes))
