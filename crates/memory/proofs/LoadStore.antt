@@ -251,7 +251,7 @@ loaded-words p len exponent a = refl
 
 module _ (p : ThinPointer) (len exponent : ℕ) {m : Memory} (v : Valid m) where
   pub load-refused : (r : ℕ) {C : List ℕ} → (r ≡ 0 → ⊥) → Accessed (loadOf p len exponent) m r C → Loaded (loadOf p len exponent) m (Refused r) C
-  load-refused r z k = record { answers = ap (λ o. o .0) (sym (refused-memory (loadOf p len exponent) m r z (sym (k .refusal)))); inData = tt; codes = k .codes }
+  load-refused r z k = record { answers = ap (λ o. o .0) (sym (refused-memory (loadOf p len exponent) m r z (sym (k .refusal)))); codes = k .codes }
 
   pub load-accepted : (r start : ℕ) {C : List ℕ} → r ≡ 0 → Accessed (loadOf p len exponent) m r C → start ≡ wordsStart p len m → Loaded (loadOf p len exponent) m (Words start len) C
   load-accepted r start z k s =
@@ -262,7 +262,6 @@ module _ (p : ThinPointer) (len exponent : ℕ) {m : Memory} (v : Valid m) where
         answers =
             ap givesWords (ap (λ (n : ℕ). take len (drop n (held 4096 wordsOf m))) s ∙ words-part v h ∙ sym (loaded-words p len exponent (target m p)))
             ∙ ap (λ o. o .0) (sym (accepted l m e));
-        inData = omega (arith, s, words-in v h);
         codes = k .codes;
       }
 

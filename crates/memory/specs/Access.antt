@@ -13,7 +13,6 @@ use Rattle.definition.specs.Tree.{Visit, accessVisit, visitRefusal}
 use Rattle.definition.specs.Memory.{ThinPointer, Memory, MemoryAccess, allocationOf, allocationAt, target, offset, size, nodeCount, namesNeverMade, isMisaligned, checkPtr, accessRefusal, performAccess}
 use Rattle.answer.specs.Answer.{answerOf}
 use Rattle.answer.specs.declared.Answer.{Answer}
-use Rattle.answer.specs.declared.Answer.the-variants.{Refused, Leak, Accepted, Pointer, Words}
 use Rattle.tables.specs.Encoding.{wordsOf, codesOf, held}
 use Rattle.tables.specs.Held.{startOf}
 use Rattle.memory.specs.Buffers.{TreeVisited}
@@ -76,17 +75,8 @@ abbrev pub QuietAccess : MemoryAccess → Memory → List ℕ → Quiet → Type
 QuietAccess x m C No = Unit
 QuietAccess x m C (At start) = Accessed x m 0 C × (start ≡ wordsStart (x .pointer) (x .len) m)
 
--- the part of the data that an answer names lies within so many words
-abbrev pub WordsWithin : ℕ → Answer → Type 0
-WordsWithin total (Refused n) = Unit
-WordsWithin total (Leak n) = Unit
-WordsWithin total Accepted = Unit
-WordsWithin total (Pointer p) = Unit
-WordsWithin total (Words start len) = start + len ≤ total
-
 pub record Loaded (x : MemoryAccess) (m : Memory) (answer : Answer) (C : List ℕ) : Type 0 where
   pub answers : answerOf answer (held 4096 wordsOf m) ≡ performAccess x m .0
-  pub inData : WordsWithin 4096 answer
   pub codes : C ≡ held 32768 codesOf (performAccess x m .1)
 
 pub record Stored (x : MemoryAccess) (m : Memory) (answer : Answer) (W C : List ℕ) : Type 0 where
