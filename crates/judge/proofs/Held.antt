@@ -13,7 +13,7 @@ use Rattle.tables.proofs.Focus.{length-held}
 use Rattle.tables.proofs.ReadBack.{holds-records, holds-words}
 use Rattle.tables.proofs.Sizes.{words-fit}
 use Rattle.perform.specs.Performed.{HoldsState}
-use Rattle.run.specs.Lists.{haveLengths}
+use Rattle.step.specs.Lengths.{haveLengths}
 
 module _ {s : State} {b : Buffers} {F : List ℕ} (h : HoldsState s b F) where
   pub memory-held : Holds (s .memory) b

@@ -86,7 +86,7 @@ fn answer_words(
         → Turned s (now (request .entry)) index (now (out .entry)) at (now (out .exit)) (r .at) (r .refused)
         (buffers (now (allocs .exit)) (now (parents .exit)) (now (protectors .exit)) (now (words .exit)) (now (codes .exit))) (now (frames .exit))) ⌝ }
 {
-    let answer = run::step::step(allocs, parents, protectors, words, codes, frames, request);
+    let answer = step::step(allocs, parents, protectors, words, codes, frames, request);
     write_answer(out, at, index, answer, allocs, words)
 }
 

@@ -10,7 +10,7 @@ ghost use lib.ListN.{length};
 ghost use Rattle.definition.specs.Frame.{empty};
 ghost use Rattle.tables.specs.Held.{buffers};
 ghost use Rattle.perform.specs.Performed.{HoldsState};
-ghost use Rattle.run.specs.Lists.{haveLengths};
+ghost use Rattle.step.specs.Lengths.{haveLengths};
 ghost use Rattle.judge.specs.Whole.{goesOn, Performing, JudgedAs};
 
 fn has_room(at: usize, more: usize, room: usize) -> bool
@@ -116,7 +116,7 @@ pub fn judge(
     requires { ⌜ length (now request) ≡ 4100 ⌝ }
     ensures { λ r. ⌜ JudgedAs (now (run .entry)) (now (out .entry)) r (now (out .exit)) ⌝ }
 {
-    run::clear::clear(allocs, parents, protectors, words, codes, frames);
+    step::clear::clear(allocs, parents, protectors, words, codes, frames);
     let p = answer_all(
         allocs,
         parents,

@@ -14,9 +14,9 @@ use Rattle.tables.specs.Encoding.{Buffers, encode}
 use Rattle.perform.specs.Performed.{HoldsState}
 use Rattle.run.specs.declared.quick.Turn.{Turn}
 use Rattle.run.specs.declared.quick.Turn.the-variants.{No, Made}
-use Rattle.run.specs.Calls.{MadeCall}
+use Rattle.step.specs.Calls.{MadeCall}
 use Rattle.run.specs.Lists.{Unchanged}
-use Rattle.run.specs.Steps.{Stepped}
+use Rattle.step.specs.Steps.{Stepped}
 use Rattle.run.specs.Turns.{Going}
 use Rattle.run.specs.Quick.{Tried}
 use Rattle.run.proofs.Turns.{going-on}

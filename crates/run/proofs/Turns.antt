@@ -29,10 +29,11 @@ use Rattle.answer.proofs.Loaded.{loaded-length}
 use Rattle.transcript.specs.Transcript.{answerWords, transcript, WrittenTo}
 use Rattle.transcript.specs.declared.Written.{Written}
 use Rattle.run.specs.declared.ListRun.the-variants.{Refused, Answered}
-use Rattle.run.specs.Lists.{requestsFrom, requestsIn, haveLengths, Ran, ListRan}
-use Rattle.run.specs.Steps.{Stepped}
+use Rattle.run.specs.Lists.{requestsFrom, requestsIn, Ran, ListRan}
+use Rattle.step.specs.Steps.{Stepped}
+use Rattle.step.specs.Lengths.{haveLengths}
 use Rattle.run.specs.Turns.{Turned, Going}
-use Rattle.run.proofs.Zeros.{Lengths}
+use Rattle.step.proofs.Zeros.{Lengths}
 
 -- ---- a part of the words
 module _ (words : List ℕ) (from end : ℕ) where

@@ -1,14 +1,14 @@
 -- A list of requests on lent buffers, and demand 3: what `run_list` promises. Document 01: "Lists whose order may change".
 use Prim.Native.Nat.{ℕ, _-_}
 use mathlib.Core.Path.{_≡_}
-use mathlib.Core.Bool.{Bool, true, false, _&&_}
+use mathlib.Core.Bool.{true, false}
 use mathlib.Core.List.{List, [], _∷_}
-use lib.Dec.{eqb}
-use lib.ListN.{length, take, drop}
+use lib.ListN.{take, drop}
 use Rattle.definition.specs.Frame.{empty}
 use Rattle.definition.specs.Run.{answers, final}
 use Rattle.definition.specs.Exchange.{Exchanged, exchangeAll, OrderIsFree}
 use Rattle.tables.specs.Encoding.{Buffers, encode}
+use Rattle.step.specs.Lengths.{haveLengths}
 use Rattle.entries.specs.Buffer.{framesHeld}
 use Rattle.transcript.specs.Transcript.{transcript, WrittenTo}
 use Rattle.transcript.specs.declared.Written.{Written}
@@ -22,14 +22,6 @@ requestsFrom from (end ∷ ends) words = take (end - from) (drop from words) ∷
 
 abbrev pub requestsIn : List ℕ → List ℕ → List (List ℕ)
 requestsIn words ends = requestsFrom 0 ends words
-
--- ---- 1: the buffers have their lengths
-abbrev pub haveLengths : Buffers → List ℕ → Bool
-haveLengths b F =
-    eqb (length (b .allocs)) 768
-    && (eqb (length (b .parents)) 1024
-    && (eqb (length (b .protectors)) 1024
-    && (eqb (length (b .words)) 4096 && (eqb (length (b .codes)) 32768 && eqb (length F) 2080))))
 
 -- ---- the claim about the list l: w says how far its answers reach in the buffer `out`, which held `before`
 pub record Ran (l : List (List ℕ)) (before : List ℕ) (w : Written) (b : Buffers) (F out : List ℕ) : Type 0 where

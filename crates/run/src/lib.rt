@@ -1,11 +1,8 @@
-// A run: one request given by its words, and a list of them from the empty memory, on the buffers that hold a memory and its frames.
+// A run: a list of requests from the empty memory, each given by its words, on the buffers that hold a memory and its frames.
 ghost use mathlib.Core.Path.{_≡_};
 
-mod calls;
-pub mod clear;
 pub mod list;
 mod quick;
-pub mod step;
 
 // What a list comes to: a refusal with document 01's number, or its answers, as far as the lent buffer has room.
 pub enum ListRun {

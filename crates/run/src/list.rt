@@ -46,7 +46,7 @@ fn turn(
     ensures { λ r. ⌜ ((s : State) → HoldsState s (buffers (now (allocs .entry)) (now (parents .entry)) (now (protectors .entry)) (now (words .entry)) (now (codes .entry))) (now (frames .entry))
         → Turned s (now (request .entry)) w (now (answers .entry)) r (buffers (now (allocs .exit)) (now (parents .exit)) (now (protectors .exit)) (now (words .exit)) (now (codes .exit))) (now (frames .exit)) (now (answers .exit))) ⌝ }
 {
-    let answer = crate::step::in_full(allocs, parents, protectors, words, codes, frames, request);
+    let answer = step::in_full(allocs, parents, protectors, words, codes, frames, request);
     transcript::put_answer(answers, w, answer, words)
 }
 
@@ -125,10 +125,10 @@ pub fn run_list(
         (buffers (now (allocs .entry)) (now (parents .entry)) (now (protectors .entry)) (now (words .entry)) (now (codes .entry))) (now (frames .entry)) (now (answers .entry))
         r (buffers (now (allocs .exit)) (now (parents .exit)) (now (protectors .exit)) (now (words .exit)) (now (codes .exit))) (now (frames .exit)) (now (answers .exit)) ⌝ }
 {
-    if !crate::clear::have_lengths(allocs, parents, protectors, words, codes, frames) {
+    if !step::clear::have_lengths(allocs, parents, protectors, words, codes, frames) {
         return ListRun::Refused(1);
     }
-    crate::clear::clear(allocs, parents, protectors, words, codes, frames);
+    step::clear::clear(allocs, parents, protectors, words, codes, frames);
     let w = run_cleared(
         allocs,
         parents,

@@ -14,7 +14,7 @@ ghost use Rattle.definition.specs.Request as definition;
 ghost use Rattle.tables.specs.Held.{buffers};
 ghost use Rattle.request.specs.Fields.{requestOf};
 ghost use Rattle.perform.specs.Performed.{HoldsState};
-ghost use Rattle.run.specs.Steps.{QuietAt};
+ghost use Rattle.step.specs.Steps.{QuietAt};
 ghost use Rattle.run.specs.Turns.{Going};
 ghost use Rattle.run.specs.Quick.{Tried};
 
@@ -47,7 +47,7 @@ fn call_turn(
     if !transcript::has_room(answers, at, 0) {
         return Turn::No;
     }
-    if !crate::calls::make_call(frames, request) {
+    if !step::calls::make_call(frames, request) {
         return Turn::No;
     }
     let next = transcript::put_fitting(answers, at, Answer::Accepted, words);
@@ -73,7 +73,7 @@ fn quiet_turn(
     if !transcript::has_room(answers, at, wide(q.fourth)) {
         return Turn::No;
     }
-    let answer = crate::step::finish_quiet(words, q, request, start);
+    let answer = step::quiet::finish_quiet(words, q, request, start);
     let next = transcript::put_fitting(answers, at, answer, words);
     Turn::Made(next)
 }
@@ -94,7 +94,7 @@ fn access_turn(
         (buffers (now (allocs .entry)) (now (parents .entry)) R (now (words .exit)) (now (codes .entry))) F (now (answers .exit))) ⌝ }
 {
     let q = Request::of(request);
-    match crate::step::find_quiet(allocs, parents, codes, q, request) {
+    match step::quiet::find_quiet(allocs, parents, codes, q, request) {
         Quiet::At(start) => quiet_turn(words, q, request, start, answers, at),
         Quiet::No => Turn::No,
     }

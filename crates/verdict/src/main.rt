@@ -8,7 +8,7 @@ ghost use lib.ListN.{length};
 ghost use Rattle.definition.specs.Frame.{State};
 ghost use Rattle.tables.specs.Held.{buffers, WellFormed};
 ghost use Rattle.perform.specs.Performed.{HoldsState};
-ghost use Rattle.run.specs.Lists.{haveLengths};
+ghost use Rattle.step.specs.Lengths.{haveLengths};
 ghost use Rattle.judge.specs.Turn.{lineRoom};
 ghost use Rattle.verdict.specs.Ready.{lacks, goesOn, Ready, after};
 
@@ -248,7 +248,7 @@ fn run_input(
     requires { ⌜ haveLengths (buffers (now allocs) (now parents) (now protectors) (now words) (now codes)) (now frames) ≡ true ⌝ }
     requires { ⌜ (length (now request) ≡ 4100) × (length (now out) ≡ 0x28000) ⌝ }
 {
-    run::clear::clear(allocs, parents, protectors, words, codes, frames);
+    step::clear::clear(allocs, parents, protectors, words, codes, frames);
     let p = take_turns(
         allocs,
         parents,

@@ -8,7 +8,7 @@ use lib.ListN.{length}
 use lib.Dec.{ltb}
 use Rattle.definition.proofs.Booleans.{and-left}
 use Rattle.judge.proofs.Held.{have-lengths}
-use Rattle.run.proofs.Zeros.{lengths}
+use Rattle.step.proofs.Zeros.{lengths}
 use Rattle.tables.specs.Held.{buffers}
 use Rattle.vectors.proofs.count_agreeing.Statement.{statement}
 use Rattle.vectors.proofs.count_agreeing.Tie as tie

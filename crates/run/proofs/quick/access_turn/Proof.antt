@@ -1,5 +1,5 @@
 -- What is found quiet is finished.
-use Rattle.run.specs.Steps.{QuietStep}
+use Rattle.step.specs.Steps.{QuietStep}
 use mathlib.Core.Path.{subst}
 use borrow.Author.Needs.{needs}
 use Rattle.run.proofs.quick.access_turn.Statement.{statement}

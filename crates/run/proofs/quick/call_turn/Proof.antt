@@ -1,8 +1,8 @@
 -- A call that was made is the definition's step, and its answer stands behind the others (QuickTurns).
 use Rattle.run.proofs.QuickTurns.{stepped-call}
 use Rattle.run.proofs.Turns.{turned}
-use Rattle.run.proofs.Steps.{all-words, frames-held}
-use Rattle.run.specs.Calls.{Called}
+use Rattle.step.proofs.Steps.{all-words, frames-held}
+use Rattle.step.specs.Calls.{Called}
 use Prim.Native.Nat.{_+_}
 use lib.ListN.{length}
 use borrow.Author.Tests.{leb-true, not-true, not-false}

@@ -1,0 +1,4 @@
+pub mod Steps
+pub mod Zeros
+pub mod QuietAccesses
+pub mod BareCalls

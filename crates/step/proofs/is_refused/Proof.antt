@@ -1,0 +1,41 @@
+-- The fields, the words that follow and the frame are the request's.
+use Prim.Native.Nat.{ℕ}
+use mathlib.Core.Path.{refl, ap, sym, _∙_}
+use borrow.Author.Needs.{needs}
+use Rattle.definition.specs.Frame.{isOpen, frameAt}
+use Rattle.step.proofs.Steps.{refused-by}
+use Rattle.step.proofs.is_refused.Statement.{statement}
+use Rattle.step.proofs.is_refused.Tie as tie
+
+frame-used-requires : tie.Need-frame-used-requires
+frame-used-requires c κs = search needs
+
+is-open-requires : tie.Need-is-open-requires
+is-open-requires c κs = search needs
+
+following-requires : tie.Need-following-requires
+following-requires c κs = search needs
+
+is-miscounted-requires : tie.Need-is-miscounted-requires
+is-miscounted-requires c κs = search needs
+
+is-malformed-requires : tie.Need-is-malformed-requires
+is-malformed-requires c κs = search needs
+
+returns : tie.Need-returns
+returns c = λ s h same.
+    let a = c .before .before .before .before .before .before .before in
+    let ws = a .args .request .now in
+    let opened = ap (λ (n : ℕ). isOpen (frameAt s n)) (sym (c .before .before .before .before .frame-used .ensures .0)) ∙ sym (c .before .before .before .is-open .ensures (s .frames) h) in
+    refused-by s ws (c .before .is-miscounted .ensures ws same refl) (a .args .q) same (c .before .before .following .ensures) (c .is-malformed .ensures s opened)
+
+pub is-refused-spec : {M : Type 1} → statement M
+is-refused-spec =
+    tie.close
+    (tie.spec
+    frame-used-requires
+    is-open-requires
+    following-requires
+    is-miscounted-requires
+    is-malformed-requires
+    returns)
