@@ -106,16 +106,8 @@ fn trees(allocations: u32, bytes: u32, nodes: u32, chain: bool) -> List {
 struct Row {
     name: String,
     before: List,
-    /// made one after the other, each at about the same cost
+    /// made one after the other, each at about the same cost; the last is what the Rust is asked for
     requests: Vec<Vec<u32>>,
-    /// how many of the last ones the Rust is asked for, each by itself
-    asked: usize,
-}
-
-impl Row {
-    fn new(name: String, before: List, requests: Vec<Vec<u32>>) -> Row {
-        Row { name, before, requests, asked: 1 }
-    }
 }
 
 fn rows() -> Vec<Row> {
@@ -129,13 +121,13 @@ fn rows() -> Vec<Row> {
             let shape = if nodes == 1 { "" } else if chain { ", a chain" } else { ", children of the root" };
             let last = nodes - 1;
             for (kind, request) in [("load", load(last, bytes)), ("store", store(0, last, bytes))] {
-                rows.push(Row::new(format!("{kind} of {bytes} bytes, {nodes} nodes{shape}"), trees(1, bytes, nodes, chain), vec![request; 200]));
+                let name = format!("{kind} of {bytes} bytes, {nodes} nodes{shape}");
+                rows.push(Row { name, before: trees(1, bytes, nodes, chain), requests: vec![request; 200] });
             }
             rows.extend(first_stores(bytes, nodes, chain, shape));
             rows.push(retags(bytes, nodes, chain, shape));
         }
     }
-    rows.push(calls());
     for (entries, bytes) in [(0, 1), (1, 1), (1, 64), (8, 64), (64, 64), (7, 4096)] {
         rows.push(end_calls(entries, bytes));
     }
@@ -147,7 +139,7 @@ fn first_stores(bytes: u32, nodes: u32, chain: bool, shape: &str) -> Option<Row>
     let allocations = if nodes == 1024 { return None } else { (4096 / bytes).min(32768 / (bytes * nodes)).min(16) };
     let requests = (0..allocations).map(|a| store(a, nodes - 1, bytes)).collect();
     let name = format!("first store of {bytes} bytes, {nodes} nodes{shape}{}", among(allocations));
-    Some(Row::new(name, trees(allocations, bytes, nodes, chain), requests))
+    Some(Row { name, before: trees(allocations, bytes, nodes, chain), requests })
 }
 
 fn among(allocations: u32) -> String {
@@ -164,13 +156,7 @@ fn retags(bytes: u32, nodes: u32, chain: bool, shape: &str) -> Row {
     };
     let requests = (0..allocations).flat_map(|a| vec![retag(a, nodes - 1, bytes, None); times]).collect();
     let name = format!("retag of {bytes} bytes, {nodes} nodes{shape}{}", among(allocations));
-    Row::new(name, trees(allocations, bytes, nodes, chain), requests)
-}
-
-/// A frame that is opened and closed again, without entries.
-fn calls() -> Row {
-    let requests = (0..200).map(|n| vec![(5 + n % 2) << 28, 0, 0, 0]).collect();
-    Row { asked: 2, ..Row::new("new call and end call, no entries".into(), trees(1, 1, 1, false), requests) }
+    Row { name, before: trees(allocations, bytes, nodes, chain), requests }
 }
 
 /// A frame for each of several allocations, all of whose nodes but the root it protects.
@@ -189,7 +175,7 @@ fn end_calls(entries: u32, bytes: u32) -> Row {
         }
     }
     let requests = (0..frames).map(|f| vec![6 << 28, 0, 0, f]).collect();
-    Row::new(format!("end call of {entries} entries, {bytes} bytes{}", among(frames)), before, requests)
+    Row { name: format!("end call of {entries} entries, {bytes} bytes{}", among(frames)), before, requests }
 }
 
 /// The nanoseconds that one run of a list takes.
@@ -213,15 +199,9 @@ fn port(lent: &mut Lent, row: &Row) -> f64 {
     added[rounds / 2] / row.requests.len() as f64
 }
 
-/// The mean of the requests that the Rust is asked for.
 fn rust(oracle: &str, row: &Row) -> f64 {
-    let count = row.requests.len();
-    (count - row.asked..count).map(|last| rust_request(oracle, row, last)).sum::<f64>() / row.asked as f64
-}
-
-fn rust_request(oracle: &str, row: &Row, last: usize) -> f64 {
     let mut list = row.before.clone();
-    for request in &row.requests[..=last] {
+    for request in &row.requests {
         list.add(request);
     }
     let bytes: Vec<u8> = list.words.iter().flat_map(|w| w.to_be_bytes()).collect();
@@ -234,22 +214,23 @@ fn rust_request(oracle: &str, row: &Row, last: usize) -> f64 {
     ask((50_000_000.0 / ask(3).max(1.0)).clamp(3.0, 200_000.0) as u32)
 }
 
-/// The least of some stretches of each, by turns: what the machine does when nothing disturbs it.
-fn compare(lent: &mut Lent, oracle: &str, row: &Row) -> (f64, f64) {
-    (0..5).fold((f64::MAX, f64::MAX), |(p, r), _| (p.min(port(lent, row)), r.min(rust(oracle, row))))
-}
-
 fn main() {
     let mut arguments = std::env::args().skip(1);
     let oracle = arguments.next().expect("usage: requests ORACLE [ROW..]");
     let wanted: Vec<String> = arguments.collect();
     let mut lent = Lent::new();
-    println!("{:<72} {:>12} {:>14} {:>8}", "request", "port, ns", "the Rust, ns", "times");
-    for row in rows() {
-        if !wanted.is_empty() && !wanted.iter().any(|w| row.name.contains(w.as_str())) {
-            continue;
+    let mut rows = rows();
+    rows.retain(|row| wanted.is_empty() || wanted.iter().any(|w| row.name.contains(w.as_str())));
+    // The least of some stretches of each: what the machine does when nothing disturbs it. A row's stretches lie far apart.
+    let mut least = vec![(f64::MAX, f64::MAX); rows.len()];
+    for _ in 0..12 {
+        for (row, (p, r)) in rows.iter().zip(&mut least) {
+            *p = p.min(port(&mut lent, row));
+            *r = r.min(rust(&oracle, row));
         }
-        let (port, rust) = compare(&mut lent, &oracle, &row);
-        println!("{:<72} {:>12.1} {:>14.1} {:>8.1}", row.name, port, rust, rust / port);
+    }
+    println!("{:<72} {:>12} {:>14} {:>8}", "request", "port, ns", "the Rust, ns", "times");
+    for (row, (port, rust)) in rows.iter().zip(least) {
+        println!("{:<72} {port:>12.1} {rust:>14.1} {:>8.1}", row.name, rust / port);
     }
 }
