@@ -1,5 +1,7 @@
 // A run: a list of requests from the empty memory, each given by its words, on the buffers that hold a memory and its frames.
 ghost use mathlib.Core.Path.{_≡_};
+ghost use Prim.Native.Nat.{_-_};
+ghost use lib.ListN.{take, drop};
 
 pub mod list;
 mod quick;
@@ -14,4 +16,21 @@ pub(crate) fn wide(x: u32) -> usize
     ensures { λ r. ⌜ r ≡ x ⌝ }
 {
     x as usize
+}
+
+// The words from one place up to another, as far as there are any.
+pub(crate) fn part<'a>(words: &'a [u32], from: usize, end: usize) -> &'a [u32]
+    ensures { λ r. ⌜ now r ≡ take (end - from) (drop from (now (words .entry))) ⌝ }
+{
+    let total = words.len();
+    if total < end {
+        if total < from {
+            return &words[total..];
+        }
+        return &words[from..];
+    }
+    if end < from {
+        return &words[total..];
+    }
+    &words[from..end]
 }

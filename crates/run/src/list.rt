@@ -1,34 +1,15 @@
 // A list of requests from the empty memory. It goes on after a refusal. specs/Lists.antt says what it comes to, with demand 3.
 use crate::ListRun;
+use crate::part;
 use crate::quick::Progress;
 use crate::quick::quick_turns;
 use crate::wide;
 use transcript::Written;
-ghost use mathlib.Core.Path.{_≡_};
-ghost use Prim.Native.Nat.{_-_};
-ghost use lib.ListN.{take, drop};
 ghost use Rattle.definition.specs.Frame.{State, empty};
 ghost use Rattle.tables.specs.Held.{buffers};
 ghost use Rattle.perform.specs.Performed.{HoldsState};
 ghost use Rattle.run.specs.Lists.{requestsIn, Ran, ListRan};
 ghost use Rattle.run.specs.Turns.{Turned};
-
-// The words from one place up to another, as far as there are any.
-pub(crate) fn part<'a>(words: &'a [u32], from: usize, end: usize) -> &'a [u32]
-    ensures { λ r. ⌜ now r ≡ take (end - from) (drop from (now (words .entry))) ⌝ }
-{
-    let total = words.len();
-    if total < end {
-        if total < from {
-            return &words[total..];
-        }
-        return &words[from..];
-    }
-    if end < from {
-        return &words[total..];
-    }
-    &words[from..end]
-}
 
 // One request in full; its answer is written behind the others.
 fn turn(
@@ -50,8 +31,8 @@ fn turn(
     transcript::put_answer(answers, w, answer, words)
 }
 
-// The whole list, on buffers that hold the empty state: one request in full, and then all that follow and take few steps. The parts of `Written` are carried apart: a struct of both has bytes that belong to neither,
-// and to carry those around the loop costs more than the rest of it.
+// The whole list, on buffers that hold the empty state: one request in full, and then all that follow and take few steps. The parts of `Written`
+// are carried apart: a struct of both has bytes that belong to neither, and to carry those around the loop costs more than the rest of it.
 fn run_cleared(
     allocs: &mut [u64],
     parents: &mut [u16],

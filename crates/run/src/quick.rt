@@ -1,5 +1,6 @@
 // Turns of a list that are made in few steps: quiet loads and stores, and calls that reach no memory. Most requests of a run are such,
 // and a loop that holds nothing else goes through them.
+use crate::part;
 use crate::wide;
 use answer::Answer;
 use memory::access::Quiet;
@@ -152,7 +153,7 @@ pub(crate) fn quick_turns(
     let mut at = p.at;
     while done < ends.len() {
         let end = wide(ends[done]);
-        let request = crate::list::part(requests, from, end);
+        let request = part(requests, from, end);
         let turn = quick_turn(allocs, parents, words, codes, frames, request, answers, at);
         let Turn::Made(next) = turn else {
             return Progress { done, from, at };

@@ -2,8 +2,8 @@
 use Rattle.run.proofs.Turns.{part-behind, part-before, part-rest}
 use native.Mathlib.Omega.{arith}
 use borrow.Author.Needs.{needs}
-use Rattle.run.proofs.list.part.Statement.{statement}
-use Rattle.run.proofs.list.part.Tie as tie
+use Rattle.run.proofs.part.Statement.{statement}
+use Rattle.run.proofs.part.Tie as tie
 
 mul-result : tie.Need-mul-result
 mul-result c = search needs
