@@ -451,14 +451,14 @@ fn is_whole_access(q: Request, words: &[u32]) -> bool
 pub fn is_plain_access(q: Request, words: &[u32]) -> bool
     ensures { λ r. ⌜ (requestOf q (drop 4 (now (words .entry))) ≡ request (now (words .entry)) → r ≡ true → PlainAccess q (now (words .entry))) ⌝ }
 {
-    if !is_whole_access(q, words) {
+    if q.extra != 0 {
         return false;
     }
-    if q.extra != 0 {
+    if !q.has_provenance {
         return false;
     }
     if q.exponent > 29 {
         return false;
     }
-    q.has_provenance
+    is_whole_access(q, words)
 }
