@@ -7,7 +7,7 @@ ghost use lib.ListN.{length, getD, replicate};
 ghost use Rattle.definition.specs.Notation.{table, writeAt};
 ghost use Rattle.definition.specs.Layout.{unsafeCell, cellsFit, isFreeze, header, pointerMeta, sizedMask, sliceMask, traitObjectMask, tupleMask, nestedMask, freezeMask};
 ghost use Rattle.definition.specs.Request.{badMetadata};
-ghost use Rattle.layout.specs.Filled.{headerOf, metaOf, layoutOf, isTuple, hasCells, maskBytes, Fills, elementsMask, lastMask, tailMask, answered, afterwards};
+ghost use Rattle.layout.specs.Filled.{headerOf, metaOf, layoutOf, isTuple, hasCells, maskBytes, Fills, PlainMask, elementsMask, lastMask, tailMask, answered, afterwards};
 
 // Whether words have a mask.
 pub enum Mask {
@@ -315,6 +315,20 @@ fn fill_layout(words: &[u32], metadata: PointerMeta, tuples: usize, mask: &mut [
         return fill_tuple(&rest[..cells], size, &rest[cells..], metadata, tuples, mask);
     }
     fill_last(head, metadata, rest, mask)
+}
+
+// Most layouts are a sized type's without cells, and short: its mask is as many freeze bytes. `None` says nothing.
+pub fn plain_mask(words: &[u32]) -> Mask
+    ensures { λ r. ⌜ PlainMask (now (words .entry)) r ⌝ }
+{
+    if words.len() != 2 {
+        return Mask::None;
+    }
+    let word = words[1];
+    if word > 64 {
+        return Mask::None;
+    }
+    Mask::Of(wide(word))
 }
 
 // The mask of all the layout words, the metadata word first, if `mask` has room for it. It stands at the buffer's start; behind it, and

@@ -8,9 +8,10 @@ use reborrow::ReborrowSettings;
 use request::Request;
 ghost use Prim.Native.Nat.{ℕ, _<_, _≤_};
 ghost use mathlib.Core.Path.{_≡_};
+ghost use mathlib.Core.Bool.{true};
 ghost use mathlib.Core.Option.{some};
 ghost use mathlib.Core.List.{List, []};
-ghost use lib.ListN.{length, take};
+ghost use lib.ListN.{length, take, replicate};
 ghost use Rattle.definition.specs.Layout.{FreezeMask, freezeMask};
 ghost use Rattle.definition.specs.Frame.{Frame, State};
 ghost use Rattle.definition.specs.Request.{pointer, frameNumber};
@@ -184,6 +185,35 @@ fn retag_with_mask(
     }
 }
 
+// A retag that adds a node, with a short mask of freeze bytes alone.
+fn retag_with_freeze_bytes(
+    allocs: &mut [u64],
+    parents: &mut [u16],
+    protectors: &mut [u8],
+    codes: &mut [u8],
+    frames: &mut [u32],
+    q: Request,
+    len: usize,
+) -> Answer
+    requires { ⌜ ((s : State) × HoldsTrees s (now allocs) (now parents) (now protectors) (now codes) (now frames)) ⌝ }
+    requires { ⌜ len ≤ 64 ⌝ }
+    ensures { λ r. ⌜ ((s : State) (ws : List ℕ) → HoldsTrees s (now (allocs .entry)) (now (parents .entry)) (now (protectors .entry)) (now (codes .entry)) (now (frames .entry))
+        → LeftTrees (retagWithMask (some (replicate len true)) s (requestOf q ws))
+        r (now (allocs .exit)) (now (parents .exit)) (now (protectors .exit)) (now (codes .exit)) (now (frames .exit))) ⌝ }
+{
+    let mut mask = [1u8; 64];
+    reborrow_entered(
+        allocs,
+        parents,
+        protectors,
+        codes,
+        frames,
+        &mut mask,
+        len,
+        q,
+    )
+}
+
 pub fn retag(
     allocs: &mut [u64],
     parents: &mut [u16],
@@ -201,5 +231,26 @@ pub fn retag(
     if q.adds_no_node() {
         return reborrow::retag_without_node(allocs, q.pointer());
     }
-    retag_with_mask(allocs, parents, protectors, codes, frames, q, following)
+    let plain = layout::plain_mask(following);
+    match plain {
+        Mask::Of(len) => retag_with_freeze_bytes(
+            allocs,
+            parents,
+            protectors,
+            codes,
+            frames,
+            q,
+            len,
+        ),
+        Mask::None => retag_with_mask(allocs, parents, protectors, codes, frames, q, following),
+        Mask::WrongLength => retag_with_mask(
+            allocs,
+            parents,
+            protectors,
+            codes,
+            frames,
+            q,
+            following,
+        ),
+    }
 }
