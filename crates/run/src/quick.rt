@@ -1,5 +1,5 @@
 // Turns of a list that are made in few steps: quiet loads and stores, and calls that reach no memory. Most requests of a run are such,
-// and a loop that holds nothing else goes through them.
+// and a loop for each of the two kinds, that holds nothing else, goes through them.
 use crate::part;
 use crate::wide;
 use answer::Answer;
@@ -101,32 +101,89 @@ fn access_turn(
     }
 }
 
-// The kinds of loads and stores are below those of calls. Which of the two is tried has no say in what is answered.
-fn quick_turn(
+// The quiet loads and stores that follow, up to the first request that is none. Their kinds are below 0x4000_0000; that test decides what is
+// tried, and has no say in what is answered.
+fn access_turns(
     allocs: &[u64],
     parents: &[u16],
     words: &mut [u32],
     codes: &[u8],
-    frames: &mut [u32],
-    request: &[u32],
+    requests: &[u32],
+    ends: &[u32],
     answers: &mut [u32],
-    at: usize,
-) -> Turn
-    requires { ⌜ ((s : State) × ((R : List ℕ) × HoldsState s (buffers (now allocs) (now parents) R (now words) (now codes)) (now frames))) ⌝ }
-    ensures { λ r. ⌜ ((s : State) (R : List ℕ) → HoldsState s (buffers (now (allocs .entry)) (now (parents .entry)) R (now (words .entry)) (now (codes .entry))) (now (frames .entry))
-        → Tried s (now (request .entry)) at (buffers (now (allocs .entry)) (now (parents .entry)) R (now (words .entry)) (now (codes .entry))) (now (frames .entry)) (now (answers .entry)) r
-        (buffers (now (allocs .entry)) (now (parents .entry)) R (now (words .exit)) (now (codes .entry))) (now (frames .exit)) (now (answers .exit))) ⌝ }
+    p: Progress,
+) -> Progress
+    requires { ⌜ ((before : List ℕ) × ((whole : Bool) × ((R : List ℕ) × ((F : List ℕ) ×
+        Going (now requests) (now ends) before (p .done) (p .from) (record { at = p .at; whole = whole }) (buffers (now allocs) (now parents) R (now words) (now codes)) F (now answers))))) ⌝ }
+    requires { ⌜ p .done ≤ length (now ends) ⌝ }
+    ensures done { λ r. ⌜ (p .done ≤ r .done) × (r .done ≤ length (now (ends .entry))) ⌝ }
+    ensures going { λ r. ⌜ ((before : List ℕ) (whole : Bool) (R F : List ℕ)
+        → Going (now (requests .entry)) (now (ends .entry)) before (p .done) (p .from) (record { at = p .at; whole = whole })
+        (buffers (now (allocs .entry)) (now (parents .entry)) R (now (words .entry)) (now (codes .entry))) F (now (answers .entry))
+        → Going (now (requests .entry)) (now (ends .entry)) before (r .done) (r .from) (record { at = r .at; whole = whole })
+        (buffers (now (allocs .entry)) (now (parents .entry)) R (now (words .exit)) (now (codes .entry))) F (now (answers .exit))) ⌝ }
 {
-    if request.len() < 4 {
-        return Turn::No;
+    let mut done = p.done;
+    let mut from = p.from;
+    let mut at = p.at;
+    while done < ends.len() {
+        let end = wide(ends[done]);
+        let request = part(requests, from, end);
+        if request.len() < 4 {
+            return Progress { done, from, at };
+        }
+        if request[0] >= 0x4000_0000 {
+            return Progress { done, from, at };
+        }
+        let turn = access_turn(allocs, parents, words, codes, request, answers, at);
+        let Turn::Made(next) = turn else {
+            return Progress { done, from, at };
+        };
+        at = next;
+        from = end;
+        done += 1;
     }
-    if request[0] < 0x4000_0000 {
-        return access_turn(allocs, parents, words, codes, request, answers, at);
-    }
-    call_turn(words, frames, request, answers, at)
+    Progress { done, from, at }
 }
 
-// The requests that follow, up to the first that takes more.
+// The calls that follow and reach no memory, up to the first request that is none.
+fn call_turns(
+    words: &[u32],
+    frames: &mut [u32],
+    requests: &[u32],
+    ends: &[u32],
+    answers: &mut [u32],
+    p: Progress,
+) -> Progress
+    requires { ⌜ ((before : List ℕ) × ((whole : Bool) × ((A : List ℕ) × ((P : List ℕ) × ((R : List ℕ) × ((C : List ℕ) ×
+        Going (now requests) (now ends) before (p .done) (p .from) (record { at = p .at; whole = whole }) (buffers A P R (now words) C) (now frames) (now answers))))))) ⌝ }
+    requires { ⌜ p .done ≤ length (now ends) ⌝ }
+    ensures done { λ r. ⌜ (p .done ≤ r .done) × (r .done ≤ length (now (ends .entry))) ⌝ }
+    ensures going { λ r. ⌜ ((before : List ℕ) (whole : Bool) (A P R C : List ℕ)
+        → Going (now (requests .entry)) (now (ends .entry)) before (p .done) (p .from) (record { at = p .at; whole = whole })
+        (buffers A P R (now (words .entry)) C) (now (frames .entry)) (now (answers .entry))
+        → Going (now (requests .entry)) (now (ends .entry)) before (r .done) (r .from) (record { at = r .at; whole = whole })
+        (buffers A P R (now (words .entry)) C) (now (frames .exit)) (now (answers .exit))) ⌝ }
+{
+    let mut done = p.done;
+    let mut from = p.from;
+    let mut at = p.at;
+    while done < ends.len() {
+        let end = wide(ends[done]);
+        let request = part(requests, from, end);
+        let turn = call_turn(words, frames, request, answers, at);
+        let Turn::Made(next) = turn else {
+            return Progress { done, from, at };
+        };
+        at = next;
+        from = end;
+        done += 1;
+    }
+    Progress { done, from, at }
+}
+
+// The requests that follow, up to the first that takes more: loads and stores, then calls, each in a loop of its own that holds nothing else,
+// and so on by turns.
 pub(crate) fn quick_turns(
     allocs: &[u64],
     parents: &[u16],
@@ -152,15 +209,23 @@ pub(crate) fn quick_turns(
     let mut from = p.from;
     let mut at = p.at;
     while done < ends.len() {
-        let end = wide(ends[done]);
-        let request = part(requests, from, end);
-        let turn = quick_turn(allocs, parents, words, codes, frames, request, answers, at);
-        let Turn::Made(next) = turn else {
-            return Progress { done, from, at };
-        };
-        at = next;
-        from = end;
-        done += 1;
+        let a = access_turns(
+            allocs,
+            parents,
+            words,
+            codes,
+            requests,
+            ends,
+            answers,
+            Progress { done, from, at },
+        );
+        let b = call_turns(words, frames, requests, ends, answers, a);
+        if b.done == done {
+            return b;
+        }
+        done = b.done;
+        from = b.from;
+        at = b.at;
     }
     Progress { done, from, at }
 }
