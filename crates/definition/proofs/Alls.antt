@@ -1,6 +1,6 @@
 -- What holds of each element, under the list words of `Notation`; what a change of one element does to a sum; and what holds of both branches of a choice.
 use Prim.Native.Nat.{ℕ, zero, suc, _+_, _≤_, _<_}
-use mathlib.Core.Path.{_≡_, refl, sym, subst, _∙_}
+use mathlib.Core.Path.{_≡_, refl, sym, ap, subst, _∙_}
 use mathlib.Core.Bool.{Bool, true, false, false≢true}
 use mathlib.Core.List.{List, [], _∷_, _++_, map}
 use native.Mathlib.Nat.{add-zero, add-suc, suc-add, le-refl}
@@ -133,3 +133,9 @@ module _ {A : Type 0} (f : A → A) (d : A) where
     sum-mutated more n [] h = omega arith
     sum-mutated more zero (x ∷ xs) h = omega arith
     sum-mutated more (suc n) (x ∷ xs) h = let rest : sumOf g (mutateAt n f xs) ≤ sumOf g xs + more = sum-mutated more n xs h in omega arith
+
+    pub sum-kept : (n : ℕ) (l : List A) → g (f (getD l n d)) ≡ g (getD l n d) → sumOf g (mutateAt n f l) ≡ sumOf g l
+    unfolding sumOf mutateAt
+    sum-kept n [] h = refl
+    sum-kept zero (x ∷ xs) h = ap (λ (k : ℕ). k + sumOf g xs) h
+    sum-kept (suc n) (x ∷ xs) h = ap (λ (k : ℕ). g x + k) (sum-kept n xs h)

@@ -281,6 +281,34 @@ child-row from inside row =
 abbrev pub settingsAfterInit : ReborrowSettings → ReborrowSettings
 settingsAfterInit w = record { inside = map (next Read Local) (w .inside); outside = w .outside; protected = w .protected }
 
+-- what was read asks for the same accesses
+read-access : (p : Permission) → initAccess (next Read Local p) ≡ initAccess p
+unfolding next
+read-access (Unprot PermissionUnprot.Cell) = refl
+read-access (Unprot PermissionUnprot.Reserved) = refl
+read-access (Unprot PermissionUnprot.ReservedIm) = refl
+read-access (Unprot PermissionUnprot.Unique) = refl
+read-access (Unprot PermissionUnprot.Frozen) = refl
+read-access (Unprot PermissionUnprot.Disabled) = refl
+read-access (Prot PermissionProt.Cell) = refl
+read-access (Prot (PermissionProt.Reserved l f)) = refl
+read-access (Prot PermissionProt.Unique) = refl
+read-access (Prot (PermissionProt.Frozen l)) = refl
+read-access (Prot PermissionProt.Disabled) = refl
+
+pub reads-refusal-after : (node b : ℕ) (inside : List Permission) (nodes : List Node) → readsRefusal node b (map (next Read Local) inside) nodes ≡ readsRefusal node b inside nodes
+unfolding readsRefusal
+reads-refusal-after node b [] nodes = refl
+reads-refusal-after node b (p ∷ inside) nodes =
+    ap₂ _or_ (ap (λ (x : Option AccessKind). byteRefusal x node b nodes) (read-access p)) (reads-refusal-after node (suc b) inside nodes)
+
+pub reads-visit-after : (node from : ℕ) (inside : List Permission) → readsVisit node from (map (next Read Local) inside) ≡ readsVisit node from inside
+reads-visit-after node from inside = ap (λ (xs : List (Option AccessKind)). through node (accessesFrom from xs)) (each inside)
+  where
+    each : (ps : List Permission) → map initAccess (map (next Read Local) ps) ≡ map initAccess ps
+    each [] = refl
+    each (p ∷ ps) = ap₂ _∷_ (read-access p) (each ps)
+
 module _ (w : ReborrowSettings) (p : ThinPointer) (a : Allocation) (tree : Parents (parents (a .nodes))) (l : nodeOf (p .provenance) < length (a .nodes)) where
   pub retag-refusal : Readable (childNode w p a .permissions)
       → initRefusal (length (a .nodes)) (offset a p) (w .inside) (withChild w p a) ≡ readsRefusal (nodeOf (p .provenance)) (offset a p) (w .inside) (a .nodes)

@@ -28,8 +28,7 @@ use Rattle.tables.proofs.Lookup.{record-start, state-at, live-state, kind-at, e
 use Rattle.tables.specs.declared.Allocation as record-of
 use Rattle.bounds.proofs.Points.{recordAt}
 use Rattle.tree.specs.Requests as tree
-use Rattle.parts.specs.Trees.{HoldsMarked, afterVisit}
-use Rattle.memory.specs.Buffers.{TreeVisited}
+use Rattle.parts.specs.Trees.{HoldsMarked, afterVisit, TreeVisited}
 use Rattle.memory.specs.Deallocate.{recordRefusal, refusalThrough, NodeIn, WrittenAll, Deallocated}
 use Rattle.memory.proofs.OneTree.{same-parts, visited-part}
 

@@ -21,10 +21,9 @@ use Rattle.tables.proofs.Sizes.{codes-at}
 use Rattle.tree.specs.Table.{rowsOf}
 use Rattle.tree.specs.Requests.{unlessRefused, Visited, deallocateRefusal, Deallocated}
 use Rattle.parts.specs.declared.Parts.{Parts}
-use Rattle.parts.specs.Trees.{TreeAt, afterVisit}
+use Rattle.parts.specs.Trees.{TreeAt, afterVisit, TreeVisited}
 use Rattle.parts.proofs.Trees.{codes-rows, visited-codes}
-use Rattle.parts.proofs.Lent.{visit-after}
-use Rattle.memory.specs.Buffers.{TreeVisited}
+use Rattle.parts.proofs.Lent.{tree-visited}
 use Rattle.memory.specs.Access.{visitAt}
 use Rattle.memory.specs.Deallocate.{WrittenAll}
 
@@ -36,17 +35,13 @@ module _ {m : Memory} {n : ℕ} {P C : List ℕ} {r : Parts} (h : TreeAt m n P C
   abbrev givenBack : List ℕ → List ℕ
   givenBack last = putMid (r .start) (r .end - r .start) C last
 
-  tree-visited : (v : Visit) (last : List ℕ) (refused answer : ℕ) → answer ≡ refused → last ≡ rowsOf (unlessRefused refused (x .nodes) (visited v (x .nodes)))
-      → TreeVisited m n refused v answer (givenBack last)
-  tree-visited v last refused answer e f = record { refusal = e; codes = visit-after h v (eqb refused 0) last f }
-
   -- of a load or a store, in an allocation that starts at base
   module _ (kind : AccessKind) (node address len : ℕ) {base : ℕ} (e : base ≡ x .address) {answer : ℕ} where
     pub access-visited : (last : List ℕ) → Visited (accessVisit kind node (address - base) len) (x .nodes) answer last
         → TreeVisited m n (visitRefusal (visitAt kind m n node address len) (x .nodes)) (visitAt kind m n node address len) answer (givenBack last)
     access-visited last k =
         subst (λ (z : ℕ). let v = accessVisit kind node (address - z) len in TreeVisited m n (visitRefusal v (x .nodes)) v answer (givenBack last)) e
-        (tree-visited (accessVisit kind node (address - base) len) last _ answer (k .refusal) (k .table))
+        (tree-visited h k)
 
     -- where the part stays, so do all codes
     pub quiet-visited : Visited (accessVisit kind node (address - base) len) (x .nodes) answer (take (r .end - r .start) (drop (r .start) C))
@@ -59,7 +54,7 @@ module _ {m : Memory} {n : ℕ} {P C : List ℕ} {r : Parts} (h : TreeAt m n P C
   pub deallocate-visited : (node : ℕ) {answer : ℕ} (last : List ℕ) → Deallocated node (r .width) (x .nodes) answer last → WrittenAll m n node answer (givenBack last)
   deallocate-visited node {answer} last k =
       subst (λ (z : ℕ). TreeVisited m n (deallocateRefusal node z (x .nodes)) (accessVisit Write node 0 z) answer (givenBack last)) (h .part .width)
-      (tree-visited (accessVisit Write node 0 (r .width)) last _ answer (k .refusal) (k .table))
+      (tree-visited h k)
 
 -- ---- changes of one allocation
 -- only the part counts

@@ -15,7 +15,7 @@ use Rattle.answer.specs.Answer.{answerOf}
 use Rattle.answer.specs.declared.Answer.{Answer}
 use Rattle.tables.specs.Encoding.{wordsOf, codesOf, held}
 use Rattle.tables.specs.Held.{startOf}
-use Rattle.memory.specs.Buffers.{TreeVisited}
+use Rattle.parts.specs.Trees.{TreeVisited}
 use Rattle.memory.specs.declared.access.Quiet.{Quiet}
 use Rattle.memory.specs.declared.access.Quiet.the-variants.{No, At}
 

@@ -15,7 +15,7 @@ use Rattle.answer.specs.Answer.{answerOf}
 use Rattle.answer.specs.declared.Answer.{Answer}
 use Rattle.tables.specs.Encoding.{stateNumber, recordOf, codesOf, held}
 use Rattle.tree.specs.Requests.{deallocateRefusal}
-use Rattle.memory.specs.Buffers.{TreeVisited}
+use Rattle.parts.specs.Trees.{TreeVisited}
 
 -- ---- before the tree is visited
 -- 8 and 10 to 13, by an allocation's record

@@ -13,8 +13,8 @@ ghost use Rattle.definition.specs.Memory.{Memory, allocationAt};
 ghost use Rattle.pointer.specs.Pointer.{thinPointerOf};
 ghost use Rattle.permission.specs.Codes.{accessKind};
 ghost use Rattle.tables.specs.Held.{Records};
-ghost use Rattle.parts.specs.Trees.{HoldsTrees};
-ghost use Rattle.memory.specs.Buffers.{HoldsWords, TreeVisited};
+ghost use Rattle.parts.specs.Trees.{HoldsTrees, TreeVisited};
+ghost use Rattle.memory.specs.Buffers.{HoldsWords};
 ghost use Rattle.memory.specs.Access.{accessOf, loadOf, storeOf, boundsRefusal, Checked, Reached, visitAt, wordsStart, Accessed, QuietInTree, QuietAccess, Loaded, Stored};
 
 // 4, 6 and 7 to 9.

@@ -5,6 +5,7 @@ use mathlib.Core.Bool.{Bool, true, false}
 use mathlib.Core.List.{List}
 use native.Mathlib.Omega.{arith}
 use borrow.Rule.Slice.PartMut.{putMid}
+use lib.Dec.{eqb}
 use lib.ListN.{length, take, drop}
 use Rattle.definition.specs.Notation.{if_then_else_, mutateAt}
 use Rattle.definition.specs.Tree.{Visit, visited}
@@ -19,8 +20,9 @@ use Rattle.tables.proofs.Sizes.{length-parents, length-protectors, parents-fit,
 use Rattle.tables.proofs.ReadBack.{holds-allocs, holds-parents, holds-protectors, holds-codes, encode-of}
 use Rattle.tables.proofs.Lent as lent
 use Rattle.tree.specs.Table.{rowsOf, marks, Holds, HoldsMarks, HoldsAll}
+use Rattle.tree.specs.Requests.{Made}
 use Rattle.parts.specs.declared.Parts.{Parts}
-use Rattle.parts.specs.Trees.{HoldsTrees, HoldsMarked, PartsOf, TreeAt, afterVisit}
+use Rattle.parts.specs.Trees.{HoldsTrees, HoldsMarked, PartsOf, TreeAt, afterVisit, TreeVisited}
 use Rattle.parts.proofs.Trees.{codes-rows, protectors-marks, holds-tree, holds-marks, holds-all, visited-codes}
 
 -- ---- from more buffers to fewer
@@ -129,6 +131,10 @@ module _ {m : Memory} {n : ℕ} {P C : List ℕ} {r : Parts} (h : TreeAt m n P C
   pub visit-after : (v : Visit) (t : Bool) (last : List ℕ) → last ≡ rowsOf (if t then visited v (x .nodes) else x .nodes)
       → putMid (r .start) (r .end - r .start) C last ≡ held 32768 codesOf (if t then mutateAt n (afterVisit v) m else m)
   visit-after v = codes-after (afterVisit v) (visited-codes x valid v)
+
+  pub tree-visited : {refused : ℕ} {v : Visit} {answer : ℕ} {last : List ℕ} → Made refused v (x .nodes) answer last
+      → TreeVisited m n refused v answer (putMid (r .start) (r .end - r .start) C last)
+  tree-visited {refused} {v} {last = last} k = record { refusal = k .refusal; codes = visit-after v (eqb refused 0) last (k .table) }
 
   -- ---- the same of its protectors
   module _ {R : List ℕ} (marked : R ≡ held 1024 protectorsOf m) where

@@ -2,7 +2,9 @@
 use Prim.Native.Nat.{ℕ, _+_, _<_}
 use mathlib.Core.Path.{_≡_}
 use mathlib.Core.List.{List}
+use lib.Dec.{eqb}
 use lib.ListN.{length}
+use Rattle.definition.specs.Notation.{if_then_else_, mutateAt}
 use Rattle.definition.specs.Tree.{Visit, visited}
 use Rattle.definition.specs.Memory.{Allocation, Memory, allocationAt, changed, size, nodeCount, codeCount}
 use Rattle.definition.specs.Valid.{Valid}
@@ -41,3 +43,8 @@ pub record TreeAt (m : Memory) (n : ℕ) (P C : List ℕ) (r : Parts) : Type 0 w
 -- an allocation whose tree was visited
 abbrev pub afterVisit : Visit → Allocation → Allocation
 afterVisit v a = changed a (a .state) (a .words) (visited v (a .nodes))
+
+-- a visit of allocation n's tree: it is refused, and the codes are as they were; or they are as the visit leaves them
+pub record TreeVisited (m : Memory) (n refused : ℕ) (v : Visit) (answer : ℕ) (C : List ℕ) : Type 0 where
+  pub refusal : answer ≡ refused
+  pub codes : C ≡ held 32768 codesOf (if eqb refused 0 then mutateAt n (afterVisit v) m else m)

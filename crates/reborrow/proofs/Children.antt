@@ -1,25 +1,27 @@
--- The child made, and then one visit that makes its reads: what the definition's reborrow leaves.
+-- The reads made through the parent, and then the child put in as its own read leaves it: what the definition's reborrow leaves.
 use Prim.Native.Nat.{ℕ, _+_, _≤_}
 use mathlib.Core.Path.{_≡_, refl, sym, ap, ap₂, subst, _∙_}
 use mathlib.Core.List.{List, [], _∷_, _++_, map}
-use native.Mathlib.Nat.{one-mul}
 use native.Mathlib.Omega.{arith}
-use lib.ListN.{length, replicate, length-append}
-use Rattle.definition.specs.Notation.{_or_, mutateAt, writeAt}
-use Rattle.definition.specs.Permission.{Permission, permission, isYes}
+use borrow.Author.Tests.{eq-eqb, ne-eqb}
+use lib.Dec.{eqb}
+use lib.ListN.{length, replicate, length-map}
+use Rattle.definition.specs.Notation.{if_then_else_, _or_, mutateAt, writeAt}
+use Rattle.definition.specs.Permission.{Permission, next, permission, isYes}
+use Rattle.definition.specs.Permission.AccessKind.{Read}
+use Rattle.definition.specs.Permission.NodeRelation.{Local}
 use Rattle.definition.specs.Permission as permissions
-use Rattle.definition.specs.Tree.{Node, Visit, visited}
+use Rattle.definition.specs.Tree.{Node, parents, Visit, visited}
 use Rattle.definition.specs.Layout.{FreezeMask}
-use Rattle.definition.specs.Memory.{ThinPointer, Allocation, changed, size, Memory, noAllocation, allocationAt, target, offset, nodeCount, isLive}
+use Rattle.definition.specs.Memory.{ThinPointer, Allocation, changed, size, Memory, noAllocation, allocationAt, target, offset, nodeCount, exceedsBounds}
 use Rattle.definition.specs.Frame.{State}
 use Rattle.definition.specs.Retag.{ReborrowSettings, childNode, withChild, initRefusal, afterInit, ofNode, reborrowRefusal, afterReborrowIn}
 use Rattle.definition.specs.Valid.{Valid}
-use Rattle.definition.proofs.Lists.{mutate-length, mutate-twice}
-use Rattle.definition.proofs.Places.{mutate-here, mutate-same, valid-at}
-use Rattle.definition.proofs.Trees.{valid-tree}
-use Rattle.definition.proofs.Retags.{readsRefusal, readsVisit, reads-at-once, child-readable, retag-refusal}
-use Rattle.definition.proofs.ValidTrees.{ValidNodes, withChild-valid, settings-agree}
-use Rattle.definition.proofs.ValidMemory.{Succeeds, changed-valid, mutated-kept, room}
+use Rattle.definition.proofs.Lists.{mutate-twice}
+use Rattle.definition.proofs.Places.{mutate-same, valid-at}
+use Rattle.definition.proofs.Trees.{Parents, valid-tree}
+use Rattle.definition.proofs.Visits.{visited-length}
+use Rattle.definition.proofs.Retags.{readsRefusal, readsVisit, reads-at-once, child-readable, settingsAfterInit, reads-refusal-after, reads-visit-after, retag-refusal, reborrowed-in}
 use Rattle.definition.proofs.Writes.{write-none}
 use Rattle.permission.specs.Codes.{protector, safePointer}
 use Rattle.pointer.specs.Pointer.{thinPointerOf}
@@ -28,16 +30,14 @@ use Rattle.pointer.specs.declared.Provenance.the-variants.{Of}
 use Rattle.tables.specs.Encoding.{protectorNumber, codesOf, held}
 use Rattle.tables.specs.Held.{withNode, Trees, NodeFits}
 use Rattle.reborrow.specs.declared.ReborrowSettings as code
-use Rattle.reborrow.specs.Settings.{settingsOf, startCodes, placeIn, childAt}
-use Rattle.parts.specs.declared.Parts.{Parts}
-use Rattle.parts.specs.Trees.{HoldsMarked, PartsOf, TreeAt, afterVisit}
-use Rattle.parts.proofs.Lent.{trees-of, tree-at}
-use Rattle.reborrow.specs.Retag.{boundsRefusal, Reached, Fits, Passed, Added, Asked}
+use Rattle.reborrow.specs.Settings.{settingsOf, insideCodes, placeIn, childAt}
+use Rattle.parts.specs.Trees.{HoldsMarked, afterVisit, TreeVisited}
+use Rattle.parts.proofs.Afterwards.{there-after, made-after, room-after}
+use Rattle.reborrow.specs.Retag.{boundsRefusal, readsAt, afterReads, Fits, Passed, Tested, Added, Asked}
 use Rattle.reborrow.proofs.Codes.{inside-length, inside-permissions, row-of-child, row-long}
 use Rattle.reborrow.proofs.Tests.{pointerAt, points-at, placed, refusal-split, or-first, passed-at}
-use Rattle.reborrow.proofs.Grown.{visited-trees}
 
-module _ (settings : code.ReborrowSettings) (mask : FreezeMask) {codes : List ℕ} (e : codes ≡ startCodes settings mask) (addr n node : ℕ) (m : Memory) (valid : Valid m)
+module _ (settings : code.ReborrowSettings) (mask : FreezeMask) {codes : List ℕ} (e : codes ≡ insideCodes settings mask) (addr n node : ℕ) (m : Memory) (valid : Valid m)
     (h : Passed m n node addr (length codes)) where
   abbrev w : ReborrowSettings
   w = settingsOf settings mask
@@ -48,110 +48,112 @@ module _ (settings : code.ReborrowSettings) (mask : FreezeMask) {codes : List �
   abbrev a : Allocation
   a = allocationAt m n
 
+  tree : Parents (parents (a .nodes))
+  tree = valid-tree a (valid-at m n valid (h .fits .reached .made))
+
   module _ {from : ℕ} (place : from ≡ placeIn (a .address) addr (length codes)) where
     -- ---- where the bytes start
-    at-place : {B : Type 0} (f : ℕ → List Permission → B) → ((k : ℕ) → f 0 [] ≡ f k []) → f from (w .inside) ≡ f (offset a p) (w .inside)
-    at-place f none =
-        ap (λ (k : ℕ). f k (w .inside)) (place ∙ ap (placeIn (a .address) addr) (inside-length settings mask e)) ∙ placed f none (a .address) addr (w .inside)
+    at-place : {B : Type 0} (f : ℕ → List Permission → B) → ((k : ℕ) → f 0 [] ≡ f k []) → (inside : List Permission) → length inside ≡ length codes → f from inside ≡ f (offset a p) inside
+    at-place f none inside long =
+        ap (λ (k : ℕ). f k inside) (place ∙ ap (placeIn (a .address) addr) (sym long)) ∙ placed f none (a .address) addr inside
 
     -- ---- the reads that are tested
     pub reads-refusal : initRefusal (length (a .nodes)) (offset a p) (w .inside) (withChild w p a) ≡ readsRefusal node from (map permission codes) (a .nodes)
     unfolding readsRefusal
     reads-refusal =
-        retag-refusal w p a (valid-tree a (valid-at m n valid (h .fits .reached .made))) (h .fits .reached .inTree)
+        retag-refusal w p a tree (h .fits .reached .inTree)
         (child-readable (safePointer (settings .pointer)) (protector (settings .protected)) mask (settings .freeze) p a)
-        ∙ sym (at-place (λ k inside. readsRefusal node k inside (a .nodes)) (λ k. refl))
+        ∙ sym (at-place (λ k inside. readsRefusal node k inside (a .nodes)) (λ k. refl) (w .inside) (sym (inside-length settings mask e)))
+        ∙ sym (reads-refusal-after node from (w .inside) (a .nodes))
         ∙ ap (λ (inside : List Permission). readsRefusal node from inside (a .nodes)) (sym (inside-permissions settings mask e))
 
-    module _ {bytes : ℕ} (long : bytes ≡ size a) where
-      -- ---- the child
-      abbrev child : Node
-      child = childAt w node from bytes
+    -- ---- the reads that are made
+    none-read : (k : ℕ) → visited (readsVisit node 0 []) (a .nodes) ≡ visited (readsVisit node k []) (a .nodes)
+    unfolding afterInit
+    none-read k = sym (reads-at-once node 0 [] (a .nodes)) ∙ reads-at-once node k [] (a .nodes)
 
-      child-is : child ≡ childNode w p a
-      unfolding childNode
-      child-is =
-          ap (λ (row : List Permission). record { parent = node; protected = w .protected; permissions = row })
-          (ap (λ (k : ℕ). writeAt from (w .inside) (replicate k (w .outside))) long
-          ∙ at-place (λ k inside. writeAt k inside (replicate (size a) (w .outside))) (λ k. write-none 0 _ ∙ sym (write-none k _)))
+    reads-are : visited (readsVisit node from (map permission codes)) (a .nodes) ≡ visited (readsVisit node (offset a p) (w .inside)) (a .nodes)
+    reads-are =
+        ap (λ (inside : List Permission). visited (readsVisit node from inside) (a .nodes)) (inside-permissions settings mask e)
+        ∙ ap (λ (v : Visit). visited v (a .nodes)) (reads-visit-after node from (w .inside))
+        ∙ at-place (λ k inside. visited (readsVisit node k inside) (a .nodes)) none-read (w .inside) (sym (inside-length settings mask e))
 
-      family-is : a .nodes ++ (child ∷ []) ≡ withChild w p a
-      unfolding withChild
-      family-is = ap (λ (x : Node). a .nodes ++ (x ∷ [])) child-is
+    -- ---- the child
+    child-is : {bytes : ℕ} → bytes ≡ size a → childAt (settingsAfterInit w) node from bytes ≡ childNode (settingsAfterInit w) p a
+    unfolding childNode
+    child-is long =
+        ap (λ (row : List Permission). record { parent = node; protected = w .protected; permissions = row })
+        (ap (λ (k : ℕ). writeAt from (settingsAfterInit w .inside) (replicate k (w .outside))) long
+        ∙ at-place (λ k inside. writeAt k inside (replicate (size a) (w .outside))) (λ k. write-none 0 _ ∙ sym (write-none k _)) (settingsAfterInit w .inside)
+        (length-map (w .inside) (next Read Local) ∙ sym (inside-length settings mask e)))
 
-      -- ---- the memory with it
-      abbrev grown : Memory
-      grown = mutateAt n (withNode child) m
-
-      succeeds : (b : Allocation) → Succeeds 1 b (withNode child b)
-      succeeds b = record { address = refl; bytes = refl; live = λ l. l; nodes = length-append (b .nodes) (child ∷ []) }
-
-      grown-valid : Valid grown
-      grown-valid =
-          let r = room m (ofNode a) (h .fits .room) in
-          mutated-kept 1 (withNode child) succeeds n m (r .nodes) (omega (arith, r .codes, one-mul (size a)))
-          (λ made v.
-          changed-valid 1 a (a .state) (a .words) (a .nodes ++ (child ∷ [])) (succeeds a) (v .words)
-          (subst (ValidNodes (size a) (isLive (a .state))) (sym family-is)
-          (withChild-valid w p a (settings-agree (safePointer (settings .pointer)) (protector (settings .protected)) mask (settings .freeze)) (isLive (a .state)) (h .fits .reached .inTree) (v .nodes)))
-          v)
-          valid .valid
-
-      there : allocationAt grown n ≡ withNode child a
-      there = mutate-here (withNode child) noAllocation m n (h .fits .reached .made)
-
-      pub grown-at : {A P R C : List ℕ} {r : Parts} → Trees grown A P R C → PartsOf grown n r → TreeAt grown n P C r
-      grown-at t part = tree-at (trees-of (record { valid = grown-valid; trees = t })) part
-
-      module _ {number : ℕ} (last : number ≡ nodeCount a) where
-        pub grown-reached : Reached grown n number from (length codes)
-        grown-reached =
-            record {
-              made = omega (arith, mutate-length n (withNode child) m, h .fits .reached .made);
-              inTree = omega (arith, last, ap nodeCount there, length-append (a .nodes) (child ∷ []));
-              within = subst (λ (k : ℕ). k + length codes ≤ size (allocationAt grown n)) (sym place) (omega (arith, ap size there, h .fits .reached .within));
-            }
-
-        -- ---- its reads
-        abbrev reads : Visit
-        reads = readsVisit number from (map permission codes)
-
-        reads-made : afterVisit reads (withNode child a) ≡ afterReborrowIn w p a
-        unfolding afterReborrowIn afterInit
-        reads-made =
-            ap (λ (nodes : List Node). changed a (a .state) (a .words) nodes)
-            (ap₂ (λ (k : ℕ) (inside : List Permission). visited (readsVisit k from inside) (a .nodes ++ (child ∷ []))) last (inside-permissions settings mask e)
-            ∙ sym (reads-at-once (nodeCount a) from (w .inside) (a .nodes ++ (child ∷ [])))
-            ∙ ap (afterInit (nodeCount a) from (w .inside)) family-is
-            ∙ at-place (λ k inside. afterInit (nodeCount a) k inside (withChild w p a)) (λ k. refl))
-
-        pub reborrowed : {A P R C C′ : List ℕ} → Trees grown A P R C → C′ ≡ held 32768 codesOf (mutateAt n (afterVisit reads) grown) → Trees (mutateAt n (afterReborrowIn w p) m) A P R C′
-        reborrowed {A} {P} {R} {C} {C′} t q =
-            subst (λ (m′ : Memory). Trees m′ A P R C′)
-            (mutate-twice n (afterVisit reads) (withNode child) m
-            ∙ mutate-same (λ x. afterVisit reads (withNode child x)) (afterReborrowIn w p) noAllocation m n reads-made)
-            (visited-trees grown n (grown-reached .made) reads t q)
+    pub reborrowed : {bytes : ℕ} → bytes ≡ size a → {A P R C : List ℕ}
+        → Trees (mutateAt n (withNode (childAt (settingsAfterInit w) node from bytes)) (afterReads m n node addr codes)) A P R C → Trees (mutateAt n (afterReborrowIn w p) m) A P R C
+    reborrowed {bytes} long {A} {P} {R} {C} t =
+        let reads : Visit = readsAt m n node addr codes in
+        let child : Node = childAt (settingsAfterInit w) node from bytes in
+        let same : readsVisit node from (map permission codes) ≡ reads = ap (λ (k : ℕ). readsVisit node k (map permission codes)) place in
+        let both : withNode child (afterVisit reads a) ≡ afterReborrowIn w p a =
+        ap₂ (λ (nodes : List Node) (x : Node). changed a (a .state) (a .words) (nodes ++ (x ∷ []))) (ap (λ (v : Visit). visited v (a .nodes)) (sym same) ∙ reads-are) (child-is long)
+        ∙ sym (reborrowed-in w p a tree (h .fits .reached .inTree)) in
+        subst (λ (m′ : Memory). Trees m′ A P R C)
+        (mutate-twice n (withNode child) (afterVisit reads) m ∙ mutate-same (λ x. withNode child (afterVisit reads x)) (afterReborrowIn w p) noAllocation m n both) t
 
 -- of a pointer as the code has it
-pub added : (settings : code.ReborrowSettings) (mask : FreezeMask) {codes : List ℕ} (e : codes ≡ startCodes settings mask) (q : pointer.ThinPointer) {n node : ℕ} → q .provenance ≡ Of n node
+pub added : (settings : code.ReborrowSettings) (mask : FreezeMask) {codes : List ℕ} (e : codes ≡ insideCodes settings mask) (q : pointer.ThinPointer) {n node : ℕ} → q .provenance ≡ Of n node
     → (m : Memory) (valid : Valid m) (h : Passed m n node (q .addr) (length codes)) {from : ℕ} (place : from ≡ placeIn (allocationAt m n .address) (q .addr) (length codes))
-    → {bytes : ℕ} (long : bytes ≡ size (allocationAt m n)) {number : ℕ} (last : number ≡ nodeCount (allocationAt m n)) {A P R C C′ : List ℕ}
-    → Trees (mutateAt n (withNode (childAt (settingsOf settings mask) node from bytes)) m) A P R C
-    → C′ ≡ held 32768 codesOf (mutateAt n (afterVisit (readsVisit number from (map permission codes))) (mutateAt n (withNode (childAt (settingsOf settings mask) node from bytes)) m))
-    → Added (settingsOf settings mask) (thinPointerOf q) m n number A P R C′
-added settings mask e q {n} {node} at m valid h place long last {A} {P} {R} {C} {C′} t c =
+    → {bytes : ℕ} (long : bytes ≡ size (allocationAt m n)) {number : ℕ} (last : number ≡ nodeCount (allocationAt m n)) {A P R C : List ℕ}
+    → Trees (mutateAt n (withNode (childAt (settingsAfterInit (settingsOf settings mask)) node from bytes)) (afterReads m n node (q .addr) codes)) A P R C
+    → Added (settingsOf settings mask) (thinPointerOf q) m n number A P R C
+added settings mask e q {n} {node} at m valid h place long last {A} {P} {R} {C} t =
     record {
       number = last;
       trees =
-          subst (λ (p : ThinPointer). Trees (mutateAt n (afterReborrowIn (settingsOf settings mask) p) m) A P R C′) (sym (points-at q at))
-          (reborrowed settings mask e (q .addr) n node m valid h place long last t c);
+          subst (λ (p : ThinPointer). Trees (mutateAt n (afterReborrowIn (settingsOf settings mask) p) m) A P R C) (sym (points-at q at))
+          (reborrowed settings mask e (q .addr) n node m valid h place long t);
+    }
+
+-- ---- what the tests and the reads leave
+module _ {m : Memory} {n node addr : ℕ} (codes : List ℕ) {answer : ℕ} {C : List ℕ} where
+  pub tested-refused : (answer ≡ 0 → ⊥) → C ≡ held 32768 codesOf m → Tested m n node addr codes answer C
+  tested-refused z e = record { passed = λ q. absurd (z q); left = rw (ne-eqb answer 0 z) e }
+
+  pub tested-read : Passed m n node addr (length codes) → {from : ℕ} → from ≡ placeIn (allocationAt m n .address) addr (length codes)
+      → {refused : ℕ} → TreeVisited m n refused (readsVisit node from (map permission codes)) answer C → Tested m n node addr codes answer C
+  tested-read h place t =
+      record {
+        passed = λ z. h;
+        left =
+            t .codes
+            ∙ ap₂ (λ (r k : ℕ). held 32768 codesOf (if eqb r 0 then mutateAt n (afterVisit (readsVisit node k (map permission codes))) m else m)) (sym (t .refusal)) place;
+      }
+
+  pub tested-kept : Tested m n node addr codes answer C → (answer ≡ 0 → ⊥) → C ≡ held 32768 codesOf m
+  tested-kept t z = rw (ne-eqb answer 0 z) at (t .left)
+
+  pub tested-made : Tested m n node addr codes answer C → answer ≡ 0 → C ≡ held 32768 codesOf (afterReads m n node addr codes)
+  tested-made t z = rw (eq-eqb answer 0 z) at (t .left)
+
+-- ---- a visit of the tree leaves room for the child
+pub fits-after : (v : Visit) {m : Memory} {n node from len : ℕ} → Fits m n node from len → Fits (mutateAt n (afterVisit v) m) n node from len
+fits-after v {m} {n} f =
+    let a : Allocation = allocationAt m n in
+    let made = f .reached .made in
+    let there = there-after v m n made in
+    record {
+      reached = record {
+        made = made-after v m n made;
+        inTree = omega (arith, ap nodeCount there, visited-length v (a .nodes), f .reached .inTree);
+        within = omega (arith, ap size there, f .reached .within);
+      };
+      room = ap (λ (x : Allocation). exceedsBounds (mutateAt n (afterVisit v) m) (ofNode x)) there ∙ room-after v m n made (ofNode a) ∙ f .room;
     }
 
 -- ---- what the tables ask of the child
 pub child-fits : (settings : code.ReborrowSettings) (mask : FreezeMask) {m : Memory} {n node from bytes : ℕ} {A P R C codes : List ℕ} {outside number : ℕ}
-    → HoldsMarked m A P R C → Fits m n node from (length codes) → bytes ≡ size (allocationAt m n) → codes ≡ startCodes settings mask
+    → HoldsMarked m A P R C → Fits m n node from (length codes) → bytes ≡ size (allocationAt m n) → codes ≡ insideCodes settings mask
     → outside ≡ permissions.code (settingsOf settings mask .outside) → number ≡ protectorNumber (protector (settings .protected))
-    → NodeFits m n (childAt (settingsOf settings mask) node from bytes) A P R C node number (writeAt from codes (replicate bytes outside))
+    → NodeFits m n (childAt (settingsAfterInit (settingsOf settings mask)) node from bytes) A P R C node number (writeAt from codes (replicate bytes outside))
 child-fits settings mask {m} {n} {node} {from} {bytes} h f long e o k =
     let row-is = row-of-child settings mask node from bytes e o in
     record {
@@ -161,7 +163,7 @@ child-fits settings mask {m} {n} {node} {from} {bytes} h f long e o k =
       is-parent = refl;
       is-protector = k;
       is-row = row-is;
-      wide = ap length row-is ∙ row-long (settingsOf settings mask) node from bytes ∙ long;
+      wide = ap length row-is ∙ row-long (settingsAfterInit (settingsOf settings mask)) node from bytes ∙ long;
       room = f .room;
     }
 

@@ -8,11 +8,14 @@ use lib.ListN.{length, getD, set, take, drop, replicate, length-map, length-repl
 use lib.Seq.{take-all}
 use lib.Dec.{eqb}
 use Rattle.definition.specs.Notation.{if_then_else_, writeAt}
-use Rattle.definition.specs.Permission.{code, permission}
+use Rattle.definition.specs.Permission.{next, code, permission}
+use Rattle.definition.specs.Permission.AccessKind.{Read}
+use Rattle.definition.specs.Permission.NodeRelation.{Local}
 use Rattle.definition.specs.Layout.{FreezeMask}
 use Rattle.definition.specs.Retag as definition
 use Rattle.definition.specs.Retag.{startPerm}
 use Rattle.definition.proofs.Lists.{loop-get, loop-set}
+use Rattle.definition.proofs.Retags.{settingsAfterInit}
 use Rattle.definition.proofs.Writes.{write-length, map-write}
 use Rattle.definition.proofs.Parts.{map-replicate}
 use Rattle.permission.specs.declared.Protected.{Protected}
@@ -21,16 +24,16 @@ use Rattle.permission.specs.Codes.{protector, safePointer}
 use Rattle.tables.specs.Encoding.{rowOf}
 use Rattle.tables.proofs.ReadBack.{row-back}
 use Rattle.reborrow.specs.declared.ReborrowSettings.{ReborrowSettings}
-use Rattle.reborrow.specs.Settings.{maskOf, settingsOf, chosenCode, codesFor, startCodes, childAt}
+use Rattle.reborrow.specs.Settings.{maskOf, settingsOf, chosenCode, codesFor, insideCodes, childAt}
 
-module _ (settings : ReborrowSettings) (mask : FreezeMask) {codes : List ℕ} (e : codes ≡ startCodes settings mask) where
+module _ (settings : ReborrowSettings) (mask : FreezeMask) {codes : List ℕ} (e : codes ≡ insideCodes settings mask) where
   pub inside-length : length codes ≡ length (settingsOf settings mask .inside)
   unfolding codesFor
-  inside-length = ap length e ∙ length-map (settingsOf settings mask .inside) code
+  inside-length = ap length e ∙ length-map (settingsAfterInit (settingsOf settings mask) .inside) code ∙ length-map (settingsOf settings mask .inside) (next Read Local)
 
-  pub inside-permissions : map permission codes ≡ settingsOf settings mask .inside
+  pub inside-permissions : map permission codes ≡ settingsAfterInit (settingsOf settings mask) .inside
   unfolding codesFor
-  inside-permissions = ap (map permission) e ∙ row-back (settingsOf settings mask .inside)
+  inside-permissions = ap (map permission) e ∙ row-back (settingsAfterInit (settingsOf settings mask) .inside)
 
 -- ---- the loop over a mask
 module _ (freeze cell : ℕ) (bytes : List ℕ) where
@@ -58,23 +61,23 @@ module _ (freeze cell : ℕ) (bytes : List ℕ) where
       let k : length new ≤ i = omega (arith, new-long) in
       ap₂ (λ (xs ys : List ℕ). xs ++ ys) (take-all i new k) (drop-of-length-le bytes l) ∙ append-nil new
 
-pub codes-chosen : (pointer : SafePointer) (protected : Protected) {freeze cell : ℕ} → freeze ≡ code (startPerm (safePointer pointer) (protector protected) true)
-    → cell ≡ code (startPerm (safePointer pointer) (protector protected) false) → (bytes : List ℕ) → map (chosenCode freeze cell) bytes ≡ codesFor pointer protected (maskOf bytes)
+pub codes-chosen : (pointer : SafePointer) (protected : Protected) {freeze cell : ℕ} → freeze ≡ code (next Read Local (startPerm (safePointer pointer) (protector protected) true))
+    → cell ≡ code (next Read Local (startPerm (safePointer pointer) (protector protected) false)) → (bytes : List ℕ) → map (chosenCode freeze cell) bytes ≡ codesFor pointer protected (maskOf bytes)
 unfolding codesFor
 codes-chosen pointer protected f e [] = refl
 codes-chosen pointer protected {freeze} {cell} f e (b ∷ bytes) = ap₂ _∷_ (go (eqb b 0)) (codes-chosen pointer protected f e bytes)
   where
-    go : (isZero : Bool) → (if isZero then cell else freeze) ≡ code (startPerm (safePointer pointer) (protector protected) (not isZero))
+    go : (isZero : Bool) → (if isZero then cell else freeze) ≡ code (next Read Local (startPerm (safePointer pointer) (protector protected) (not isZero)))
     go true = e
     go false = f
 
 -- ---- a child's row
 -- it is the codes of the child's permissions
-pub row-of-child : (settings : ReborrowSettings) (mask : FreezeMask) (node from bytes : ℕ) {codes : List ℕ} {outside : ℕ} → codes ≡ startCodes settings mask
-    → outside ≡ code (settingsOf settings mask .outside) → writeAt from codes (replicate bytes outside) ≡ rowOf (childAt (settingsOf settings mask) node from bytes)
+pub row-of-child : (settings : ReborrowSettings) (mask : FreezeMask) (node from bytes : ℕ) {codes : List ℕ} {outside : ℕ} → codes ≡ insideCodes settings mask
+    → outside ≡ code (settingsOf settings mask .outside) → writeAt from codes (replicate bytes outside) ≡ rowOf (childAt (settingsAfterInit (settingsOf settings mask)) node from bytes)
 unfolding codesFor
 row-of-child settings mask node from bytes {codes} {outside} e o =
-    let w = settingsOf settings mask in
+    let w = settingsAfterInit (settingsOf settings mask) in
     ap₂ (λ (ys : List ℕ) (x : ℕ). writeAt from ys (replicate bytes x)) e o
     ∙ ap (writeAt from (map code (w .inside))) (sym (map-replicate code bytes (w .outside)))
     ∙ sym (map-write code from (w .inside) (replicate bytes (w .outside)))

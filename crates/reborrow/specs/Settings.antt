@@ -5,7 +5,9 @@ use mathlib.Core.List.{List, map}
 use lib.Dec.{eqb}
 use lib.ListN.{replicate}
 use Rattle.definition.specs.Notation.{if_then_else_, writeAt}
-use Rattle.definition.specs.Permission.{code}
+use Rattle.definition.specs.Permission.{next, code}
+use Rattle.definition.specs.Permission.AccessKind.{Read}
+use Rattle.definition.specs.Permission.NodeRelation.{Local}
 use Rattle.definition.specs.Tree.{Node}
 use Rattle.definition.specs.Layout.{FreezeMask}
 use Rattle.definition.specs.Retag as definition
@@ -29,12 +31,12 @@ settingsOf settings mask = reborrowSettings (safePointer (settings .pointer)) (p
 abbrev pub chosenCode : ℕ → ℕ → ℕ → ℕ
 chosenCode freeze cell b = if eqb b 0 then cell else freeze
 
--- the codes that the inside bytes start with
+-- the codes of the inside bytes, which start with a permission and are read
 unfoldable pub codesFor : SafePointer → Protected → FreezeMask → List ℕ
-codesFor pointer protected mask = map code (map (startPerm (safePointer pointer) (protector protected)) mask)
+codesFor pointer protected mask = map code (map (next Read Local) (map (startPerm (safePointer pointer) (protector protected)) mask))
 
-abbrev pub startCodes : ReborrowSettings → FreezeMask → List ℕ
-startCodes settings mask = codesFor (settings .pointer) (settings .protected) mask
+abbrev pub insideCodes : ReborrowSettings → FreezeMask → List ℕ
+insideCodes settings mask = codesFor (settings .pointer) (settings .protected) mask
 
 -- where the inside bytes start in a row; 0 where there are none, since a pointer may then lie behind the allocation
 abbrev pub placeIn : ℕ → ℕ → ℕ → ℕ

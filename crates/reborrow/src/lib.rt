@@ -1,7 +1,11 @@
-// Retags that add a node. mem.rs: `ReborrowSettings`, `reborrow`, `retag_ptr`. Whatever can be refused is tested on the tree as it stands, so that a
-// refusal leaves nothing to undo; then the child is made and its inside bytes are read through it.
+// Retags that add a node. mem.rs: `ReborrowSettings`, `reborrow`, `retag_ptr`. The child's inside bytes are read through it, and these reads are what
+// reads through its parent are (definition's Retags): so they are made before it is there, and it is put in as its own read leaves it. Whatever can be
+// refused is tested first, so that a refusal leaves nothing to undo.
 use answer::Answer;
 use parts::Parts;
+use permission::AccessKind;
+use permission::NodeRelation;
+use permission::Outcome;
 use permission::Protected;
 use permission::SafePointer;
 use pointer::Provenance;
@@ -15,25 +19,26 @@ ghost use Prim.Native.Nat.{ℕ, _+_, _≤_, _<_};
 ghost use lib.Dec.{eqb, ltb};
 ghost use lib.ListN.{length, take, drop};
 ghost use Rattle.definition.specs.Notation.{sumOf, mutateAt};
-ghost use Rattle.definition.specs.Permission.{permission, isYes};
+ghost use Rattle.definition.specs.Permission.{next, code, permission, isYes};
+ghost use Rattle.definition.specs.Permission.AccessKind.{Read};
+ghost use Rattle.definition.specs.Permission.NodeRelation.{Local};
 ghost use Rattle.definition.specs.Layout.{FreezeMask};
-ghost use Rattle.definition.specs.Tree.{Node};
 ghost use Rattle.definition.specs.Memory.{Memory, allocationAt, size, exceedsBounds};
 ghost use Rattle.definition.specs.Valid.{Valid};
 ghost use Rattle.definition.specs.Frame.{State, frameAt};
 ghost use Rattle.definition.specs.Frame as frames;
-ghost use Rattle.definition.specs.Retag.{entryBound, reborrowRefusal, retagWithoutNode};
-ghost use Rattle.definition.proofs.Retags.{readsRefusal, readsVisit};
+ghost use Rattle.definition.specs.Retag.{startPerm, entryBound, reborrowRefusal, retagWithoutNode};
+ghost use Rattle.definition.proofs.Retags.{readsRefusal, readsVisit, settingsAfterInit};
 ghost use Rattle.pointer.specs.Pointer.{provenanceOf, thinPointerOf};
 ghost use Rattle.pointer.specs.declared.Provenance.the-variants.{Of};
 ghost use Rattle.answer.specs.Answer.{answerOf};
-ghost use Rattle.permission.specs.Codes.{protector};
-ghost use Rattle.tables.specs.Encoding.{protectorNumber, codesOf, held};
+ghost use Rattle.permission.specs.Codes.{protector, safePointer};
+ghost use Rattle.tables.specs.Encoding.{protectorNumber};
 ghost use Rattle.tables.specs.Held.{Records, Used, Trees, PlaceFor, withNode};
 ghost use Rattle.bounds.specs.Bounds.{Points};
-ghost use Rattle.reborrow.specs.Settings.{maskOf, settingsOf, chosenCode, codesFor, startCodes, placeIn, childAt};
-ghost use Rattle.parts.specs.Trees.{HoldsTrees, HoldsMarked, PartsOf, TreeAt, afterVisit};
-ghost use Rattle.reborrow.specs.Retag.{Located, boundsRefusal, Reached, Fits, Passed, Added, Asked, Retagged};
+ghost use Rattle.reborrow.specs.Settings.{maskOf, settingsOf, chosenCode, codesFor, insideCodes, placeIn, childAt};
+ghost use Rattle.parts.specs.Trees.{HoldsTrees, HoldsMarked, PartsOf, TreeAt, TreeVisited};
+ghost use Rattle.reborrow.specs.Retag.{Located, boundsRefusal, Reached, afterReads, Fits, Passed, Tested, Added, Asked, Retagged};
 
 // The pointer that is made, the protector, and whether the bytes outside the pointee are freeze bytes.
 pub struct ReborrowSettings {
@@ -54,12 +59,23 @@ fn chosen_code(byte: u8, freeze: u8, cell: u8) -> u8
     freeze
 }
 
-// Each byte of a mask becomes the code that it starts with.
-fn start_codes(mask: &mut [u8], pointer: SafePointer, protected: Protected)
+// The code that a byte inside starts with, as its read leaves it.
+fn inside_code(pointer: SafePointer, protected: Protected, freeze: bool) -> u8
+    ensures { λ r. ⌜ r ≡ code (next Read Local (startPerm (safePointer pointer) (protector protected) freeze)) ⌝ }
+{
+    let code = permission::start_code(pointer, protected, freeze);
+    match permission::transition(code, AccessKind::Read, NodeRelation::Local) {
+        Outcome::Becomes(c) => c,
+        Outcome::Refused(_) => code,
+    }
+}
+
+// Each byte of a mask becomes that code.
+fn inside_codes(mask: &mut [u8], pointer: SafePointer, protected: Protected)
     ensures { λ _. ⌜ now (mask .exit) ≡ codesFor pointer protected (maskOf (now (mask .entry))) ⌝ }
 {
-    let freeze = permission::start_code(pointer, protected, true);
-    let cell = permission::start_code(pointer, protected, false);
+    let freeze = inside_code(pointer, protected, true);
+    let cell = inside_code(pointer, protected, false);
     let mut i: usize = 0;
     while i < mask.len() {
         mask[i] = chosen_code(mask[i], freeze, cell);
@@ -155,10 +171,10 @@ fn bounds_refusal(
     0
 }
 
-// The reads of the inside bytes through a node of the tree at t, each on the tree as it stands: the first refusal, or 0.
-fn reads_refusal(
+// The reads of the inside bytes through a node of the tree at t: the first refusal, with the codes as they were, or 0, with the reads made.
+fn make_reads(
     parents: &[u16],
-    codes: &[u8],
+    codes: &mut [u8],
     inside: &[u8],
     t: Parts,
     node: usize,
@@ -166,15 +182,15 @@ fn reads_refusal(
 ) -> u8
     requires { ⌜ ((m : Memory) × ((n : ℕ) × (TreeAt m n (now parents) (now codes) t × Reached m n node from (length (now inside))))) ⌝ }
     ensures { λ r. ⌜ ((m : Memory) (n : ℕ) → TreeAt m n (now (parents .entry)) (now (codes .entry)) t → Reached m n node from (length (now (inside .entry)))
-        → r ≡ readsRefusal node from (map permission (now (inside .entry))) (allocationAt m n .nodes)) ⌝ }
+        → TreeVisited m n (readsRefusal node from (map permission (now (inside .entry))) (allocationAt m n .nodes)) (readsVisit node from (map permission (now (inside .entry)))) r (now (codes .exit))) ⌝ }
 {
     let first = t.first;
     let behind = t.behind;
     let start = t.start;
     let end = t.end;
-    tree::reads_refusal(
+    tree::make_reads(
         &parents[first..behind],
-        &codes[start..end],
+        &mut codes[start..end],
         inside,
         t.width,
         node,
@@ -182,12 +198,11 @@ fn reads_refusal(
     )
 }
 
-// All that a retag through a node of allocation n, which was made, is refused for. The child's own reads are never refused: those through its
-// parent are tested.
+// All that a retag through a node of allocation n, which was made, is refused for; where it is for nothing, the reads are made.
 fn retag_refusal(
     allocs: &[u64],
     parents: &[u16],
-    codes: &[u8],
+    codes: &mut [u8],
     inside: &[u8],
     settings: ReborrowSettings,
     p: ThinPointer,
@@ -203,7 +218,7 @@ fn retag_refusal(
         → Located (s .memory) (provenanceOf (p .provenance)) n used t
         → Asked s frame entries settings mask (now (inside .entry)) → r ≡ reborrowRefusal (settingsOf settings mask) frame (thinPointerOf p) s) ⌝ }
     ensures { λ r. ⌜ ((m : Memory) → HoldsTrees m (now (allocs .entry)) (now (parents .entry)) (now (codes .entry)) → Located m (provenanceOf (p .provenance)) n used t
-        → r ≡ 0 → Passed m n node (p .addr) (length (now (inside .entry)))) ⌝ }
+        → Tested m n node (p .addr) (now (inside .entry)) r (now (codes .exit))) ⌝ }
 {
     let len = inside.len();
     let protected = settings.protected;
@@ -213,32 +228,12 @@ fn retag_refusal(
     }
     let a = tables::allocation_at(allocs, n);
     let from = place_in(a.address, p.addr, len);
-    reads_refusal(parents, codes, inside, t, node, from)
+    make_reads(parents, codes, inside, t, node, from)
 }
 
 // ---- the child
 
-// The reads made, all in one visit.
-fn apply_reads(parents: &[u16], codes: &mut [u8], inside: &[u8], t: Parts, node: usize, from: usize)
-    requires { ⌜ ((m : Memory) × ((n : ℕ) × (TreeAt m n (now parents) (now codes) t × Reached m n node from (length (now inside))))) ⌝ }
-    ensures { λ _. ⌜ ((m : Memory) (n : ℕ) → TreeAt m n (now (parents .entry)) (now (codes .entry)) t → Reached m n node from (length (now (inside .entry)))
-        → now (codes .exit) ≡ held 32768 codesOf (mutateAt n (afterVisit (readsVisit node from (map permission (now (inside .entry))))) m)) ⌝ }
-{
-    let first = t.first;
-    let behind = t.behind;
-    let start = t.start;
-    let end = t.end;
-    tree::apply_reads(
-        &parents[first..behind],
-        &mut codes[start..end],
-        inside,
-        t.width,
-        node,
-        from,
-    );
-}
-
-// The child of a node of allocation n, of `bytes` bytes, before its reads.
+// The child of a node of allocation n, of `bytes` bytes, as its reads leave it.
 fn insert_child(
     allocs: &mut [u64],
     parents: &mut [u16],
@@ -254,11 +249,11 @@ fn insert_child(
 )
     requires { ⌜ ((m : Memory) × (HoldsMarked m (now allocs) (now parents) (now protectors) (now codes) × Fits m n node from (length (now inside)) × (bytes ≡ size (allocationAt m n))
         × PlaceFor m n (place .nodes) (place .codes) (place .node) (place .code))) ⌝ }
-    requires { ⌜ ((mask : FreezeMask) × (now inside ≡ startCodes settings mask)) ⌝ }
+    requires { ⌜ ((mask : FreezeMask) × (now inside ≡ insideCodes settings mask)) ⌝ }
     ensures { λ _. ⌜ ((m : Memory) (mask : FreezeMask) → HoldsMarked m (now (allocs .entry)) (now (parents .entry)) (now (protectors .entry)) (now (codes .entry))
         → Fits m n node from (length (now (inside .entry))) → bytes ≡ size (allocationAt m n) → PlaceFor m n (place .nodes) (place .codes) (place .node) (place .code)
-        → now (inside .entry) ≡ startCodes settings mask
-        → Trees (mutateAt n (withNode (childAt (settingsOf settings mask) node from bytes)) m) (now (allocs .exit)) (now (parents .exit)) (now (protectors .exit)) (now (codes .exit))) ⌝ }
+        → now (inside .entry) ≡ insideCodes settings mask
+        → Trees (mutateAt n (withNode (childAt (settingsAfterInit (settingsOf settings mask)) node from bytes)) m) (now (allocs .exit)) (now (parents .exit)) (now (protectors .exit)) (now (codes .exit))) ⌝ }
 {
     let pointer = settings.pointer;
     let protected = settings.protected;
@@ -293,23 +288,7 @@ fn node_place(used: Starts, t: Parts) -> NodePlace
     }
 }
 
-// Where the parts of an allocation lie that has a node more.
-fn grown_part(t: Parts) -> Parts
-    requires { ⌜ ((m : Memory) × ((n : ℕ) × (Valid m × PartsOf m n t))) ⌝ }
-    ensures { λ r. ⌜ ((m : Memory) (n : ℕ) (x : Node) → PartsOf m n t → PartsOf (mutateAt n (withNode x) m) n r) ⌝ }
-{
-    let width = t.width;
-    Parts {
-        word: t.word,
-        first: t.first,
-        behind: t.behind + 1,
-        start: t.start,
-        end: t.end + width,
-        width,
-    }
-}
-
-// The child with its reads made. Returns its number.
+// The child, in a memory in which its reads are made; m is the memory before them. Returns its number.
 fn add_child(
     allocs: &mut [u64],
     parents: &mut [u16],
@@ -323,13 +302,13 @@ fn add_child(
     used: Starts,
     t: Parts,
 ) -> usize
-    requires { ⌜ ((m : Memory) × (HoldsMarked m (now allocs) (now parents) (now protectors) (now codes) × Located m (provenanceOf (p .provenance)) n used t
-        × Passed m n node (p .addr) (length (now inside)))) ⌝ }
+    requires { ⌜ ((m : Memory) × (Located m (provenanceOf (p .provenance)) n used t × Passed m n node (p .addr) (length (now inside)) × Valid m
+        × HoldsMarked (afterReads m n node (p .addr) (now inside)) (now allocs) (now parents) (now protectors) (now codes))) ⌝ }
     requires { ⌜ p .provenance ≡ Of n node ⌝ }
-    requires { ⌜ ((mask : FreezeMask) × (now inside ≡ startCodes settings mask)) ⌝ }
-    ensures { λ r. ⌜ ((m : Memory) (mask : FreezeMask) → HoldsMarked m (now (allocs .entry)) (now (parents .entry)) (now (protectors .entry)) (now (codes .entry))
-        → Located m (provenanceOf (p .provenance)) n used t
-        → Passed m n node (p .addr) (length (now (inside .entry))) → now (inside .entry) ≡ startCodes settings mask
+    requires { ⌜ ((mask : FreezeMask) × (now inside ≡ insideCodes settings mask)) ⌝ }
+    ensures { λ r. ⌜ ((m : Memory) (mask : FreezeMask) → Located m (provenanceOf (p .provenance)) n used t → Passed m n node (p .addr) (length (now (inside .entry))) → Valid m
+        → HoldsMarked (afterReads m n node (p .addr) (now (inside .entry))) (now (allocs .entry)) (now (parents .entry)) (now (protectors .entry)) (now (codes .entry))
+        → now (inside .entry) ≡ insideCodes settings mask
         → Added (settingsOf settings mask) (thinPointerOf p) m n r (now (allocs .exit)) (now (parents .exit)) (now (protectors .exit)) (now (codes .exit))) ⌝ }
 {
     let a = tables::allocation_at(allocs, n);
@@ -337,7 +316,6 @@ fn add_child(
     let bytes = a.size;
     let from = place_in(a.address, p.addr, inside.len());
     let place = node_place(used, t);
-    let grown = grown_part(t);
     insert_child(
         allocs,
         parents,
@@ -351,13 +329,12 @@ fn add_child(
         bytes,
         place,
     );
-    apply_reads(parents, codes, inside, grown, child, from);
     child
 }
 
 // ---- the requests
 
-// A retag whose inside bytes start with these codes.
+// A retag whose inside bytes have these codes.
 fn reborrow_inside(
     allocs: &mut [u64],
     parents: &mut [u16],
@@ -369,7 +346,7 @@ fn reborrow_inside(
     entries: usize,
 ) -> Answer
     requires { ⌜ ((m : Memory) × HoldsMarked m (now allocs) (now parents) (now protectors) (now codes)) ⌝ }
-    requires { ⌜ ((mask : FreezeMask) × (now inside ≡ startCodes settings mask)) ⌝ }
+    requires { ⌜ ((mask : FreezeMask) × (now inside ≡ insideCodes settings mask)) ⌝ }
     ensures { λ r. ⌜ ((s : State) (frame : ℕ) (mask : FreezeMask) → HoldsMarked (s .memory) (now (allocs .entry)) (now (parents .entry)) (now (protectors .entry)) (now (codes .entry))
         → Asked s frame entries settings mask (now (inside .entry))
         → Retagged (settingsOf settings mask) frame (thinPointerOf p) s r (now (allocs .exit)) (now (parents .exit)) (now (protectors .exit)) (now (codes .exit))) ⌝ }
@@ -388,8 +365,13 @@ fn reborrow_inside(
             if bounds::never_made(allocs, provenance) {
                 return Answer::Refused(4);
             }
-            let used = tables::used(allocs);
             let t = parts::parts_at(allocs, n);
+            let starts = Starts {
+                words: t.word,
+                nodes: t.first,
+                codes: t.start,
+            };
+            let used = tables::used_from(allocs, n, starts);
             let refused = retag_refusal(
                 allocs,
                 parents,
@@ -428,7 +410,7 @@ fn reborrow_inside(
 }
 
 // A retag of `len` bytes, for whose frame, under a protector, so many entries are known. The mask says of each byte whether it is a freeze byte;
-// it is left with the codes that the bytes start with.
+// it is left with the bytes' codes.
 pub fn reborrow(
     allocs: &mut [u64],
     parents: &mut [u16],
@@ -445,11 +427,11 @@ pub fn reborrow(
     ensures { λ r. ⌜ ((s : State) (frame : ℕ) → HoldsMarked (s .memory) (now (allocs .entry)) (now (parents .entry)) (now (protectors .entry)) (now (codes .entry))
         → entries ≡ length (frames.entries (frameAt s frame))
         → Retagged (settingsOf settings (maskOf (take len (now (mask .entry))))) frame (thinPointerOf p) s r (now (allocs .exit)) (now (parents .exit)) (now (protectors .exit)) (now (codes .exit))) ⌝ }
-    ensures { λ _. ⌜ now (mask .exit) ≡ startCodes settings (maskOf (take len (now (mask .entry)))) ++ drop len (now (mask .entry)) ⌝ }
+    ensures { λ _. ⌜ now (mask .exit) ≡ insideCodes settings (maskOf (take len (now (mask .entry)))) ++ drop len (now (mask .entry)) ⌝ }
 {
     let pointer = settings.pointer;
     let protected = settings.protected;
-    start_codes(&mut mask[..len], pointer, protected);
+    inside_codes(&mut mask[..len], pointer, protected);
     reborrow_inside(
         allocs,
         parents,

@@ -4,6 +4,7 @@ use mathlib.Core.Path.{_≡_, refl, sym, ap, ap₂, _∙_}
 use mathlib.Core.List.{List, [], _∷_, _++_, append-nil}
 use native.Mathlib.Nat.{add-zero}
 use native.Mathlib.Numerals.{add-one}
+use native.Mathlib.Decide.{decLt}
 use native.Mathlib.Omega.{arith}
 use borrow.Author.Tests.{eq-eqb, ne-eqb}
 use lib.ListN.{length, take, drop, getD, replicate, length-append}
@@ -87,6 +88,13 @@ module _ {m : Memory} {A : List ℕ} (h : Records m A) where
 
     pub record-in : a * 6 + 6 ≤ length A
     record-in = omega (arith, allocs-length, h .valid .bounded .allocations)
+
+  -- the first that was not is behind the last of m
+  pub made-before : (i : ℕ) → i ≤ length m → (getD A (i * 6) 0 ≡ 0 → ⊥) → i < length m
+  made-before i l e = elim (decLt i (length m)) [ yes k ↦ k | no k ↦ absurd (e (zero-behind (i * 6) (omega arith))) ]
+
+  pub unmade-last : (i : ℕ) → i ≤ length m → getD A (i * 6) 0 ≡ 0 → i ≡ length m
+  unmade-last i l e = elim (decLt i (length m)) [ yes k ↦ absurd (state-nonzero i k e) | no k ↦ omega arith ]
 
 -- ---- the loop that counts the records made: at i it counts those from record i on
 pub front-at : (A : List ℕ) (i q : ℕ) → getD (drop (i * 6) A) q 0 ≡ getD A (i * 6 + q) 0

@@ -5,10 +5,11 @@ use mathlib.Core.List.{List, [], _∷_, _++_, append-assoc, append-nil}
 use native.Mathlib.Nat.{zero-add, suc-add}
 use native.Mathlib.Omega.{arith}
 use borrow.Rule.Slice.PartMut.{putMid, midOf}
-use lib.ListN.{length, take, drop, replicate, length-append, length-drop, length-replicate, drop-of-length-le}
+use lib.ListN.{length, take, drop, replicate, take-append-drop, length-append, length-drop, length-replicate, replicate-append-replicate, drop-of-length-le}
 use lib.Seq.{take-append-add, drop-append-add, take-append-le, drop-append-le, take-at, drop-at, take-all, take-length, drop-drop, paste, length-take-le, take-take}
 use Rattle.definition.specs.Notation.{writeAt}
 use Rattle.definition.proofs.Parts.{take-zeros}
+use Rattle.definition.proofs.Writes.{write-none}
 use Rattle.tables.specs.Held.{inserted}
 
 -- ---- a part x with l before and r behind
@@ -44,6 +45,43 @@ write-paste zero [] (x ∷ xs) h = refl
 write-paste zero (y ∷ ys) (x ∷ xs) h =
     rw (zero-add (suc (length ys))) (ap (λ (t : List ℕ). y ∷ t) (write-paste zero ys xs (omega arith) ∙ rw (zero-add (length ys))))
 write-paste (suc n) ys (x ∷ xs) h = rw (suc-add n (length ys)) (ap (λ (t : List ℕ). x ∷ t) (write-paste n ys xs (omega arith)))
+
+pub write-between : (n : ℕ) (l x r ys : List ℕ) → n ≡ length l → length ys ≡ length x → writeAt n ys (l ++ (x ++ r)) ≡ l ++ (ys ++ r)
+unfolding writeAt
+write-between zero [] [] r [] e k = write-none 0 r
+write-between zero [] (a ∷ x) r (y ∷ ys) e k = ap (λ (t : List ℕ). y ∷ t) (write-between zero [] x r ys refl (omega arith))
+write-between (suc n) (a ∷ l) x r ys e k = ap (λ (t : List ℕ). a ∷ t) (write-between n l x r ys (omega arith) k)
+write-between zero [] [] r (y ∷ ys) e k = absurd (omega arith)
+write-between zero [] (a ∷ x) r [] e k = absurd (omega arith)
+write-between zero (a ∷ l) x r ys e k = absurd (omega arith)
+write-between (suc n) [] x r ys e k = absurd (omega arith)
+
+-- a row made from the front: as many x as stand before ys, then ys, then x to the end
+pub three-parts : (row ys : List ℕ) (from x : ℕ) → from + length ys ≤ length row
+    → writeAt (from + length ys) (replicate (length row - (from + length ys)) x) (writeAt from ys (replicate from x ++ drop from row)) ≡ writeAt from ys (replicate (length row) x)
+three-parts row ys from x h =
+    let k : ℕ = length ys in
+    let b : ℕ = length row - (from + k) in
+    let front : List ℕ = replicate from x in
+    let rest : List ℕ = drop from row in
+    let long : from ≡ length front = sym (length-replicate from x) in
+    let behind : length (drop k rest) ≡ b = length-drop k rest ∙ omega (arith, length-drop from row) in
+    let first : writeAt from ys (front ++ rest) ≡ front ++ (ys ++ drop k rest) =
+    ap (λ (t : List ℕ). writeAt from ys (front ++ t)) (sym (take-append-drop k rest))
+    ∙ write-between from front (take k rest) (drop k rest) ys long (sym (length-take-le k rest (omega (arith, length-drop from row)))) in
+    let second : writeAt (from + k) (replicate b x) ((front ++ ys) ++ (drop k rest ++ [])) ≡ (front ++ ys) ++ (replicate b x ++ []) =
+    write-between (from + k) (front ++ ys) (drop k rest) [] (replicate b x) (omega (arith, length-append front ys, long)) (length-replicate b x ∙ sym behind) in
+    let third : writeAt from ys (front ++ (replicate k x ++ replicate b x)) ≡ front ++ (ys ++ replicate b x) =
+    write-between from front (replicate k x) (replicate b x) ys long (sym (length-replicate k x)) in
+    let all : from + (k + b) ≡ length row = omega arith in
+    let whole : front ++ (replicate k x ++ replicate b x) ≡ replicate (length row) x =
+    ap (λ (t : List ℕ). front ++ t) (replicate-append-replicate k b x) ∙ replicate-append-replicate from (k + b) x ∙ ap (λ (n : ℕ). replicate n x) all in
+    ap (writeAt (from + k) (replicate b x)) (first ∙ sym (append-assoc front ys (drop k rest)) ∙ ap (λ (t : List ℕ). (front ++ ys) ++ t) (sym (append-nil (drop k rest))))
+    ∙ second
+    ∙ ap (λ (t : List ℕ). (front ++ ys) ++ t) (append-nil (replicate b x))
+    ∙ append-assoc front ys (replicate b x)
+    ∙ sym third
+    ∙ ap (writeAt from ys) whole
 
 -- a row put in behind x, with zeros at the end
 pub insert-between : (l x r row : List ℕ) (z : ℕ) → length row ≤ z

@@ -92,13 +92,35 @@ pub fn starts_at(allocs: &[u64], a: usize) -> Starts
     }
 }
 
-// How much of the buffers is used, by the living and the dead.
-pub fn used(allocs: &[u64]) -> Starts
-    requires { ⌜ ((m : Memory) × Records m (now allocs)) ⌝ }
-    ensures { λ r. ⌜ ((m : Memory) → Records m (now (allocs .entry)) → Used m (r .words) (r .nodes) (r .codes)) ⌝ }
+// How much of the buffers is used, by the living and the dead: from where allocation a's parts start, on over it and those behind it.
+pub fn used_from(allocs: &[u64], a: usize, starts: Starts) -> Starts
+    requires { ⌜ ((m : Memory) × (Records m (now allocs) × (a ≤ length m) × StartsAt m a (starts .words) (starts .nodes) (starts .codes))) ⌝ }
+    ensures { λ r. ⌜ ((m : Memory) → Records m (now (allocs .entry)) → StartsAt m a (starts .words) (starts .nodes) (starts .codes) → Used m (r .words) (r .nodes) (r .codes)) ⌝ }
 {
-    let count = made_count(allocs);
-    starts_at(allocs, count)
+    let mut words = starts.words;
+    let mut nodes = starts.nodes;
+    let mut codes = starts.codes;
+    let mut k = a;
+    while k < 128 {
+        if allocs[k * 6] == 0 {
+            return Starts {
+                words,
+                nodes,
+                codes,
+            };
+        }
+        let size = allocs[k * 6 + 4] as usize;
+        let count = allocs[k * 6 + 5] as usize;
+        words += size;
+        nodes += count;
+        codes += count * size;
+        k += 1;
+    }
+    Starts {
+        words,
+        nodes,
+        codes,
+    }
 }
 
 // ---- addresses
@@ -216,9 +238,11 @@ pub fn make_row(row: &mut [u8], inside: &[u8], outside: u8, from: usize)
     requires { ⌜ from + length (now inside) ≤ length (now row) ⌝ }
     ensures { λ _. ⌜ now (row .exit) ≡ writeAt from (now (inside .entry)) (replicate (length (now (row .entry))) outside) ⌝ }
 {
-    let width = row.len();
-    fill(row, width, outside);
+    let end = from + inside.len();
+    let behind = row.len() - end;
+    fill(row, from, outside);
     copy_row(&mut row[from..], inside);
+    fill(&mut row[end..], behind, outside);
 }
 
 // Puts such a row in at p, of `width`, and makes it there.

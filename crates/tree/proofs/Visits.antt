@@ -10,7 +10,7 @@ use lib.ListN.{length, take, replicate, length-map}
 use lib.Seq.{take-length}
 use Rattle.definition.specs.Permission.{AccessKind, Permission, endAccess, initAccess, code, permission}
 use Rattle.definition.specs.Permission.AccessKind.{Read}
-use Rattle.definition.specs.Tree.{Node, nodeAt, isAbove, Visit, visitRefusal, visited, accessVisit}
+use Rattle.definition.specs.Tree.{Node, nodeAt, isAbove, Visit, visited, accessVisit}
 use Rattle.definition.specs.Frame.{releaseVisit}
 use Rattle.definition.proofs.Trees.{Parents, not-above-smaller}
 use Rattle.definition.proofs.Order.{walk-none, walk-some}
@@ -25,7 +25,7 @@ use Rattle.visit.specs.declared.Accesses.the-variants.{Each, AtEnd, AtInit}
 use Rattle.visit.specs.declared.Reach.{Reach}
 use Rattle.tree.specs.Table.{rowsOf, Holds}
 use Rattle.visit.specs.Walk.{Ready, EndsWith, accessesAt}
-use Rattle.tree.specs.Requests.{unlessRefused, Visited}
+use Rattle.tree.specs.Requests.{unlessRefused, Made}
 use Rattle.tree.proofs.Held.{rows-length}
 use Rattle.tree.proofs.Meaning.{Means}
 use Rattle.tree.proofs.Inits.{init-access-permission}
@@ -116,9 +116,9 @@ accepted-nodes r before after z = rw (eq-eqb r 0 z)
 pub refused-nodes : (r : ℕ) (before after : List Node) → (r ≡ 0 → ⊥) → unlessRefused r before after ≡ before
 refused-nodes r before after z = rw (ne-eqb r 0 z)
 
-module _ (v : Visit) (nodes : List Node) (answer : ℕ) (codes : List ℕ) (e : answer ≡ visitRefusal v nodes) where
-  pub visit-accepted : answer ≡ 0 → codes ≡ rowsOf (visited v nodes) → Visited v nodes answer codes
-  visit-accepted z t = record { refusal = e; table = t ∙ ap rowsOf (sym (accepted-nodes (visitRefusal v nodes) nodes (visited v nodes) (sym e ∙ z))) }
+module _ {refused : ℕ} (v : Visit) (nodes : List Node) (answer : ℕ) (codes : List ℕ) (e : answer ≡ refused) where
+  pub visit-accepted : answer ≡ 0 → codes ≡ rowsOf (visited v nodes) → Made refused v nodes answer codes
+  visit-accepted z t = record { refusal = e; table = t ∙ ap rowsOf (sym (accepted-nodes refused nodes (visited v nodes) (sym e ∙ z))) }
 
-  pub visit-refused : (answer ≡ 0 → ⊥) → codes ≡ rowsOf nodes → Visited v nodes answer codes
-  visit-refused z t = record { refusal = e; table = t ∙ ap rowsOf (sym (refused-nodes (visitRefusal v nodes) nodes (visited v nodes) (λ q. z (e ∙ q)))) }
+  pub visit-refused : (answer ≡ 0 → ⊥) → codes ≡ rowsOf nodes → Made refused v nodes answer codes
+  visit-refused z t = record { refusal = e; table = t ∙ ap rowsOf (sym (refused-nodes refused nodes (visited v nodes) (λ q. z (e ∙ q)))) }

@@ -5,22 +5,31 @@ use mathlib.Core.List.{List}
 use lib.Dec.{eqb}
 use Rattle.definition.specs.Notation.{if_then_else_, _when_, _or_, any}
 use Rattle.definition.specs.Refusal.{notProtected, strongProtector}
+use Rattle.definition.specs.Permission.{Permission}
 use Rattle.definition.specs.Permission.AccessKind.{Write}
 use Rattle.definition.specs.Tree.{Node, nodeAt, Visit, accessVisit, visitRefusal, visited}
 use Rattle.definition.specs.Memory.{Liveness, nodePreventsDeallocation}
 use Rattle.definition.specs.Memory.Liveness.{Live}
 use Rattle.definition.specs.Frame.{lacksProtector, releaseVisitRefusal, releasedNodes}
+use Rattle.definition.proofs.Retags.{readsRefusal, readsVisit}
 use Rattle.tree.specs.Table.{rowsOf, marks}
 
 -- nothing changes where there is a refusal
 abbrev pub unlessRefused : ℕ → List Node → List Node → List Node
 unlessRefused refused before after = if eqb refused 0 then after else before
 
+-- the answer is what the visit is refused for, and the table is as the visit leaves it
+pub record Made (refused : ℕ) (v : Visit) (nodes : List Node) (answer : ℕ) (codes : List ℕ) : Type 0 where
+  pub refusal : answer ≡ refused
+  pub table : codes ≡ rowsOf (unlessRefused refused nodes (visited v nodes))
+
 -- ---- load, store
--- the answer is the visit's refusal, and the table is as the visit leaves it
-pub record Visited (v : Visit) (nodes : List Node) (answer : ℕ) (codes : List ℕ) : Type 0 where
-  pub refusal : answer ≡ visitRefusal v nodes
-  pub table : codes ≡ rowsOf (unlessRefused (visitRefusal v nodes) nodes (visited v nodes))
+abbrev pub Visited : Visit → List Node → ℕ → List ℕ → Type 0
+Visited v nodes = Made (visitRefusal v nodes) v nodes
+
+-- ---- retag: the reads of the inside bytes, refused byte by byte
+abbrev pub ReadsMade : ℕ → ℕ → List Permission → List Node → ℕ → List ℕ → Type 0
+ReadsMade node from inside nodes = Made (readsRefusal node from inside nodes) (readsVisit node from inside) nodes
 
 -- ---- deallocate: the write to all bytes, and 24 on what it leaves
 unfoldable pub deallocateRefusal : ℕ → ℕ → List Node → ℕ
@@ -28,9 +37,8 @@ deallocateRefusal node width nodes =
     let write = accessVisit Write node 0 width in
     visitRefusal write nodes or strongProtector when any nodePreventsDeallocation (visited write nodes)
 
-pub record Deallocated (node width : ℕ) (nodes : List Node) (answer : ℕ) (codes : List ℕ) : Type 0 where
-  pub refusal : answer ≡ deallocateRefusal node width nodes
-  pub table : codes ≡ rowsOf (unlessRefused (deallocateRefusal node width nodes) nodes (visited (accessVisit Write node 0 width) nodes))
+abbrev pub Deallocated : ℕ → ℕ → List Node → ℕ → List ℕ → Type 0
+Deallocated node width nodes = Made (deallocateRefusal node width nodes) (accessVisit Write node 0 width) nodes
 
 -- ---- the release of one node: 16, and then what the accesses of its protector's end meet
 unfoldable pub releaseRefusal : Liveness → ℕ → List Node → ℕ

@@ -10,5 +10,4 @@ pub use accesses::stays;
 pub use deallocation::deallocate;
 pub use protector::release;
 pub use protector::release_dead;
-pub use retag::apply_reads;
-pub use retag::reads_refusal;
+pub use retag::make_reads;

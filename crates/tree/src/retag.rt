@@ -14,6 +14,7 @@ ghost use Rattle.definition.specs.Permission.{permission};
 ghost use Rattle.definition.specs.Tree.{visitRefusal, visited};
 ghost use Rattle.definition.proofs.Retags.{readsRefusal, readsVisit};
 ghost use Rattle.tree.specs.Table.{rowsOf, Holds, Some, Each};
+ghost use Rattle.tree.specs.Requests.{ReadsMade};
 
 // The first refusal of a retag's reads, or 0: byte by byte over the whole tree, each on the tree as it stands.
 fn first_refused_read(
@@ -89,9 +90,9 @@ fn reads_quiet(
     false
 }
 
-// A retag's reads through a node, of the bytes from `from` on whose start codes are `inside`, but for Cell: the first refusal, byte by byte over the
-// whole tree, or 0. One visit of all bytes tells whether there is any; where there is, which comes first is looked for.
-pub fn reads_refusal(
+// The first refusal, byte by byte over the whole tree, or 0. One visit of all bytes tells whether there is any; where there is, which comes first is
+// looked for.
+fn reads_refusal(
     parents: &[u16],
     codes: &[u8],
     inside: &[u8],
@@ -110,7 +111,7 @@ pub fn reads_refusal(
 }
 
 // The same reads made, all in one visit.
-pub fn apply_reads(
+fn apply_reads(
     parents: &[u16],
     codes: &mut [u8],
     inside: &[u8],
@@ -146,4 +147,56 @@ pub fn apply_reads(
         let unmarked = [0u8; 1];
         visit::apply(&unmarked, parents, codes, inside, &lines, &table, v);
     }
+}
+
+// Every byte is read, and the reads pass and leave every code as it is: so it is with most retags.
+fn reads_stay(
+    parents: &[u16],
+    codes: &[u8],
+    inside: &[u8],
+    width: usize,
+    node: usize,
+    from: usize,
+) -> bool
+    requires { ⌜ Some (λ nodes. Holds nodes width (now parents) (now codes)) ⌝ }
+    requires { ⌜ (node < length (now parents)) × (from + length (now inside) ≤ width) ⌝ }
+    ensures { λ r. ⌜ (r ≡ true → Each (λ nodes. Holds nodes width (now (parents .entry)) (now (codes .entry))) (λ nodes. ReadsMade node from (map permission (now (inside .entry))) nodes 0 (now (codes .entry)))) ⌝ }
+{
+    let lines = permission::init_lines();
+    if !all_read(inside, &lines) {
+        return false;
+    }
+    let all = Reach {
+        node,
+        spared: parents.len(),
+        width,
+        from,
+        len: inside.len(),
+        what: Accesses::Each(AccessKind::Read),
+    };
+    visit::all_stay(parents, codes, all, AccessKind::Read)
+}
+
+// A retag's reads through a node, of the bytes from `from` on whose start codes are `inside`, but for Cell: the first refusal, byte by byte over the
+// whole tree, with the table as it was; or 0, with every visited code as the reads leave it.
+pub fn make_reads(
+    parents: &[u16],
+    codes: &mut [u8],
+    inside: &[u8],
+    width: usize,
+    node: usize,
+    from: usize,
+) -> u8
+    requires { ⌜ Some (λ nodes. Holds nodes width (now parents) (now codes)) ⌝ }
+    requires { ⌜ (node < length (now parents)) × (from + length (now inside) ≤ width) ⌝ }
+    ensures { λ r. ⌜ Each (λ nodes. Holds nodes width (now (parents .entry)) (now (codes .entry))) (λ nodes. ReadsMade node from (map permission (now (inside .entry))) nodes r (now (codes .exit))) ⌝ }
+{
+    if reads_stay(parents, codes, inside, width, node, from) {
+        return 0;
+    }
+    let refused = reads_refusal(parents, codes, inside, width, node, from);
+    if refused == 0 {
+        apply_reads(parents, codes, inside, width, node, from);
+    }
+    refused
 }

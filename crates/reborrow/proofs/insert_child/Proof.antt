@@ -1,6 +1,7 @@
 -- The row is the codes of the definition's child.
 use native.Mathlib.Omega.{arith}
 use borrow.Author.Needs.{needs}
+use Rattle.definition.proofs.Retags.{settingsAfterInit}
 use Rattle.reborrow.specs.Settings.{settingsOf, childAt}
 use Rattle.reborrow.proofs.Children.{child-fits}
 use Rattle.reborrow.proofs.Grown.{count-small}
@@ -24,7 +25,7 @@ insert-node-at-requires c κs =
       (
         s .pre .0 .0,
         (
-          childAt (settingsOf (s .args .settings) mask) (s .args .node) (s .args .from) (s .args .bytes),
+          childAt (settingsAfterInit (settingsOf (s .args .settings) mask)) (s .args .node) (s .args .from) (s .args .bytes),
           (child-fits (s .args .settings) mask h fits long e (c .before .before .before .before .before .start-code .ensures) (c .before .before .before .before .protector-number .ensures), at),
         ),
       ),
@@ -46,7 +47,7 @@ same-length-4 c = search needs
 returns : tie.Need-returns
 returns c = λ m mask h fits long at e.
     let s = c .before .before .before .before .before .before .before .before .before .before .before .before .before .before .before .before .before .before .before .before in
-    c .before .before .before .before .before .before .before .before .insert-node-at .ensures m (childAt (settingsOf (s .args .settings) mask) (s .args .node) (s .args .from) (s .args .bytes))
+    c .before .before .before .before .before .before .before .before .insert-node-at .ensures m (childAt (settingsAfterInit (settingsOf (s .args .settings) mask)) (s .args .node) (s .args .from) (s .args .bytes))
     (child-fits (s .args .settings) mask h fits long e (c .before .before .before .before .before .before .before .before .before .before .before .before .before .before .start-code .ensures) (c .before .before .before .before .before .before .before .before .before .before .before .before .before .protector-number .ensures)) at
 
 pub insert-child-spec : {M : Type 1} → statement M

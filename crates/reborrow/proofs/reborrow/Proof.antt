@@ -10,14 +10,14 @@ use Rattle.reborrow.specs.Settings.{maskOf}
 use Rattle.reborrow.proofs.reborrow.Statement.{statement}
 use Rattle.reborrow.proofs.reborrow.Tie as tie
 
-slice-relend-prefix-start-codes : tie.Need-slice-relend-prefix-start-codes
-slice-relend-prefix-start-codes c = search needs
+slice-relend-prefix-inside-codes : tie.Need-slice-relend-prefix-inside-codes
+slice-relend-prefix-inside-codes c = search needs
 
-slice-aggregate-start-codes : tie.Need-slice-aggregate-start-codes
-slice-aggregate-start-codes c = sym (length-take-le (c .before .before .before .before .before .before .args .len) (c .before .before .before .before .before .before .args .mask .now) (c .before .before .before .before .before .before .pre .1))
+slice-aggregate-inside-codes : tie.Need-slice-aggregate-inside-codes
+slice-aggregate-inside-codes c = sym (length-take-le (c .before .before .before .before .before .before .args .len) (c .before .before .before .before .before .before .args .mask .now) (c .before .before .before .before .before .before .pre .1))
 
-start-codes-requires : tie.Need-start-codes-requires
-start-codes-requires c κs = search needs
+inside-codes-requires : tie.Need-inside-codes-requires
+inside-codes-requires c κs = search needs
 
 slice-reshare-prefix-reborrow-inside : tie.Need-slice-reshare-prefix-reborrow-inside
 slice-reshare-prefix-reborrow-inside c = search needs
@@ -26,8 +26,8 @@ slice-aggregate-reborrow-inside : tie.Need-slice-aggregate-reborrow-inside
 slice-aggregate-reborrow-inside c =
     let t = c .before .before .before .before .before .before .before .before .before .before .before .before .before .before in
     let M = now (t .args .mask) in
-    let codes = c .before .before .before .before .before .before .before .start-codes .last .0 in
-    let long : length codes ≡ t .args .len = c .before .before .before .before .before .before .before .start-codes .kept .0 ∙ length-take-le (t .args .len) M (t .pre .1) in
+    let codes = c .before .before .before .before .before .before .before .inside-codes .last .0 in
+    let long : length codes ≡ t .args .len = c .before .before .before .before .before .before .before .inside-codes .kept .0 ∙ length-take-le (t .args .len) M (t .pre .1) in
     let front = take-at codes (drop (t .args .len) M) (t .args .len) long in
     sym (ap length front ∙ long)
 
@@ -35,10 +35,10 @@ reborrow-inside-requires : tie.Need-reborrow-inside-requires
 reborrow-inside-requires c κs =
     let t = c .before .before .before .before .before .before .before .before .before .before .before .before .before .before in
     let M = now (t .args .mask) in
-    let codes = c .before .before .before .before .before .before .before .start-codes .last .0 in
-    let long : length codes ≡ t .args .len = c .before .before .before .before .before .before .before .start-codes .kept .0 ∙ length-take-le (t .args .len) M (t .pre .1) in
+    let codes = c .before .before .before .before .before .before .before .inside-codes .last .0 in
+    let long : length codes ≡ t .args .len = c .before .before .before .before .before .before .before .inside-codes .kept .0 ∙ length-take-le (t .args .len) M (t .pre .1) in
     let front = take-at codes (drop (t .args .len) M) (t .args .len) long in
-    (t .pre .0, (maskOf (take (t .args .len) M), front ∙ c .before .before .before .before .before .before .before .start-codes .ensures))
+    (t .pre .0, (maskOf (take (t .args .len) M), front ∙ c .before .before .before .before .before .before .before .inside-codes .ensures))
 
 same-length : tie.Need-same-length
 same-length c = search needs
@@ -59,20 +59,20 @@ returns : tie.Need-returns
 returns c =
     let t = c .before .before .before .before .before .before .before .before .before .before .before .before .before .before .before .before .before .before .before .before .before .before .before in
     let M = now (t .args .mask) in
-    let codes = c .before .before .before .before .before .before .before .before .before .before .before .before .before .before .before .before .start-codes .last .0 in
-    let long : length codes ≡ t .args .len = c .before .before .before .before .before .before .before .before .before .before .before .before .before .before .before .before .start-codes .kept .0 ∙ length-take-le (t .args .len) M (t .pre .1) in
+    let codes = c .before .before .before .before .before .before .before .before .before .before .before .before .before .before .before .before .inside-codes .last .0 in
+    let long : length codes ≡ t .args .len = c .before .before .before .before .before .before .before .before .before .before .before .before .before .before .before .before .inside-codes .kept .0 ∙ length-take-le (t .args .len) M (t .pre .1) in
     let front = take-at codes (drop (t .args .len) M) (t .args .len) long in (
-      λ s frame h e. c .before .before .before .before .before .before .before .before .reborrow-inside .ensures s frame (maskOf (take (t .args .len) M)) h (record { entered = e; inside = front ∙ c .before .before .before .before .before .before .before .before .before .before .before .before .before .before .before .before .start-codes .ensures }),
-      ap (λ (l : List ℕ). l ++ drop (t .args .len) M) (c .before .before .before .before .before .before .before .before .before .before .before .before .before .before .before .before .start-codes .ensures),
+      λ s frame h e. c .before .before .before .before .before .before .before .before .reborrow-inside .ensures s frame (maskOf (take (t .args .len) M)) h (record { entered = e; inside = front ∙ c .before .before .before .before .before .before .before .before .before .before .before .before .before .before .before .before .inside-codes .ensures }),
+      ap (λ (l : List ℕ). l ++ drop (t .args .len) M) (c .before .before .before .before .before .before .before .before .before .before .before .before .before .before .before .before .inside-codes .ensures),
     )
 
 pub reborrow-spec : {M : Type 1} → statement M
 reborrow-spec =
     tie.close
     (tie.spec
-    slice-relend-prefix-start-codes
-    slice-aggregate-start-codes
-    start-codes-requires
+    slice-relend-prefix-inside-codes
+    slice-aggregate-inside-codes
+    inside-codes-requires
     slice-reshare-prefix-reborrow-inside
     slice-aggregate-reborrow-inside
     reborrow-inside-requires

@@ -1,7 +1,8 @@
--- The tests, or, where they refuse nothing, the reads through the parent.
+-- The tests, or, where they refuse nothing, the reads through the parent, which are made.
 use Prim.Native.Nat.{ℕ}
 use mathlib.Core.Path.{_≡_, sym, ap, _∙_}
 use native.Mathlib.Omega.{arith}
+use borrow.Author.Needs.{needs}
 use denote.Ref.{now}
 use lib.ListN.{length}
 use Rattle.definition.specs.Memory.{Memory, allocationAt}
@@ -14,7 +15,7 @@ use Rattle.parts.specs.Trees.{HoldsTrees}
 use Rattle.parts.proofs.Lent.{tree-at}
 use Rattle.reborrow.specs.Retag.{Located, Passed}
 use Rattle.reborrow.specs.Settings.{placeIn}
-use Rattle.reborrow.proofs.Children.{refused-by-tests, refused-by-reads}
+use Rattle.reborrow.proofs.Children.{tested-refused, tested-read, refused-by-tests, refused-by-reads}
 use Rattle.reborrow.proofs.Tests.{passed-at, fits-at}
 use Rattle.reborrow.proofs.retag_refusal.Statement.{statement}
 use Rattle.reborrow.proofs.retag_refusal.Tie as tie
@@ -44,7 +45,7 @@ returns c =
     let t = c .before .before .before .before .before .before in (
       λ s frame mask h l a.
           refused-by-tests (t .args .settings) mask frame (t .args .entries) s a (t .args .p) _ (c .before .bounds-refusal .ensures (s .memory) (record { records = h .records; made = l .made }) (l .used)) (c .if1 .taken),
-      λ m h l z. absurd (c .if1 .taken z),
+      λ m h l. tested-refused (now (t .args .inside)) (c .if1 .taken) (h .codes),
     )
 
 allocation-at-requires : tie.Need-allocation-at-requires
@@ -56,20 +57,28 @@ place-in-requires c κs =
     let passed = tests-passed (c .before) m h l in
     λ long. omega (arith, read-address (h .records) (passed .fits .reached .made) (c .allocation-at .ensures), passed .above long)
 
-reads-refusal-requires : tie.Need-reads-refusal-requires
-reads-refusal-requires c κs =
-    let t = c .before .before .before .before .before .before .before .before in
+make-reads-requires : tie.Need-make-reads-requires
+make-reads-requires c κs =
+    let t = c .before .before .before .before .before .before .before .before .before in
     let (m, (h, l)) = t .pre .0 in
-    (m, (t .args .n, (tree-at h (l .part), fits-at (tests-passed (c .before .before) m h l) (place c m h l) .reached)))
+    (m, (t .args .n, (tree-at h (l .part), fits-at (tests-passed (c .before .before .before) m h l) (place (c .before) m h l) .reached)))
+
+same-length : tie.Need-same-length
+same-length c = search needs
 
 returns-2 : tie.Need-returns-2
 returns-2 c =
-    let t = c .before .before .before .before .before .before .before .before .before in (
+    let t = c .before .before .before .before .before .before .before .before .before .before .before .before in
+    let reads = c .before .before .make-reads in (
       λ s frame mask h l a.
-          c .reads-refusal .ensures (s .memory) (t .args .n) (tree-at h (l .part)) (fits-at (tests-passed (c .before .before .before) (s .memory) h l) (place (c .before) (s .memory) h l) .reached)
+          let at = place (c .before .before .before .before) (s .memory) h l in
+          reads .ensures (s .memory) (t .args .n) (tree-at h (l .part)) (fits-at (tests-passed (c .before .before .before .before .before .before) (s .memory) h l) at .reached) .refusal
           ∙ refused-by-reads (t .args .settings) mask frame (t .args .entries) s a (t .args .p) (t .pre .1) (h .records .valid)
-          (sym (c .before .before .before .before .bounds-refusal .ensures (s .memory) (record { records = h .records; made = l .made }) (l .used)) ∙ c .before .before .before .if1 .left) (place (c .before) (s .memory) h l),
-      λ m h l e. tests-passed (c .before .before .before) m h l,
+          (sym (c .before .before .before .before .before .before .before .bounds-refusal .ensures (s .memory) (record { records = h .records; made = l .made }) (l .used)) ∙ c .before .before .before .before .before .before .if1 .left) at,
+      λ m h l.
+          let at = place (c .before .before .before .before) m h l in
+          let passed = tests-passed (c .before .before .before .before .before .before) m h l in
+          tested-read (now (t .args .inside)) passed at (reads .ensures m (t .args .n) (tree-at h (l .part)) (fits-at passed at .reached)),
     )
 
 pub retag-refusal-spec : {M : Type 1} → statement M
@@ -80,5 +89,6 @@ retag-refusal-spec =
     returns
     allocation-at-requires
     place-in-requires
-    reads-refusal-requires
+    make-reads-requires
+    same-length
     returns-2)

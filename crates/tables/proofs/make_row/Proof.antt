@@ -1,16 +1,27 @@
--- The row is filled with the outside code, and the inside codes are written over it.
-use Prim.Native.Nat.{_+_, _-_, _≤_}
+-- What goes before the inside codes, these, and what goes behind them are written one after the other.
+use Prim.Native.Nat.{ℕ, _+_, _-_, _≤_}
 use mathlib.Core.Path.{_≡_, sym, ap, _∙_}
+use mathlib.Core.List.{List, _++_}
 use native.Mathlib.Omega.{arith}
-use borrow.Rule.Slice.PartMut.{putMid}
+use borrow.Rule.Slice.PartMut.{putMid, midOf}
 use borrow.Author.Needs.{needs}
 use denote.Ref.{now}
-use lib.ListN.{length}
+use lib.ListN.{length, drop, replicate, length-replicate}
 use Rattle.definition.specs.Notation.{writeAt}
-use Rattle.definition.proofs.Parts.{fill-all}
-use Rattle.tables.proofs.Parts.{put-paste, write-paste}
+use Rattle.definition.proofs.Writes.{write-length}
+use Rattle.tables.proofs.Parts.{put-paste, write-paste, three-parts}
 use Rattle.tables.proofs.make_row.Statement.{statement}
 use Rattle.tables.proofs.make_row.Tie as tie
+
+-- what comes back of a part from p to the end, whose front a callee wrote as s: s is written at p
+put-write : (d s : List ℕ) (p : ℕ) {back : List ℕ} → p + length s ≤ length d → back ≡ s ++ drop (length s) (midOf p (length d - p) d) → putMid p (length d - p) d back ≡ writeAt p s d
+put-write d s p h e = ap (putMid p (length d - p) d) e ∙ put-paste d s p h ∙ sym (write-paste p s d h)
+
+add-end : tie.Need-add-end
+add-end c = search needs
+
+sub-behind : tie.Need-sub-behind
+sub-behind c = search needs
 
 fill-requires : tie.Need-fill-requires
 fill-requires c κs = search needs
@@ -27,27 +38,52 @@ part-copy-row-end c = search needs
 copy-row-requires : tie.Need-copy-row-requires
 copy-row-requires c κs = search needs
 
+sub-fill : tie.Need-sub-fill
+sub-fill c = search needs
+
+part-fill-start : tie.Need-part-fill-start
+part-fill-start c = search needs
+
+part-fill-end : tie.Need-part-fill-end
+part-fill-end c = search needs
+
+fill-requires-2 : tie.Need-fill-requires-2
+fill-requires-2 c κs = search needs
+
 same-length : tie.Need-same-length
 same-length c = search needs
 
 returns : tie.Need-returns
 returns c =
-    let a = c .before .before .before .before .before .before .before .before .before .before .args in
+    let a = c .before .before .before .before .before .before .before .before .before .before .before .before .before .before .args in
+    let row = now (a .row) in
     let I = now (a .inside) in
-    let D = c .before .before .before .before .before .before .fill .last .0 in
-    let k : length D ≡ length (now (a .row)) = c .before .before .before .before .before .before .fill .kept .0 in
-    let h : a .from + length I ≤ length D = omega arith in
-    ap (putMid (a .from) (length D - a .from) D) (c .before .before .copy-row .ensures) ∙ put-paste D I (a .from) h ∙ sym (write-paste (a .from) I D h)
-    ∙ ap (writeAt (a .from) I) (c .before .before .before .before .before .before .fill .ensures ∙ fill-all (length (now (a .row))) (a .outside) (now (a .row)) (omega arith))
+    let e = a .from + length I in
+    let behind = replicate (length row - e) (a .outside) in
+    let D1 = c .before .before .before .before .before .before .before .before .before .before .fill .last .0 in
+    let k1 : length D1 ≡ length row = c .before .before .before .before .before .before .before .before .before .before .fill .kept .0 in
+    let D2 = putMid (a .from) (length D1 - a .from) D1 (c .before .before .before .before .before .before .copy-row .last .0) in
+    let middle : D2 ≡ writeAt (a .from) I D1 = put-write D1 I (a .from) (omega arith) (c .before .before .before .before .before .before .copy-row .ensures) in
+    let k2 : length D2 ≡ length row = ap length middle ∙ write-length (a .from) I D1 ∙ k1 in
+    put-write D2 behind e (omega (arith, length-replicate (length row - e) (a .outside)))
+    (c .before .before .fill2 .ensures ∙ ap (λ (k : ℕ). behind ++ drop k (midOf e (length D2 - e) D2)) (sym (length-replicate (length row - e) (a .outside))))
+    ∙ ap (writeAt e behind) (middle ∙ ap (writeAt (a .from) I) (c .before .before .before .before .before .before .before .before .before .before .fill .ensures))
+    ∙ three-parts row I (a .from) (a .outside) (omega arith)
 
 pub make-row-spec : {M : Type 1} → statement M
 make-row-spec =
     tie.close
     (tie.spec
+    add-end
+    sub-behind
     fill-requires
     sub-copy-row
     part-copy-row-start
     part-copy-row-end
     copy-row-requires
+    sub-fill
+    part-fill-start
+    part-fill-end
+    fill-requires-2
     same-length
     returns)

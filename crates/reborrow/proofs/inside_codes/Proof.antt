@@ -5,8 +5,8 @@ use native.Mathlib.Omega.{arith}
 use borrow.Author.Needs.{needs}
 use lib.ListN.{length, length-set}
 use Rattle.reborrow.proofs.Codes.{madeTo, next-made, all-made, codes-chosen}
-use Rattle.reborrow.proofs.start_codes.Statement.{statement}
-use Rattle.reborrow.proofs.start_codes.Tie as tie
+use Rattle.reborrow.proofs.inside_codes.Statement.{statement}
+use Rattle.reborrow.proofs.inside_codes.Tie as tie
 
 abbrev Inv-loop : tie.InvT-loop
 Inv-loop mask₀ freeze cell i₀ mask i = (i ≤ length mask₀) × (length mask ≡ length mask₀) × (mask ≡ madeTo freeze cell mask₀ i)
@@ -14,11 +14,11 @@ Inv-loop mask₀ freeze cell i₀ mask i = (i ≤ length mask₀) × (length mas
 abbrev μ-loop : tie.MeasureT-loop
 μ-loop mask₀ freeze cell i₀ mask i = length mask₀ - i
 
-start-code-requires : tie.Need-start-code-requires Inv-loop μ-loop
-start-code-requires c κs = search needs
+inside-code-requires : tie.Need-inside-code-requires Inv-loop μ-loop
+inside-code-requires c κs = search needs
 
-start-code-requires-2 : tie.Need-start-code-requires-2 Inv-loop μ-loop
-start-code-requires-2 c κs = search needs
+inside-code-requires-2 : tie.Need-inside-code-requires-2 Inv-loop μ-loop
+inside-code-requires-2 c κs = search needs
 
 loop-holds : tie.Need-loop-holds Inv-loop μ-loop
 loop-holds c = (omega arith, refl, refl)
@@ -42,7 +42,7 @@ loop-again : tie.Need-loop-again Inv-loop μ-loop
 loop-again c =
     let s = c .before .before .before .before .before .before .before in
     let l = c .before .before .before .loop in
-    (omega arith, length-set (l .mask) (l .i) _ ∙ l .inv .1, next-made (c .before .before .before .before .before .start-code .result) (c .before .before .before .before .start-code2 .result) (s .args .mask .now) (l .i) _ (l .mask) (omega arith) (l .inv .2) (c .chosen-code .ensures))
+    (omega arith, length-set (l .mask) (l .i) _ ∙ l .inv .1, next-made (c .before .before .before .before .before .inside-code .result) (c .before .before .before .before .inside-code2 .result) (s .args .mask .now) (l .i) _ (l .mask) (omega arith) (l .inv .2) (c .chosen-code .ensures))
 
 same-length : tie.Need-same-length Inv-loop μ-loop
 same-length c = c .before .loop .inv .1
@@ -51,17 +51,17 @@ returns : tie.Need-returns Inv-loop μ-loop
 returns c =
     let s = c .before .before .before .before .before in
     let l = c .before .loop in
-    l .inv .2 ∙ all-made (c .before .before .before .start-code .result) (c .before .before .start-code2 .result) (s .args .mask .now) (l .i) (omega arith)
-    ∙ codes-chosen (s .args .pointer) (s .args .protected) (c .before .before .before .start-code .ensures) (c .before .before .start-code2 .ensures) (s .args .mask .now)
+    l .inv .2 ∙ all-made (c .before .before .before .inside-code .result) (c .before .before .inside-code2 .result) (s .args .mask .now) (l .i) (omega arith)
+    ∙ codes-chosen (s .args .pointer) (s .args .protected) (c .before .before .before .inside-code .ensures) (c .before .before .inside-code2 .ensures) (s .args .mask .now)
 
-pub start-codes-spec : {M : Type 1} → statement M
-start-codes-spec =
+pub inside-codes-spec : {M : Type 1} → statement M
+inside-codes-spec =
     tie.close
     (tie.spec
     Inv-loop
     μ-loop
-    start-code-requires
-    start-code-requires-2
+    inside-code-requires
+    inside-code-requires-2
     loop-holds
     slice-read-chosen-code
     chosen-code-requires
