@@ -4,13 +4,12 @@ use mathlib.Core.Path.{_≡_, refl, sym, ap, subst, _∙_}
 use mathlib.Core.List.{List, _++_}
 use native.Mathlib.Omega.{arith}
 use borrow.Rule.Slice.PartMut.{putMid, put-same}
-use lib.Dec.{eqb}
 use lib.ListN.{length, take, drop, length-drop, take-append-drop}
 use lib.Seq.{drop-drop, take-append-le, drop-append-le}
 use Rattle.definition.specs.Notation.{mutateAt}
 use Rattle.definition.specs.Permission.{AccessKind}
 use Rattle.definition.specs.Permission.AccessKind.{Write}
-use Rattle.definition.specs.Tree.{Visit, accessVisit, visitRefusal, visited}
+use Rattle.definition.specs.Tree.{Visit, accessVisit, visitRefusal}
 use Rattle.definition.specs.Memory.{Allocation, Memory, allocationAt}
 use Rattle.definition.specs.Valid.{Valid}
 use Rattle.definition.proofs.Places.{valid-at}
@@ -18,8 +17,7 @@ use Rattle.tables.specs.Encoding.{codesOf, held}
 use Rattle.tables.specs.Held.{startOf}
 use Rattle.tables.proofs.Focus.{focus-part, focus-mutate}
 use Rattle.tables.proofs.Sizes.{codes-at}
-use Rattle.tree.specs.Table.{rowsOf}
-use Rattle.tree.specs.Requests.{unlessRefused, Visited, deallocateRefusal, Deallocated}
+use Rattle.tree.specs.Requests.{Visited, deallocateRefusal, Deallocated}
 use Rattle.parts.specs.declared.Parts.{Parts}
 use Rattle.parts.specs.Trees.{TreeAt, afterVisit, TreeVisited}
 use Rattle.parts.proofs.Trees.{codes-rows, visited-codes}

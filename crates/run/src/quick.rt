@@ -51,7 +51,7 @@ fn call_turn(
     if !step::calls::make_call(frames, request) {
         return Turn::No;
     }
-    let next = transcript::put_fitting(answers, at, Answer::Accepted, words);
+    let next = transcript::put_fitting(answers, at, Answer::Accepted, &words[..0]);
     Turn::Made(next)
 }
 
@@ -75,7 +75,8 @@ fn quiet_turn(
         return Turn::No;
     }
     let answer = step::quiet::finish_quiet(words, q, request, start);
-    let next = transcript::put_fitting(answers, at, answer, words);
+    let loaded = answer::words_within(answer, words);
+    let next = transcript::put_fitting(answers, at, answer, loaded);
     Turn::Made(next)
 }
 
@@ -101,8 +102,7 @@ fn access_turn(
     }
 }
 
-// The quiet loads and stores that follow, up to the first request that is none. Their kinds are below 0x4000_0000; that test decides what is
-// tried, and has no say in what is answered.
+// The quiet loads and stores that follow, up to the first request that is none.
 fn access_turns(
     allocs: &[u64],
     parents: &[u16],
@@ -130,9 +130,6 @@ fn access_turns(
         let end = wide(ends[done]);
         let request = part(requests, from, end);
         if request.len() < 4 {
-            return Progress { done, from, at };
-        }
-        if request[0] >= 0x4000_0000 {
             return Progress { done, from, at };
         }
         let turn = access_turn(allocs, parents, words, codes, request, answers, at);

@@ -1,7 +1,7 @@
 -- Loads and stores that are accepted and change no permission: what is left of them, their words, makes the definition's `step`.
 use Prim.Native.Nat.{ℕ, _+_, _≤_}
 use mathlib.Core.Path.{_≡_, refl, sym, ap, subst, _∙_}
-use mathlib.Core.Bool.{false, not}
+use mathlib.Core.Bool.{true, false, not}
 use mathlib.Core.List.{List, []}
 use native.Mathlib.Omega.{arith}
 use borrow.Author.Tests.{not-false, eqb-true}
@@ -10,7 +10,7 @@ use lib.ListN.{length, drop, length-drop}
 use lib.Seq.{paste}
 use Rattle.definition.specs.Permission.{AccessKind}
 use Rattle.definition.specs.Permission.AccessKind.{Read, Write}
-use Rattle.definition.specs.Memory.{ThinPointer}
+use Rattle.definition.specs.Memory.{ThinPointer, MemoryAccess}
 use Rattle.definition.specs.Frame.{State}
 use Rattle.definition.specs.Request.{request, pointer, followingLength, isMiscounted}
 use Rattle.definition.specs.Run.{IsWord}
@@ -29,7 +29,7 @@ use Rattle.memory.specs.declared.access.Quiet.{Quiet}
 use Rattle.memory.specs.declared.access.Quiet.the-variants.{No, At}
 use Rattle.parts.specs.Trees.{HoldsTrees}
 use Rattle.parts.proofs.Lent.{holds-trees}
-use Rattle.memory.specs.Access.{accessOf, storeOf, Accessed, QuietAccess, wordsStart}
+use Rattle.memory.specs.Access.{accessOf, loadOf, storeOf, Accessed, QuietAccess, wordsStart}
 use Rattle.memory.proofs.LoadStore.{words-in, accessed-checked, load-accepted, store-accepted}
 use Rattle.memory.proofs.Afterwards.{holds-bytes}
 use Rattle.perform.specs.Performed.{HoldsState, isInMemory}
@@ -76,6 +76,17 @@ module _ {s : State} {A P R W C F : List ℕ} (h : HoldsState s (buffers A P R W
       stepped-alone h ws words passed q same refl (ap isInMemory e)
       (load-left x refl refl e refl (load-accepted (pointer (fieldsOf q)) (q .fourth) (q .exponent) (holds-trees (x .holds) .records .valid) 0 start refl (k .load e) (k .starts)))
 
+  -- its bytes lie in the data
+  bytes-in : isInMemory (q .kind) ≡ true → (a : MemoryAccess) → Accessed a (s .memory) 0 C → start ≡ wordsStart (a .pointer) (a .len) (s .memory) → start + a .len ≤ length W
+  bytes-in e a accessed place =
+      let x = asked-alone h ws words passed q same refl e in
+      let held = holds-bytes (x .holds) in
+      let valid = held .trees .records .valid in
+      omega (arith, place, words-in valid (accessed-checked a (s .memory) accessed refl), ap length (held .words), length-held 4096 wordsOf (s .memory) (words-fit (s .memory) valid))
+
+  pub load-fits : q .kind ≡ Load → start + q .fourth ≤ length W
+  load-fits e = bytes-in (ap isInMemory e) (loadOf (pointer (fieldsOf q)) (q .fourth) (q .exponent)) (k .load e) (k .starts)
+
   module _ (e : q .kind ≡ Store) {following : List ℕ} (is : following ≡ drop 4 ws) where
     bytes : length following ≡ q .fourth
     bytes = ap length is ∙ store-bytes q ws same e (k .plain .counted)
@@ -87,11 +98,7 @@ module _ {s : State} {A P R W C F : List ℕ} (h : HoldsState s (buffers A P R W
     place = k .starts ∙ ap (λ (len : ℕ). wordsStart (pointer (fieldsOf q)) len (s .memory)) (sym bytes)
 
     pub quiet-fits : start + length following ≤ length W
-    quiet-fits =
-        let x = asked-alone h ws words passed q same is (ap isInMemory e) in
-        let held = holds-bytes (x .holds) in
-        let valid = held .trees .records .valid in
-        omega (arith, place, words-in valid (accessed-checked (storeOf (pointer (fieldsOf q)) following (q .exponent)) (s .memory) accessed refl), ap length (held .words), length-held 4096 wordsOf (s .memory) (words-fit (s .memory) valid))
+    quiet-fits = bytes-in (ap isInMemory e) (storeOf (pointer (fieldsOf q)) following (q .exponent)) accessed place
 
     pub quiet-store : {W′ : List ℕ} → W′ ≡ paste W start following (length following) → Stepped s ws Accepted (buffers A P R W′ C) F
     quiet-store written =

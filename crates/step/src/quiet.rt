@@ -12,7 +12,7 @@ ghost use Rattle.definition.specs.Frame.{State};
 ghost use Rattle.definition.specs.Request as definition;
 ghost use Rattle.definition.specs.Permission.AccessKind.{Read, Write};
 ghost use Rattle.permission.specs.Codes.{accessKind};
-ghost use Rattle.answer.specs.Answer.{answerOf};
+ghost use Rattle.answer.specs.Answer.{answerOf, Within};
 ghost use Rattle.tables.specs.Held.{buffers};
 ghost use Rattle.request.specs.Fields.{requestOf};
 ghost use Rattle.request.specs.declared.Kind.the-variants.{Load, Store};
@@ -70,6 +70,7 @@ pub fn finish_quiet(words: &mut [u32], q: Request, request: &[u32], start: usize
     ensures stepped { λ r. ⌜ ((s : State) (A P R C F : List ℕ) → HoldsState s (buffers A P R (now (words .entry)) C) F → QuietAt s q (now (request .entry)) C start
         → Stepped s (now (request .entry)) r (buffers A P R (now (words .exit)) C) F) ⌝ }
     ensures short { λ r. ⌜ length (answerOf r (now (words .exit)) .words) ≤ q .fourth ⌝ }
+    ensures within { λ r. ⌜ ((s : State) (A P R C F : List ℕ) → HoldsState s (buffers A P R (now (words .entry)) C) F → QuietAt s q (now (request .entry)) C start → Within r (now (words .exit))) ⌝ }
 {
     let kind = q.kind;
     match kind {

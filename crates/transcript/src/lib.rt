@@ -109,14 +109,14 @@ pub fn has_room(out: &[u32], at: usize, count: usize) -> bool
     count <= rest - 5
 }
 
-// An answer for which there is room, behind the others; where the next one goes.
-pub fn put_fitting(out: &mut [u32], at: usize, answer: Answer, words: &[u32]) -> usize
-    requires { ⌜ length (answerOf answer (now words) .words) < 2 ^ 32 ⌝ }
-    requires { ⌜ at + (5 + length (answerOf answer (now words) .words)) ≤ length (now out) ⌝ }
-    ensures { λ r. ⌜ ((text before : List ℕ) (whole : Bool) → WrittenTo text before (now (out .entry)) (record { at = at; whole = whole })
-        → WrittenTo (text ++ answerWords (answerOf answer (now (words .entry)))) before (now (out .exit)) (record { at = r; whole = whole })) ⌝ }
+// An answer for which there is room, with its loaded words, behind the others; where the next one goes.
+pub fn put_fitting(out: &mut [u32], at: usize, answer: Answer, loaded: &[u32]) -> usize
+    requires { ⌜ length (now loaded) < 2 ^ 32 ⌝ }
+    requires { ⌜ at + (5 + length (now loaded)) ≤ length (now out) ⌝ }
+    ensures { λ r. ⌜ ((words text before : List ℕ) (whole : Bool) → now (loaded .entry) ≡ answerOf answer words .words
+        → WrittenTo text before (now (out .entry)) (record { at = at; whole = whole })
+        → WrittenTo (text ++ answerWords (answerOf answer words)) before (now (out .exit)) (record { at = r; whole = whole })) ⌝ }
 {
-    let loaded = answer::loaded_words(answer, words);
     let head = heading_of(answer, loaded.len() as u32);
     let behind_head = put_all(out, at, &head);
     put_all(out, behind_head, loaded)
@@ -144,7 +144,7 @@ pub fn put_answer(out: &mut [u32], w: Written, answer: Answer, words: &[u32]) ->
     let whole = w.whole;
     let loaded = answer::loaded_words(answer, words);
     if has_room(out, at, loaded.len()) {
-        let next = put_fitting(out, at, answer, words);
+        let next = put_fitting(out, at, answer, loaded);
         return Written { at: next, whole };
     }
     put_cut(out, w, answer, words)

@@ -37,10 +37,13 @@ returns-2 c = λ s A P R C h.
     let none : c .before .before .before .make-call .result ≡ false = not-true _ (c .if2 .taken) in
     record { memory = refl; frames = subst (λ (r : Bool). Called s (a .request .now) (a .frames .now) r (c .before .before .before .make-call .last .0)) none (c .before .before .before .make-call .ensures s (frames-held h)); answers = refl }
 
+slice-aggregate-put-fitting : tie.Need-slice-aggregate-put-fitting
+slice-aggregate-put-fitting c = search needs
+
 put-fitting-requires : tie.Need-put-fitting-requires
 put-fitting-requires c κs =
-    let a = c .before .before .before .before .before .before .before .before .before .before .before .before .before .args in
-    (omega arith, leb-true (a .at + 5) (length (a .answers .now)) (sym (c .before .before .before .before .before .before .before .has-room .ensures) ∙ not-false _ (c .before .before .before .before .before .before .if1 .left)))
+    let a = c .before .before .before .before .before .before .before .before .before .before .before .before .before .before .args in
+    (omega arith, leb-true (a .at + 5) (length (a .answers .now)) (sym (c .before .before .before .before .before .before .before .before .has-room .ensures) ∙ not-false _ (c .before .before .before .before .before .before .before .if1 .left)))
 
 same-length-4 : tie.Need-same-length-4
 same-length-4 c = search needs
@@ -50,11 +53,11 @@ same-length-5 c = search needs
 
 returns-3 : tie.Need-returns-3
 returns-3 c = λ s A P R C h whole.
-    let a = c .before .before .before .before .before .before .before .before .before .before .before .before .before .before .before .before .args in
+    let a = c .before .before .before .before .before .before .before .before .before .before .before .before .before .before .before .before .before .args in
     let ws = a .request .now in
-    let made : c .before .before .before .before .before .before .before .make-call .result ≡ true = not-false _ (c .before .before .before .before .if2 .left) in
-    let called = subst (λ (r : Bool). Called s ws (a .frames .now) r (c .before .before .before .before .before .before .before .make-call .last .0)) made (c .before .before .before .before .before .before .before .make-call .ensures s (frames-held h)) in
-    turned (stepped-call h (all-words ws (λ i. omega (arith, c .before .before .before .before .before .before .before .before .before .before .before .before .before .shared-slice-known2 .given i))) called) (λ text before t. c .before .before .put-fitting .ensures text before whole t)
+    let made : c .before .before .before .before .before .before .before .before .make-call .result ≡ true = not-false _ (c .before .before .before .before .before .if2 .left) in
+    let called = subst (λ (r : Bool). Called s ws (a .frames .now) r (c .before .before .before .before .before .before .before .before .make-call .last .0)) made (c .before .before .before .before .before .before .before .before .make-call .ensures s (frames-held h)) in
+    turned (stepped-call h (all-words ws (λ i. omega (arith, c .before .before .before .before .before .before .before .before .before .before .before .before .before .before .shared-slice-known2 .given i))) called) (λ text before t. c .before .before .put-fitting .ensures (a .words .now) text before whole refl t)
 
 pub call-turn-spec : {M : Type 1} → statement M
 call-turn-spec =
@@ -67,6 +70,7 @@ call-turn-spec =
     same-length-2
     same-length-3
     returns-2
+    slice-aggregate-put-fitting
     put-fitting-requires
     same-length-4
     same-length-5
