@@ -2,6 +2,7 @@
 --     reads-before     they are refused as reads of the same bytes through the parent are on the tree as it stands, byte by byte
 --     reads-at-once    they leave what one visit leaves that makes them all
 --     child-row        the child's own row afterwards
+--     reads-refusal-after, reads-visit-after    permissions that were read ask for the same reads
 --     retag-refusal, retag-nodes    both, of the child that a retag makes
 use Prim.Native.Nat.{ℕ, zero, suc, _+_, _-_, _<_}
 use mathlib.Core.Path.{_≡_, refl, sym, ap, ap₂, subst, fun-ext, _∙_}
