@@ -1,4 +1,2 @@
 pub mod Arms
 pub mod Codes
-pub mod Lines
-pub mod Stays

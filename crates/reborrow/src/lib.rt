@@ -65,6 +65,7 @@ fn inside_code(pointer: SafePointer, protected: Protected, freeze: bool) -> u8
 {
     let code = permission::start_code(pointer, protected, freeze);
     match permission::transition(code, AccessKind::Read, NodeRelation::Local) {
+        Outcome::Stays => code,
         Outcome::Becomes(c) => c,
         Outcome::Refused(_) => code,
     }

@@ -1,48 +1,42 @@
 -- The end of a node's protector, over the tables: its visit is the definition's, on the table before and on the one with the node's row unprotected.
 use Prim.Native.Nat.{ℕ, _<_}
-use mathlib.Core.Path.{_≡_, refl, sym, ap, subst⁻¹, _∙_}
+use mathlib.Core.Path.{_≡_, refl, sym, ap, _∙_}
 use mathlib.Core.Bool.{false}
 use mathlib.Core.List.{List, map}
 use native.Mathlib.Omega.{arith}
 use lib.ListN.{length, take}
 use Rattle.definition.specs.Notation.{mutateAt}
-use Rattle.definition.specs.Tree.{Node, nodeAt}
+use Rattle.definition.specs.Tree.{Node, nodeAt, visited}
 use Rattle.definition.specs.Memory.Liveness.{Live}
 use Rattle.definition.specs.Frame.{lacksProtector, unprotectNode, releaseVisit, releaseVisitRefusal, releasedNodes}
-use Rattle.permission.specs.Codes.{unprotectedCode, endLines, outcomeTable}
-use Rattle.visit.specs.declared.Accesses.{Accesses}
+use Rattle.permission.specs.Codes.{unprotectedCode}
+use Rattle.visit.specs.declared.Accesses.the-variants.{AtEnd}
+use Rattle.visit.specs.declared.Answer.{Answer}
 use Rattle.visit.specs.declared.Reach.{Reach}
-use Rattle.visit.specs.Walk.{Ready, Lines, EndsWith, Tabled, rowAt, withRowAt, subtree, walkRefusal}
-use Rattle.visit.specs.Sweep.{swept}
-use Rattle.visit.proofs.Places.{row-length}
+use Rattle.visit.specs.Walk.{Ready, Told, ToldOf, rowAt, withRowAt, subtree, walkAfter}
 use Rattle.tree.specs.Table.{rowsOf, marks, Holds}
 use Rattle.tree.specs.Requests.{releaseRefusal, Ended, Released}
-use Rattle.tree.proofs.Held.{node-fits, held-count}
-use Rattle.tree.proofs.Meaning.{Means, means-refusal, means-after}
-use Rattle.tree.proofs.Visits.{held-ready, means-release, ends-taken, accepted-nodes, refused-nodes}
+use Rattle.tree.proofs.Held.{held-count}
+use Rattle.tree.proofs.Meaning.{Means, told-same, means-told, means-after}
+use Rattle.tree.proofs.Visits.{held-ready, means-release, accepted-nodes, refused-nodes}
 use Rattle.tree.proofs.Releases.{held-row, unprotected-table, unprotected-holds, spared-unread, spared-stays, release-visits, release-accepted, release-refused}
 
 module _ (nodes : List Node) (width : ℕ) (ps codes lent : List ℕ) (held : Holds nodes width ps codes) (n : ℕ) (l : n < length ps) (z : 0 < n)
-    (copy : take width lent ≡ rowAt width n codes) (what : Accesses) (ends : EndsWith (take width lent) what) where
+    (copy : take width lent ≡ rowAt width n codes) where
   abbrev pub reach : Reach
-  reach = record { node = n; spared = n; width = width; from = 0; len = width; what = what }
+  reach = record { node = n; spared = n; width = width; from = 0; len = width; what = AtEnd }
 
   inside : n < length nodes
   inside = omega (arith, held-count held)
 
   means : Means reach lent ps (releaseVisit n nodes)
-  means =
-      means-release ps (held .earlier) (held .root) width n z nodes lent what (copy ∙ held-row nodes width codes (held .table) n inside)
-      (ends-taken what width lent (ap length copy ∙ row-length width n codes (node-fits held n l)) ends)
-
-  pub end-tabled : (lines table : List ℕ) → lines ≡ endLines → table ≡ outcomeTable → Tabled reach lines table
-  end-tabled lines table e t = record { accesses = subst⁻¹ (Lines what) e (ends .lines); outcomes = t }
+  means = means-release ps (held .root) width (held .earlier) n z nodes lent (copy ∙ held-row nodes width codes (held .table) n inside)
 
   -- the visit does not read the node: it need not be unprotected yet
-  pub end-refusal : walkRefusal reach ps lent codes (subtree n 0 ps) ≡ releaseVisitRefusal Live n nodes
-  end-refusal =
-      means-refusal reach lent ps (releaseVisit n nodes) means nodes codes held
-      ∙ sym (spared-unread (releaseVisit n nodes) n refl (unprotectNode Live) (λ x. refl) nodes)
+  pub end-told : (answer : Answer) → ToldOf reach ps lent codes (subtree n 0 ps) answer → Told (releaseVisitRefusal Live n nodes) (rowsOf nodes) (rowsOf (visited (releaseVisit n nodes) nodes)) answer
+  end-told answer t =
+      told-same answer (sym (spared-unread (releaseVisit n nodes) n refl (unprotectNode Live) (λ x. refl) nodes)) refl refl
+      (means-told reach lent ps (releaseVisit n nodes) means nodes codes held answer t)
 
   module _ (codes′ : List ℕ) (e : codes′ ≡ withRowAt width n (map unprotectedCode (rowAt width n codes)) codes) where
     table-held : codes′ ≡ rowsOf (mutateAt n (unprotectNode Live) nodes)
@@ -54,15 +48,14 @@ module _ (nodes : List Node) (width : ℕ) (ps codes lent : List ℕ) (held : Ho
     pub end-ready : Ready reach ps codes′
     end-ready = held-ready reach (mutateAt n (unprotectNode Live) nodes) ps codes′ holds l (omega arith)
 
-    pub end-after : swept reach ps lent (length ps) codes′ ≡ rowsOf (releasedNodes Live n nodes)
+    pub end-after : walkAfter reach ps lent (subtree n 0 ps) codes′ ≡ rowsOf (releasedNodes Live n nodes)
     end-after = means-after reach lent ps (releaseVisit n nodes) means (mutateAt n (unprotectNode Live) nodes) codes′ holds
 
     -- where the visit leaves the table before as it is, it leaves this one
-    pub end-stays : codes ≡ swept reach ps lent (length ps) codes → codes′ ≡ rowsOf (releasedNodes Live n nodes)
+    pub end-stays : rowsOf nodes ≡ rowsOf (visited (releaseVisit n nodes) nodes) → codes′ ≡ rowsOf (releasedNodes Live n nodes)
     end-stays stays =
         table-held
-        ∙ spared-stays (releaseVisit n nodes) n refl (unprotectNode Live) (λ x. refl) nodes width (held .table .wide) inside
-        (sym (held .table .rows) ∙ stays ∙ means-after reach lent ps (releaseVisit n nodes) means nodes codes held)
+        ∙ spared-stays (releaseVisit n nodes) n refl (unprotectNode Live) (λ x. refl) nodes width (held .table .wide) inside stays
 
 -- ---- the answer: the visit is refused, or the table is what it leaves
 module _ (nodes : List Node) (n answer : ℕ) (codes : List ℕ) where

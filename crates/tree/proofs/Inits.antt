@@ -1,6 +1,6 @@
 -- A retag's reads byte by byte: what is left of them from the k-th byte on. None is refused if the visit that makes them all at once is not.
 use Prim.Native.Nat.{ℕ, zero, suc, _+_, _-_, _≤_, _<_}
-use mathlib.Core.Path.{_≡_, refl, sym, ap, ap₂, subst⁻¹, _∙_}
+use mathlib.Core.Path.{_≡_, refl, sym, ap, ap₂, subst, subst⁻¹, _∙_}
 use mathlib.Core.Logic.{_⊎_, inl, inr, ⊎-elim}
 use mathlib.Core.Option.{Option, none, some}
 use mathlib.Core.List.{List, [], _∷_, map}
@@ -9,17 +9,17 @@ use native.Mathlib.Numerals.{add-one}
 use native.Mathlib.Decide.{ℕ-discrete, decLt}
 use native.Mathlib.Omega.{arith}
 use borrow.Author.Tests.{lt-ltb, le-ltb}
-use lib.ListN.{length, getD, drop, replicate, length-map, drop-of-length-le, List·getD-map, List·getD-eq-default}
+use lib.ListN.{length, getD, drop, length-map, drop-of-length-le, List·getD-map, List·getD-eq-default}
 use Rattle.definition.specs.Notation.{_or_, firstRefusal}
 use Rattle.definition.specs.Permission.{AccessKind, NodeRelation, Permission, permissions, permission, initAccess, refusalBy}
-use Rattle.definition.specs.Permission.AccessKind.{Read, Write}
 use Rattle.definition.specs.Permission.Permission.{Unprot}
 use Rattle.definition.specs.Permission.PermissionUnprot.{Cell}
-use Rattle.definition.specs.Tree.{Node, rowRefusal, nodeRefusal, visitRefusal, accessVisit}
+use Rattle.definition.specs.Tree.{Node, nodeAt, parents, relation, visitingOrder, rowRefusal, nodeRefusal, visitRefusal, accessVisit}
 use Rattle.definition.proofs.Booleans.{or-left, or-right}
+use Rattle.definition.proofs.Lists.{first-none}
 use Rattle.definition.proofs.Ranges.{range-places, list-places}
 use Rattle.definition.proofs.Retags.{byteRefusal, readsRefusal, readsVisit, reads-step}
-use Rattle.permission.specs.Codes.{initAccessCode, lineIn, lineAt}
+use Rattle.permission.specs.Codes.{initAccessCode}
 use Rattle.visit.proofs.Rows.{or-positive}
 
 -- a number that is no code is read as Cell, which has no access either
@@ -123,26 +123,67 @@ module _ (node from : ℕ) (inside : List ℕ) (nodes : List Node) (none-refused
   pub reads-none : readsRefusal node from (map permission inside) nodes ≡ 0
   reads-none = sym (reads-all node from inside nodes) ∙ left-none (length inside) 0 (omega arith)
 
--- ---- codes that all tell a read
-read-line : (x : Option AccessKind) → lineIn x ≡ 16 → x ≡ some Read
-read-line none e = absurd (omega arith)
-read-line (some Read) e = refl
-read-line (some Write) e = absurd (omega arith)
+-- ---- and the other way: where no read is refused, the visit that makes them all at once is not
+first-family : (f : ℕ → ℕ → ℕ) (g : ℕ → ℕ) → ((n : ℕ) → ((k : ℕ) → f k n ≡ 0) → g n ≡ 0) → (ns : List ℕ) → ((k : ℕ) → firstRefusal (f k) ns ≡ 0) → firstRefusal g ns ≡ 0
+unfolding firstRefusal
+first-family f g h [] e = refl
+first-family f g h (n ∷ ns) e = ap₂ _or_ (h n (λ k. or-left (f k n) _ (e k))) (first-family f g h ns (λ k. or-right (f k n) _ (e k)))
 
-abbrev pub ReadTo : List ℕ → List ℕ → ℕ → Type 0
-ReadTo lines codes n = (k : ℕ) → k < n → lineAt lines (getD codes k 0) ≡ 16
+row-family : (f : ℕ → Option AccessKind) (g : ℕ → ℕ → Option AccessKind) → ((b : ℕ) → (f b ≡ none) ⊎ ((k : ℕ) × (f b ≡ g k b))) → (r : NodeRelation) (b : ℕ) (row : List Permission)
+    → ((k : ℕ) → rowRefusal (g k) r b row ≡ 0) → rowRefusal f r b row ≡ 0
+unfolding rowRefusal
+row-family f g h r b [] e = refl
+row-family f g h r b (p ∷ row) e =
+    ap₂ _or_
+    (⊎-elim (λ z. ap (λ (x : Option AccessKind). refusalBy x r p) z) (λ z. ap (λ (x : Option AccessKind). refusalBy x r p) (z .1) ∙ or-left (refusalBy (g (z .0) b) r p) _ (e (z .0))) (h b))
+    (row-family f g h r (suc b) row (λ k. or-right (refusalBy (g k b) r p) _ (e k)))
 
-pub read-next : (lines codes : List ℕ) (n : ℕ) → ReadTo lines codes n → lineAt lines (getD codes n 0) ≡ 16 → ReadTo lines codes (n + 1)
-read-next lines codes n before here k l = elim (ℕ-discrete k n) [
-  | yes e ↦ subst⁻¹ (λ (i : ℕ). lineAt lines (getD codes i 0) ≡ 16) e here
-  | no e ↦ before k (omega arith)
-]
+none-row : (r : NodeRelation) (b : ℕ) (row : List Permission) → rowRefusal (λ b. none) r b row ≡ 0
+unfolding rowRefusal
+none-row r b [] = refl
+none-row r b (p ∷ row) = none-row r (suc b) row
 
-pub all-read : (access : ℕ → Option AccessKind) (lines : List ℕ) → ((c : ℕ) → lineAt lines c ≡ lineIn (access c)) → (codes : List ℕ) → ReadTo lines codes (length codes)
-    → map access codes ≡ replicate (length codes) (some Read)
-all-read access lines told [] h = refl
-all-read access lines told (c ∷ cs) h = ap₂ _∷_ (read-line (access c) (sym (told c) ∙ h 0 (omega arith))) (all-read access lines told cs (λ k l. h (suc k) (omega arith)))
+module _ (node : ℕ) (nodes : List Node) where
+  reads-bytes : (b : ℕ) (ps : List Permission) → readsRefusal node b ps nodes ≡ 0 → (k : ℕ) → byteRefusal (getD (map initAccess ps) k none) node (b + k) nodes ≡ 0
+  unfolding readsRefusal
+  reads-bytes b [] e k = refl
+  reads-bytes b (p ∷ ps) e zero = rw (add-zero b) (or-left (byteRefusal (initAccess p) node b nodes) _ e)
+  reads-bytes b (p ∷ ps) e (suc k) =
+      let next : suc b + k ≡ b + suc k = omega arith in
+      subst (λ (i : ℕ). byteRefusal (getD (map initAccess ps) k none) node i nodes ≡ 0) next (reads-bytes (suc b) ps (or-right (byteRefusal (initAccess p) node b nodes) _ e) k)
 
--- lines that are these ones tell the same
-pub told-by : (access : ℕ → Option AccessKind) (these lines : List ℕ) → ((c : ℕ) → lineAt these c ≡ lineIn (access c)) → lines ≡ these → (c : ℕ) → lineAt lines c ≡ lineIn (access c)
-told-by access these lines told e c = ap (λ (l : List ℕ). lineAt l c) e ∙ told c
+  -- the accesses of one byte's read
+  abbrev alone : Option AccessKind → ℕ → ℕ → Option AccessKind
+  alone none at b = none
+  alone (some a) at b = accessVisit a node at 1 .accessAt b
+
+  alone-there : (x : Option AccessKind) (at : ℕ) → alone x at at ≡ x
+  alone-there none at = refl
+  alone-there (some a) at = ap (accessVisit a node at 1 .accessAt) (sym (add-zero at)) ∙ range-places a at 1 .at 0
+
+  module _ (from : ℕ) (ps : List Permission) (e : readsRefusal node from ps nodes ≡ 0) where
+    alone-passes : (k : ℕ) (x : Option AccessKind) → byteRefusal x node (from + k) nodes ≡ 0
+        → firstRefusal (λ n. rowRefusal (alone x (from + k)) (relation (parents nodes) n node) 0 (nodeAt nodes n .permissions)) (visitingOrder (parents nodes) none) ≡ 0
+    unfolding visitRefusal nodeRefusal
+    alone-passes k none q = first-none _ (λ n. none-row (relation (parents nodes) n node) 0 (nodeAt nodes n .permissions)) (visitingOrder (parents nodes) none)
+    alone-passes k (some a) q = q
+
+    read-somewhere : (b : ℕ) → (readsVisit node from ps .accessAt b ≡ none) ⊎ ((k : ℕ) × (readsVisit node from ps .accessAt b ≡ alone (getD (map initAccess ps) k none) (from + k) b))
+    read-somewhere b =
+        elim (decLt b from) [
+          | yes h ↦ inl (list-places from (map initAccess ps) .before b h)
+          | no h ↦
+              let there : b ≡ from + (b - from) = omega arith in
+              inr (
+                b - from,
+                subst⁻¹ (λ (i : ℕ). readsVisit node from ps .accessAt i ≡ alone (getD (map initAccess ps) (b - from) none) (from + (b - from)) i) there
+                    (list-places from (map initAccess ps) .at (b - from) ∙ sym (alone-there (getD (map initAccess ps) (b - from) none) (from + (b - from)))),
+              )
+        ]
+
+    pub reads-together : visitRefusal (readsVisit node from ps) nodes ≡ 0
+    unfolding visitRefusal nodeRefusal
+    reads-together =
+        first-family (λ k n. rowRefusal (alone (getD (map initAccess ps) k none) (from + k)) (relation (parents nodes) n node) 0 (nodeAt nodes n .permissions)) _
+        (λ n q. row-family (readsVisit node from ps .accessAt) (λ k. alone (getD (map initAccess ps) k none) (from + k)) read-somewhere (relation (parents nodes) n node) 0 (nodeAt nodes n .permissions) q)
+        (visitingOrder (parents nodes) none) (λ k. alone-passes k (getD (map initAccess ps) k none) (reads-bytes from ps e k))

@@ -1,29 +1,39 @@
 -- A visit over the tables is the definition's visit of the nodes that they hold: `means-refusal`, `means-after`.
--- The rows agree byte by byte; the table changes row by row, from the last node to the first.
-use Prim.Native.Nat.{ℕ, zero, suc, _≤_, _<_}
+-- The rows agree byte by byte; the table changes row by row, and each visited node is changed once.
+use Prim.Native.Nat.{ℕ, zero, suc, _+_, _<_}
 use mathlib.Core.Path.{_≡_, refl, sym, ap, ap₂, subst, _∙_}
 use mathlib.Core.Bool.{Bool, true, false}
 use mathlib.Core.Option.{Option}
 use mathlib.Core.List.{List, [], _∷_, _++_, map}
 use native.Mathlib.Decide.{ℕ-discrete}
 use native.Mathlib.Omega.{arith}
-use lib.ListN.{length, getD, take, drop, length-map}
+use lib.ListN.{length, take, drop, length-map}
 use lib.Seq.{ext-getD}
-use Rattle.definition.specs.Notation.{if_then_else_, _or_, firstRefusal, mapFrom, mutateAt}
+use Rattle.definition.specs.Notation.{if_then_else_, _or_, firstRefusal, mutateAt, sumOf}
 use Rattle.definition.specs.Permission.{AccessKind, NodeRelation, Permission, nextBy, code}
-use Rattle.definition.specs.Tree.{Node, noNode, nodeAt, parents, isAbove, relation, isSpared, visitingOrder, Visit, visitRefusal, visited}
+use Rattle.definition.specs.Tree.{Node, noNode, nodeAt, parents, relation, isSpared, visitingOrder, Visit, visitRefusal, visited}
 use Rattle.definition.specs.Valid.{All}
-use Rattle.definition.proofs.Lists.{each-length, mutate-length, mutate-kept, mutate-id}
-use Rattle.definition.proofs.Places.{each-at, mutate-here, mutate-same}
-use Rattle.definition.proofs.Order.{visits-only-nodes}
+use Rattle.definition.proofs.Lists.{each-length, mutate-length, mutate-kept}
+use Rattle.definition.proofs.Places.{each-at, mutate-here}
+use Rattle.definition.proofs.Counts.{count, count-here, count-other}
+use Rattle.definition.proofs.Trees.{Parents}
+use Rattle.definition.proofs.Order.{visits-only-nodes, visits-others}
 use Rattle.definition.proofs.Ranges.{accessesRefusal, accessesAfter, Places, places-refusal, places-after}
 use Rattle.definition.specs.Tree as definition
 use Rattle.permission.proofs.Codes.{refusal-code, next-code}
+use Rattle.visit.specs.declared.Answer.{Answer}
+use Rattle.visit.specs.declared.Answer.the-variants.{Stays, Changes, Refused}
 use Rattle.visit.specs.declared.Reach.{Reach}
 use Rattle.tree.specs.Table.{rowsOf, Holds}
-use Rattle.visit.specs.Walk.{planned, codesRefusal, codesAfter, rowRefusal, rowAfter, nodeRefusal, nodeAfter, subtree, walkRefusal, withRowAt}
-use Rattle.visit.specs.Sweep.{sweptNode, swept}
-use Rattle.tree.proofs.Held.{Wide, row-held, row-changed, wide-changed, held-count}
+use Rattle.tree.specs.Requests.{Checked}
+use Rattle.visit.specs.Walk.{Told, ToldOf, planned, codesRefusal, codesAfter, rowRefusal, rowAfter, nodeRefusal, nodeAfter, subtree, walkRefusal, walkAfter, withRowAt}
+use Rattle.tree.proofs.Held.{Wide, row-held, row-changed, wide-changed}
+
+-- what a check told, said of equal things
+pub told-same : {a a′ : ℕ} {x x′ y y′ : List ℕ} (answer : Answer) → a ≡ a′ → x ≡ x′ → y ≡ y′ → Told a x y answer → Told a′ x′ y′ answer
+told-same Stays ea ex ey t = (sym ea ∙ t .0, sym ex ∙ t .1 ∙ ey)
+told-same Changes ea ex ey t = sym ea ∙ t
+told-same (Refused n) ea ex ey t = (t .0 ∙ ea, t .1)
 
 -- ---- lists
 module _ {A B : Type 0} (f : A → B) where
@@ -61,53 +71,46 @@ module _ (r : NodeRelation) where
   codes-after [] (p ∷ row) = refl
   codes-after (x ∷ xs) (p ∷ row) = ap₂ _∷_ (next-code x r p) (codes-after xs row)
 
--- ---- nodes changed from the last to the first
--- element n - 1 by f (n - 1), .., element 0 by f 0
-unfoldable changedBelow : {A : Type 0} → (ℕ → A → A) → ℕ → List A → List A
-changedBelow f zero l = l
-changedBelow f (suc n) l = changedBelow f n (mutateAt n (f n) l)
+-- ---- nodes changed in turn
+-- node n by f n, for each n of a list
+unfoldable changedInTurn : (ℕ → Node → Node) → List ℕ → List Node → List Node
+changedInTurn f [] nodes = nodes
+changedInTurn f (n ∷ ns) nodes = changedInTurn f ns (mutateAt n (f n) nodes)
 
-module _ {A : Type 0} (f : ℕ → A → A) (d : A) where
-  below-length : (n : ℕ) (l : List A) → length (changedBelow f n l) ≡ length l
-  unfolding changedBelow
-  below-length zero l = refl
-  below-length (suc n) l = below-length n (mutateAt n (f n) l) ∙ mutate-length n (f n) l
+module _ (f : ℕ → Node → Node) where
+  in-turn-length : (ns : List ℕ) (nodes : List Node) → length (changedInTurn f ns nodes) ≡ length nodes
+  unfolding changedInTurn
+  in-turn-length [] nodes = refl
+  in-turn-length (n ∷ ns) nodes = in-turn-length ns (mutateAt n (f n) nodes) ∙ mutate-length n (f n) nodes
 
-  below-later : (n j : ℕ) (l : List A) → n ≤ j → getD (changedBelow f n l) j d ≡ getD l j d
-  unfolding changedBelow
-  below-later zero j l h = refl
-  below-later (suc n) j l h = below-later n j (mutateAt n (f n) l) (omega arith) ∙ mutate-kept (λ x. x) (f n) d l n j (λ e. absurd (omega arith))
-
-  below-here : (n j : ℕ) (l : List A) → j < n → j < length l → getD (changedBelow f n l) j d ≡ f j (getD l j d)
-  unfolding changedBelow
-  below-here zero j l h i = absurd (omega arith)
-  below-here (suc n) j l h i =
+  -- a node that is not in the list stays; one that is in it once is changed once
+  in-turn-other : (j : ℕ) (ns : List ℕ) (nodes : List Node) → count j ns ≡ 0 → nodeAt (changedInTurn f ns nodes) j ≡ nodeAt nodes j
+  unfolding changedInTurn
+  in-turn-other j [] nodes c = refl
+  in-turn-other j (n ∷ ns) nodes c =
       elim (ℕ-discrete n j) [
-        | yes e ↦
-            subst (λ (k : ℕ). getD (changedBelow f k (mutateAt k (f k) l)) j d ≡ f j (getD l j d)) (sym e)
-            (below-later j j (mutateAt j (f j) l) (omega arith) ∙ mutate-here (f j) d l j i)
-        | no e ↦
-            below-here n j (mutateAt n (f n) l) (omega arith) (omega (arith, mutate-length n (f n) l))
-            ∙ ap (f j) (mutate-kept (λ x. x) (f n) d l n j (λ q. absurd (e q)))
+        | yes e ↦ absurd (omega (arith, count-here j n ns e))
+        | no e ↦ in-turn-other j ns (mutateAt n (f n) nodes) (sym (count-other j n ns e) ∙ c) ∙ mutate-kept (λ x. x) (f n) noNode nodes n j (λ q. absurd (e q))
       ]
 
-  below-all : (l : List A) → changedBelow f (length l) l ≡ mapFrom 0 f l
-  below-all l =
-      ext-getD d (changedBelow f (length l) l) (mapFrom 0 f l) (below-length (length l) l ∙ sym (each-length f 0 l))
-      (λ j h.
-      let i : j < length l = omega (arith, below-length (length l) l) in
-      below-here (length l) j l i i ∙ sym (each-at f d d l j i))
+  in-turn-once : (j : ℕ) (ns : List ℕ) (nodes : List Node) → j < length nodes → count j ns ≡ 1 → nodeAt (changedInTurn f ns nodes) j ≡ f j (nodeAt nodes j)
+  unfolding changedInTurn sumOf
+  in-turn-once j [] nodes l c = absurd (omega (arith, c))
+  in-turn-once j (n ∷ ns) nodes l c =
+      elim (ℕ-discrete n j) [
+        | yes e ↦
+            in-turn-other j ns (mutateAt n (f n) nodes) (omega (arith, count-here j n ns e))
+            ∙ subst (λ (k : ℕ). nodeAt (mutateAt k (f k) nodes) j ≡ f j (nodeAt nodes j)) (sym e) (mutate-here (f j) noNode nodes j l)
+        | no e ↦
+            in-turn-once j ns (mutateAt n (f n) nodes) (omega (arith, mutate-length n (f n) nodes)) (sym (count-other j n ns e) ∙ c)
+            ∙ ap (f j) (mutate-kept (λ x. x) (f n) noNode nodes n j (λ q. absurd (e q)))
+      ]
 
 -- ---- what becomes of a node that is spared, and of another
 module _ (w : Visit) (ps : List ℕ) where
   pub after-spared : (n : ℕ) (x : Node) → isSpared ps (w .spared) n ≡ true → definition.nodeAfter w ps n x ≡ x
   unfolding definition.nodeAfter
   after-spared n x e = rw e
-
-  after-visited : (n : ℕ) (x : Node) → isSpared ps (w .spared) n ≡ false
-      → definition.nodeAfter w ps n x .permissions ≡ definition.rowAfter (w .accessAt) (relation ps n (w .accessed)) (x .permissions)
-  unfolding definition.nodeAfter
-  after-visited n x e = rw e
 
   pub after-wide : (n : ℕ) (x : Node) → length (definition.nodeAfter w ps n x .permissions) ≡ length (x .permissions)
   unfolding definition.nodeAfter
@@ -124,7 +127,6 @@ pub record Means (v : Reach) (starts ps : List ℕ) (w : Visit) : Type 0 where
   pub accessed : w .accessed ≡ v .node
   pub places : Places (w .accessAt) (v .from) (planned v starts)
   pub order : visitingOrder ps (w .spared) ≡ subtree (v .spared) 0 ps
-  pub spares : (n : ℕ) → n < length ps → isAbove ps (v .spared) n ≡ isSpared ps (w .spared) n
 
 module _ (v : Reach) (starts ps : List ℕ) (w : Visit) (means : Means v starts ps w) where
   -- ---- the first refusal
@@ -141,6 +143,18 @@ module _ (v : Reach) (starts ps : List ℕ) (w : Visit) (means : Means v starts 
       ∙ sym (map-append code (take (v .from) row) (accessesAfter r (planned v starts) (drop (v .from) row)))
       ∙ ap (map code) (sym (places-after r (w .accessAt) (v .from) (planned v starts) (means .places) row))
 
+  -- a visited node's change
+  abbrev touched : ℕ → Node → Node
+  touched n x =
+      record {
+        parent = x .parent;
+        protected = x .protected;
+        permissions = definition.rowAfter (w .accessAt) (relation ps n (w .accessed)) (x .permissions);
+      }
+
+  touched-wide : (n : ℕ) (x : Node) → length (touched n x .permissions) ≡ length (x .permissions)
+  touched-wide n x = each-length (λ b p. nextBy (w .accessAt b) (relation ps n (w .accessed)) p) 0 (x .permissions)
+
   -- ---- a node
   module _ (nodes : List Node) (wide : Wide (v .width) nodes) (n : ℕ) (l : n < length nodes) where
     node-refusal : parents nodes ≡ ps → nodeRefusal v ps starts (rowsOf nodes) n ≡ definition.nodeRefusal w nodes n
@@ -150,38 +164,43 @@ module _ (v : Reach) (starts ps : List ℕ) (w : Visit) (means : Means v starts 
         ∙ row-refusal (relation ps n (w .accessed)) (nodeAt nodes n .permissions)
         ∙ ap (λ (qs : List ℕ). definition.rowRefusal (w .accessAt) (relation qs n (w .accessed)) 0 (nodeAt nodes n .permissions)) (sym e)
 
-    row-visited : isSpared ps (w .spared) n ≡ false → nodeAfter v ps starts n (rowsOf nodes) ≡ rowsOf (mutateAt n (definition.nodeAfter w ps n) nodes)
+    node-after : nodeAfter v ps starts n (rowsOf nodes) ≡ rowsOf (mutateAt n (touched n) nodes)
     unfolding nodeAfter
-    row-visited e =
+    node-after =
         ap (λ (row : List ℕ). withRowAt (v .width) n row (rowsOf nodes))
         (ap₂ (λ (a : ℕ) (row : List ℕ). rowAfter v starts (relation ps n a) row) (sym (means .accessed)) (row-held (v .width) nodes wide n l)
-        ∙ row-after (relation ps n (w .accessed)) (nodeAt nodes n .permissions)
-        ∙ ap (map code) (sym (after-visited w ps n (nodeAt nodes n) e)))
-        ∙ row-changed (v .width) (definition.nodeAfter w ps n) nodes wide n l
-
-    node-after : n < length ps → sweptNode v ps starts n (rowsOf nodes) ≡ rowsOf (mutateAt n (definition.nodeAfter w ps n) nodes)
-    unfolding sweptNode
-    node-after h = go (isSpared ps (w .spared) n) refl
-      where
-        go : (b : Bool) → isSpared ps (w .spared) n ≡ b
-            → (if isAbove ps (v .spared) n then rowsOf nodes else nodeAfter v ps starts n (rowsOf nodes)) ≡ rowsOf (mutateAt n (definition.nodeAfter w ps n) nodes)
-        go true e =
-            rw (means .spares n h, e)
-            (ap rowsOf (sym (mutate-same (definition.nodeAfter w ps n) (λ x. x) noNode nodes n (after-spared w ps n (nodeAt nodes n) e) ∙ mutate-id n nodes)))
-        go false e = rw (means .spares n h, e) (row-visited e)
+        ∙ row-after (relation ps n (w .accessed)) (nodeAt nodes n .permissions))
+        ∙ row-changed (v .width) (touched n) nodes wide n l
 
   -- ---- the tree
-  swept-nodes : (n : ℕ) (nodes : List Node) → Wide (v .width) nodes → n ≤ length nodes → n ≤ length ps
-      → swept v ps starts n (rowsOf nodes) ≡ rowsOf (changedBelow (definition.nodeAfter w ps) n nodes)
-  unfolding swept changedBelow
-  swept-nodes zero nodes wide l k = refl
-  swept-nodes (suc n) nodes wide l k =
-      ap (swept v ps starts n) (node-after nodes wide n (omega arith) (omega arith))
-      ∙ swept-nodes n (mutateAt n (definition.nodeAfter w ps n) nodes) (wide-changed (v .width) (definition.nodeAfter w ps n) (after-wide w ps n) nodes n wide)
-      (omega (arith, mutate-length n (definition.nodeAfter w ps n) nodes)) (omega arith)
+  walk-after : (ns : List ℕ) (nodes : List Node) → Wide (v .width) nodes → All (λ n. n < length nodes) ns
+      → walkAfter v ps starts ns (rowsOf nodes) ≡ rowsOf (changedInTurn touched ns nodes)
+  unfolding walkAfter changedInTurn
+  walk-after [] nodes wide a = refl
+  walk-after (n ∷ ns) nodes wide a =
+      ap (walkAfter v ps starts ns) (node-after nodes wide n (a .0))
+      ∙ walk-after ns (mutateAt n (touched n) nodes) (wide-changed (v .width) (touched n) (touched-wide n) nodes n wide)
+      (subst (λ (k : ℕ). All (λ m. m < k) ns) (sym (mutate-length n (touched n) nodes)) (a .1))
 
+  -- each node that is not spared is changed once, the others not at all
   abbrev visits : List ℕ
   visits = visitingOrder ps (w .spared)
+
+  in-turn-at : (nodes : List Node) (j : ℕ) → j < length nodes → (spared : Bool) → count j visits ≡ (if isSpared ps (w .spared) j then 0 else 1) → isSpared ps (w .spared) j ≡ spared
+      → nodeAt (changedInTurn touched visits nodes) j ≡ definition.nodeAfter w ps j (nodeAt nodes j)
+  unfolding definition.nodeAfter
+  in-turn-at nodes j l true c q = in-turn-other touched j visits nodes (c ∙ ap (λ (b : Bool). if b then 0 else 1) q) ∙ sym (rw q)
+  in-turn-at nodes j l false c q = in-turn-once touched j visits nodes l (c ∙ ap (λ (b : Bool). if b then 0 else 1) q) ∙ sym (rw q)
+
+  in-turn-visited : (nodes : List Node) → Parents ps → parents nodes ≡ ps → changedInTurn touched visits nodes ≡ visited w nodes
+  unfolding visited
+  in-turn-visited nodes tree e =
+      ext-getD noNode (changedInTurn touched visits nodes) (visited w nodes) (in-turn-length touched visits nodes ∙ sym (each-length (definition.nodeAfter w (parents nodes)) 0 nodes))
+      (λ j l.
+      let k : j < length nodes = omega (arith, in-turn-length touched visits nodes) in
+      in-turn-at nodes j k (isSpared ps (w .spared) j) (visits-others ps tree (w .spared) j (omega (arith, ap length e, length-map nodes (λ x. x .parent)))) refl
+      ∙ ap (λ (qs : List ℕ). definition.nodeAfter w qs j (nodeAt nodes j)) (sym e)
+      ∙ sym (each-at (definition.nodeAfter w (parents nodes)) noNode noNode nodes j k))
 
   module _ (nodes : List Node) (codes : List ℕ) (holds : Holds nodes (v .width) ps codes) where
     only-nodes : All (λ n. n < length nodes) visits
@@ -195,10 +214,11 @@ module _ (v : Reach) (starts ps : List ℕ) (w : Visit) (means : Means v starts 
         (λ n l. node-refusal nodes (holds .table .wide) n l (sym (holds .parents))) visits only-nodes
         ∙ ap (λ (qs : List ℕ). firstRefusal (definition.nodeRefusal w nodes) (visitingOrder qs (w .spared))) (holds .parents)
 
-    pub means-after : swept v ps starts (length ps) codes ≡ rowsOf (visited w nodes)
-    unfolding visited
+    pub means-after : walkAfter v ps starts (subtree (v .spared) 0 ps) codes ≡ rowsOf (visited w nodes)
     means-after =
-        let count : length ps ≡ length nodes = held-count holds in
-        ap₂ (swept v ps starts) count (holds .table .rows)
-        ∙ swept-nodes (length nodes) nodes (holds .table .wide) (omega arith) (omega arith)
-        ∙ ap rowsOf (below-all (definition.nodeAfter w ps) noNode nodes ∙ ap (λ (qs : List ℕ). mapFrom 0 (definition.nodeAfter w qs) nodes) (holds .parents))
+        ap₂ (λ (cs ns : List ℕ). walkAfter v ps starts ns cs) (holds .table .rows) (sym (means .order))
+        ∙ walk-after visits nodes (holds .table .wide) only-nodes
+        ∙ ap rowsOf (in-turn-visited nodes (holds .earlier) (sym (holds .parents)))
+
+    pub means-told : (answer : Answer) → ToldOf v ps starts codes (subtree (v .spared) 0 ps) answer → Checked w nodes answer
+    means-told answer t = told-same answer means-refusal (holds .table .rows) means-after t

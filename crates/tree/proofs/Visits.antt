@@ -1,31 +1,29 @@
 -- The visits that the requests make, as the definition's.
 use Prim.Native.Nat.{ℕ, _+_, _*_, _≤_, _<_}
 use mathlib.Core.Path.{_≡_, refl, sym, ap, ap₂, subst, _∙_}
-use mathlib.Core.Bool.{false}
-use mathlib.Core.Option.{Option, some}
+use mathlib.Core.Option.{Option}
 use mathlib.Core.List.{List, [], _∷_, map}
 use native.Mathlib.Nat.{le-refl}
 use borrow.Author.Tests.{eq-eqb, ne-eqb}
-use lib.ListN.{length, take, replicate, length-map}
+use lib.ListN.{length, take, length-map}
 use lib.Seq.{take-length}
 use Rattle.definition.specs.Permission.{AccessKind, Permission, endAccess, initAccess, code, permission}
-use Rattle.definition.specs.Permission.AccessKind.{Read}
-use Rattle.definition.specs.Tree.{Node, nodeAt, isAbove, Visit, visited, accessVisit}
+use Rattle.definition.specs.Tree.{Node, nodeAt, Visit, visitRefusal, visited, accessVisit}
 use Rattle.definition.specs.Frame.{releaseVisit}
-use Rattle.definition.proofs.Trees.{Parents, not-above-smaller}
+use Rattle.definition.proofs.Trees.{Parents}
 use Rattle.definition.proofs.Order.{walk-none, walk-some}
 use Rattle.definition.proofs.Ranges.{Places, range-places, list-places, release-places}
 use Rattle.definition.proofs.Retags.{readsVisit}
 use Rattle.permission.specs.Codes.{accessKind, endAccessCode, initAccessCode}
 use Rattle.permission.proofs.Codes.{end-access-code}
 use Rattle.permission.specs.declared.AccessKind as declared
-use Rattle.permission.specs.declared.AccessKind.the-variants as kinds
-use Rattle.visit.specs.declared.Accesses.{Accesses}
 use Rattle.visit.specs.declared.Accesses.the-variants.{Each, AtEnd, AtInit}
+use Rattle.visit.specs.declared.Answer.{Answer}
+use Rattle.visit.specs.declared.Answer.the-variants.{Stays, Changes}
 use Rattle.visit.specs.declared.Reach.{Reach}
 use Rattle.tree.specs.Table.{rowsOf, Holds}
-use Rattle.visit.specs.Walk.{Ready, EndsWith, accessesAt}
-use Rattle.tree.specs.Requests.{unlessRefused, Made}
+use Rattle.visit.specs.Walk.{Ready}
+use Rattle.tree.specs.Requests.{unlessRefused, Made, Checked}
 use Rattle.tree.proofs.Held.{rows-length}
 use Rattle.tree.proofs.Meaning.{Means}
 use Rattle.tree.proofs.Inits.{init-access-permission}
@@ -51,25 +49,12 @@ same-ends : (row : List Permission) → map endAccessCode (map code row) ≡ map
 same-ends [] = refl
 same-ends (p ∷ row) = ap₂ _∷_ (end-access-code p) (same-ends row)
 
--- the accesses of a row that is the front of what is lent
-ends-alike : (what : Accesses) (width : ℕ) (lent : List ℕ) → length (take width lent) ≡ width → accessesAt what width lent ≡ accessesAt what (length (take width lent)) (take width lent)
-ends-alike (Each a) width lent e = ap (λ (n : ℕ). replicate n (some (accessKind a))) (sym e)
-ends-alike AtEnd width lent e = ap (map endAccessCode) (sym (take-length (take width lent)))
-ends-alike AtInit width lent e = ap (map initAccessCode) (sym (take-length (take width lent)))
-
-pub ends-taken : (what : Accesses) (width : ℕ) (lent : List ℕ) → length (take width lent) ≡ width → EndsWith (take width lent) what → accessesAt what width lent ≡ map endAccessCode (take width lent)
-ends-taken what width lent e ends = ends-alike what width lent e ∙ ends .same
-
-module _ (ps : List ℕ) (tree : Parents ps) (root : 0 < length ps) (width : ℕ) where
-  -- no node has the number that is spared
-  none-above : (n : ℕ) → n < length ps → isAbove ps (length ps) n ≡ false
-  none-above n l = not-above-smaller ps tree (length ps) n l
-
+module _ (ps : List ℕ) (root : 0 < length ps) (width : ℕ) where
   -- an access of one kind
   pub means-bytes : (kind : declared.AccessKind) (node from len : ℕ) (starts : List ℕ)
       → Means (record { node = node; spared = length ps; width = width; from = from; len = len; what = Each kind }) starts ps (accessVisit (accessKind kind) node from len)
   means-bytes kind node from len starts =
-      record { accessed = refl; places = range-places (accessKind kind) from len; order = walk-none ps (length ps) (le-refl (length ps)) root; spares = none-above }
+      record { accessed = refl; places = range-places (accessKind kind) from len; order = walk-none ps (length ps) (le-refl (length ps)) root }
 
   -- a retag's reads, all at once
   pub means-reads : (node from : ℕ) (inside : List ℕ)
@@ -79,35 +64,27 @@ module _ (ps : List ℕ) (tree : Parents ps) (root : 0 < length ps) (width : ℕ
         accessed = refl;
         places = subst (λ (xs : List (Option AccessKind)). Places (readsVisit node from (map permission inside) .accessAt) from xs) (same-accesses inside) (list-places from (map initAccess (map permission inside)));
         order = walk-none ps (length ps) (le-refl (length ps)) root;
-        spares = none-above;
-      }
-
-  -- the same where every byte is read: one access
-  pub means-all : (node from : ℕ) (inside starts : List ℕ) → map initAccessCode inside ≡ replicate (length inside) (some Read)
-      → Means (record { node = node; spared = length ps; width = width; from = from; len = length inside; what = Each kinds.Read }) starts ps
-      (readsVisit node from (map permission inside))
-  means-all node from inside starts e =
-      record {
-        accessed = refl;
-        places = subst (λ (xs : List (Option AccessKind)). Places (readsVisit node from (map permission inside) .accessAt) from xs) (same-accesses inside ∙ ap (map initAccessCode) (take-length inside) ∙ e)
-            (list-places from (map initAccess (map permission inside)));
-        order = walk-none ps (length ps) (le-refl (length ps)) root;
-        spares = none-above;
       }
 
   -- the accesses of a protector's end, by the codes of the node's row
-  pub means-release : (n : ℕ) → 0 < n → (nodes : List Node) (lent : List ℕ) (what : Accesses) → take width lent ≡ map code (nodeAt nodes n .permissions)
-      → accessesAt what width lent ≡ map endAccessCode (take width lent)
-      → Means (record { node = n; spared = n; width = width; from = 0; len = width; what = what }) lent ps (releaseVisit n nodes)
-  means-release n z nodes lent what e same =
+  pub means-release : Parents ps → (n : ℕ) → 0 < n → (nodes : List Node) (lent : List ℕ) → take width lent ≡ map code (nodeAt nodes n .permissions)
+      → Means (record { node = n; spared = n; width = width; from = 0; len = width; what = AtEnd }) lent ps (releaseVisit n nodes)
+  means-release tree n z nodes lent e =
       record {
         accessed = refl;
         places =
-            subst (λ (xs : List (Option AccessKind)). Places (releaseVisit n nodes .accessAt) 0 xs) (sym (same ∙ ap (map endAccessCode) e ∙ same-ends (nodeAt nodes n .permissions)))
+            subst (λ (xs : List (Option AccessKind)). Places (releaseVisit n nodes .accessAt) 0 xs) (sym (ap (map endAccessCode) e ∙ same-ends (nodeAt nodes n .permissions)))
             (release-places (nodeAt nodes n .permissions));
         order = walk-some ps tree n z root;
-        spares = λ k l. refl;
       }
+
+-- ---- what passes a check
+module _ (v : Visit) (nodes : List Node) (answer : Answer) (t : Checked v nodes answer) where
+  pub checked-stays : answer ≡ Stays → visitRefusal v nodes ≡ 0
+  checked-stays e = let u = subst (Checked v nodes) e t in u .0
+
+  pub checked-changes : answer ≡ Changes → visitRefusal v nodes ≡ 0
+  checked-changes e = subst (Checked v nodes) e t
 
 -- ---- a refusal leaves the nodes as they were
 pub accepted-nodes : (r : ℕ) (before after : List Node) → r ≡ 0 → unlessRefused r before after ≡ after

@@ -12,6 +12,8 @@ use Rattle.definition.specs.Memory.{Liveness, nodePreventsDeallocation}
 use Rattle.definition.specs.Memory.Liveness.{Live}
 use Rattle.definition.specs.Frame.{lacksProtector, releaseVisitRefusal, releasedNodes}
 use Rattle.definition.proofs.Retags.{readsRefusal, readsVisit}
+use Rattle.visit.specs.declared.Answer.{Answer}
+use Rattle.visit.specs.Walk.{Told}
 use Rattle.tree.specs.Table.{rowsOf, marks}
 
 -- nothing changes where there is a refusal
@@ -24,6 +26,10 @@ pub record Made (refused : ℕ) (v : Visit) (nodes : List Node) (answer : ℕ) (
   pub table : codes ≡ rowsOf (unlessRefused refused nodes (visited v nodes))
 
 -- ---- load, store
+-- what a check of the visit tells
+abbrev pub Checked : Visit → List Node → Answer → Type 0
+Checked v nodes = Told (visitRefusal v nodes) (rowsOf nodes) (rowsOf (visited v nodes))
+
 abbrev pub Visited : Visit → List Node → ℕ → List ℕ → Type 0
 Visited v nodes = Made (visitRefusal v nodes) v nodes
 

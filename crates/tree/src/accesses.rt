@@ -1,18 +1,19 @@
-// One access to some bytes, through a node, as a load or a store makes it; and where accesses that codes tell are one.
+// One access to some bytes, through a node, as a load or a store makes it.
 use permission::AccessKind;
 use visit::Accesses;
+use visit::Answer;
 use visit::Reach;
 ghost use mathlib.Core.Path.{_≡_};
 ghost use mathlib.Core.Bool.{true};
-ghost use Prim.Native.Nat.{ℕ, _+_, _≤_, _<_};
-ghost use lib.ListN.{length, getD};
+ghost use Prim.Native.Nat.{_+_, _≤_, _<_};
+ghost use lib.ListN.{length};
 ghost use Rattle.definition.specs.Tree.{accessVisit, visitRefusal, visited};
-ghost use Rattle.permission.specs.Codes.{lineAt, accessKind};
+ghost use Rattle.permission.specs.Codes.{accessKind};
 ghost use Rattle.tree.specs.Table.{rowsOf, Holds, Some, Each};
-ghost use Rattle.tree.specs.Requests.{Visited};
+ghost use Rattle.tree.specs.Requests.{Visited, Checked};
 
-// The first refusal of an access to `len` bytes from `from` on, through a node, or 0.
-pub(crate) fn access_refusal(
+// What an access to `len` bytes from `from` on, through a node, comes to.
+pub(crate) fn check_access(
     parents: &[u16],
     codes: &[u8],
     width: usize,
@@ -20,10 +21,10 @@ pub(crate) fn access_refusal(
     kind: AccessKind,
     from: usize,
     len: usize,
-) -> u8
+) -> Answer
     requires { ⌜ Some (λ nodes. Holds nodes width (now parents) (now codes)) ⌝ }
     requires { ⌜ (node < length (now parents)) × (from + len ≤ width) ⌝ }
-    ensures { λ r. ⌜ Each (λ nodes. Holds nodes width (now (parents .entry)) (now (codes .entry))) (λ nodes. r ≡ visitRefusal (accessVisit (accessKind kind) node from len) nodes) ⌝ }
+    ensures { λ r. ⌜ Each (λ nodes. Holds nodes width (now (parents .entry)) (now (codes .entry))) (λ nodes. Checked (accessVisit (accessKind kind) node from len) nodes r) ⌝ }
 {
     let v = Reach {
         node,
@@ -33,9 +34,7 @@ pub(crate) fn access_refusal(
         len,
         what: Accesses::Each(kind),
     };
-    let table = permission::outcomes();
-    let looked = visit::look_at_nodes(parents, codes, &table, v, kind);
-    visit::refusal_after_look(parents, codes, &table, v, kind, looked)
+    visit::check(parents, codes, codes, v)
 }
 
 // The access made.
@@ -60,8 +59,8 @@ pub(crate) fn apply_access(
         len,
         what: Accesses::Each(kind),
     };
-    let table = permission::outcomes();
-    visit::apply_each_node(parents, codes, &table, v, kind);
+    let none = [0u8; 1];
+    visit::apply(parents, codes, &none, v);
 }
 
 // A load's or a store's access: the first refusal in visiting order, with the table as it was; or 0, with every visited code as the access leaves it.
@@ -78,24 +77,14 @@ pub fn access(
     requires { ⌜ (node < length (now parents)) × (from + len ≤ width) ⌝ }
     ensures { λ r. ⌜ Each (λ nodes. Holds nodes width (now (parents .entry)) (now (codes .entry))) (λ nodes. Visited (accessVisit (accessKind kind) node from len) nodes r (now (codes .exit))) ⌝ }
 {
-    let v = Reach {
-        node,
-        spared: parents.len(),
-        width,
-        from,
-        len,
-        what: Accesses::Each(kind),
-    };
-    let table = permission::outcomes();
-    let looked = visit::look_at_nodes(parents, codes, &table, v, kind);
-    if looked == 0 {
-        return 0;
+    match check_access(parents, codes, width, node, kind, from, len) {
+        Answer::Stays => 0,
+        Answer::Changes => {
+            apply_access(parents, codes, width, node, kind, from, len);
+            0
+        }
+        Answer::Refused(n) => n,
     }
-    let refused = visit::refusal_after_look(parents, codes, &table, v, kind, looked);
-    if refused == 0 {
-        visit::apply_each_node(parents, codes, &table, v, kind);
-    }
-    refused
 }
 
 // The access passes and leaves every code as it is. Where this says no, `access` tells what it comes to.
@@ -112,27 +101,9 @@ pub fn stays(
     requires { ⌜ (node < length (now parents)) × (from + len ≤ width) ⌝ }
     ensures { λ r. ⌜ (r ≡ true → Each (λ nodes. Holds nodes width (now (parents .entry)) (now (codes .entry))) (λ nodes. Visited (accessVisit (accessKind kind) node from len) nodes 0 (now (codes .entry)))) ⌝ }
 {
-    let v = Reach {
-        node,
-        spared: parents.len(),
-        width,
-        from,
-        len,
-        what: Accesses::Each(kind),
-    };
-    visit::all_stay(parents, codes, v, kind)
-}
-
-// Every code tells a read, by the lines that go with it. Then the accesses are one.
-pub(crate) fn all_read(codes: &[u8], lines: &[u8; 16]) -> bool
-    ensures { λ r. ⌜ (r ≡ true → (k : ℕ) → k < length (now (codes .entry)) → lineAt (now (lines .entry)) (getD (now (codes .entry)) k 0) ≡ 16) ⌝ }
-{
-    let mut k = 0;
-    while k < codes.len() {
-        if visit::lent_line(lines, codes, k) != 16 {
-            return false;
-        }
-        k += 1;
+    match check_access(parents, codes, width, node, kind, from, len) {
+        Answer::Stays => true,
+        Answer::Changes => false,
+        Answer::Refused(_) => false,
     }
-    true
 }

@@ -1,10 +1,10 @@
 // A deallocation: a write to all bytes, and the test for strong protectors on what it leaves.
-use crate::accesses::access_refusal;
 use crate::accesses::apply_access;
+use crate::accesses::check_access;
 use permission::AccessKind;
-use permission::MaybeAccess;
 use permission::NodeRelation;
 use permission::Outcome;
+use visit::Answer;
 ghost use mathlib.Core.Path.{_≡_};
 ghost use mathlib.Core.Option.{some};
 ghost use Prim.Native.Nat.{_<_};
@@ -13,24 +13,15 @@ ghost use Rattle.definition.specs.Notation.{any};
 ghost use Rattle.definition.specs.Permission.AccessKind.{Write};
 ghost use Rattle.definition.specs.Tree.{accessVisit, visited};
 ghost use Rattle.definition.specs.Memory.{nodePreventsDeallocation};
-ghost use Rattle.permission.specs.Codes.{nodeRelation, maybeAccess, nextCode, preventsCode};
+ghost use Rattle.permission.specs.Codes.{nodeRelation, nextCode, preventsCode};
 ghost use Rattle.tree.specs.Table.{HoldsAll, Some, Each};
-ghost use Rattle.visit.specs.Walk.{stepped};
 ghost use Rattle.tree.specs.Requests.{Deallocated};
-
-fn step(code: u8, access: MaybeAccess, relation: NodeRelation) -> Outcome
-    ensures { λ r. ⌜ r ≡ stepped (maybeAccess access) (nodeRelation relation) code ⌝ }
-{
-    match access {
-        MaybeAccess::Nothing => Outcome::Becomes(code),
-        MaybeAccess::Access(a) => permission::transition(code, a, relation),
-    }
-}
 
 fn code_prevents_after_write(code: u8, relation: NodeRelation) -> bool
     ensures { λ r. ⌜ r ≡ preventsCode (nextCode (some Write) (nodeRelation relation) code) ⌝ }
 {
-    match step(code, MaybeAccess::Access(AccessKind::Write), relation) {
+    match permission::transition(code, AccessKind::Write, relation) {
+        Outcome::Stays => permission::prevents_deallocation(code),
         Outcome::Becomes(c) => permission::prevents_deallocation(c),
         Outcome::Refused(_) => permission::prevents_deallocation(code),
     }
@@ -92,9 +83,10 @@ pub fn deallocate(
     requires { ⌜ node < length (now parents) ⌝ }
     ensures { λ r. ⌜ Each (λ nodes. HoldsAll nodes width (now (parents .entry)) (now (protectors .entry)) (now (codes .entry))) (λ nodes. Deallocated node width nodes r (now (codes .exit))) ⌝ }
 {
-    let refused = access_refusal(parents, codes, width, node, AccessKind::Write, 0, width);
-    if refused != 0 {
-        return refused;
+    match check_access(parents, codes, width, node, AccessKind::Write, 0, width) {
+        Answer::Stays => {}
+        Answer::Changes => {}
+        Answer::Refused(n) => return n,
     }
     if strong_protector_after_write(parents, protectors, codes, width, node) {
         return 24;

@@ -1,7 +1,6 @@
 // The release of a protected node.
-use crate::accesses::all_read;
-use permission::AccessKind;
 use visit::Accesses;
+use visit::Answer;
 use visit::Reach;
 ghost use mathlib.Core.Path.{_≡_};
 ghost use mathlib.Core.Bool.{not};
@@ -14,9 +13,7 @@ ghost use Rattle.definition.specs.Memory.Liveness.{Live, Dead};
 ghost use Rattle.definition.specs.Frame.{lacksProtector};
 ghost use Rattle.permission.specs.Codes.{isProtectedCode, unprotectedCode};
 ghost use Rattle.tree.specs.Table.{Holds, HoldsMarks, HoldsAll, Some, Each};
-ghost use Rattle.visit.specs.Walk.{rowAt, withRowAt, EndsWith};
-ghost use Rattle.visit.specs.Sweep.{Spares};
-ghost use Rattle.visit.specs.Plan.{Zeros};
+ghost use Rattle.visit.specs.Walk.{rowAt, withRowAt};
 ghost use Rattle.tree.specs.Requests.{Ended, Released};
 
 fn has_unprotected(row: &[u8]) -> bool
@@ -76,120 +73,33 @@ fn lacks_protector(protectors: &[u8], codes: &[u8], width: usize, node: usize) -
     has_unprotected(&codes[start..end])
 }
 
-// The accesses of the end of a row's protectors.
-fn end_accesses(row: &[u8]) -> Accesses
-    ensures { λ r. ⌜ EndsWith (now (row .entry)) r ⌝ }
-{
-    let lines = permission::end_lines();
-    if all_read(row, &lines) {
-        return Accesses::Each(AccessKind::Read);
-    }
-    Accesses::AtEnd
-}
-
 // The end of a node's protector, on a live allocation: the first refusal of its accesses, with the codes as they were; or 0, with the node unprotected
-// and the accesses made. The lent row has a copy of the node's row, which they do not reach: what a look told holds once that is unprotected.
-fn end_protector(
-    marks: &[u8],
-    parents: &[u16],
-    codes: &mut [u8],
-    lent: &[u8],
-    width: usize,
-    node: usize,
-) -> u8
-    requires { ⌜ Some (λ nodes. Holds nodes width (now parents) (now codes)) × Spares node (now parents) (now marks) ⌝ }
+// and the accesses made. The lent row has a copy of the node's row, which they do not reach: what the check told holds once that is unprotected.
+fn end_protector(parents: &[u16], codes: &mut [u8], lent: &[u8], width: usize, node: usize) -> u8
+    requires { ⌜ Some (λ nodes. Holds nodes width (now parents) (now codes)) ⌝ }
     requires { ⌜ (node < length (now parents)) × (0 < node) × (take width (now lent) ≡ rowAt width node (now codes)) ⌝ }
     ensures { λ r. ⌜ Each (λ nodes. Holds nodes width (now (parents .entry)) (now (codes .entry))) (λ nodes. Ended node nodes r (now (codes .exit))) ⌝ }
 {
-    let what = end_accesses(&lent[..width]);
     let v = Reach {
         node,
         spared: node, // and its descendants
         width,
         from: 0,
         len: width,
-        what,
+        what: Accesses::AtEnd,
     };
-    let lines = permission::end_lines();
-    let table = permission::outcomes();
-    let looked = visit::look(marks, parents, codes, lent, &lines, &table, v);
-    let refused = visit::check(parents, codes, lent, &lines, &table, v, looked);
-    if refused != 0 {
-        return refused;
+    match visit::check(parents, codes, lent, v) {
+        Answer::Stays => {
+            unprotect_node(codes, width, node);
+            0
+        }
+        Answer::Changes => {
+            unprotect_node(codes, width, node);
+            visit::apply(parents, codes, lent, v);
+            0
+        }
+        Answer::Refused(n) => n,
     }
-    unprotect_node(codes, width, node);
-    if looked == 0 {
-        return 0;
-    }
-    visit::apply(marks, parents, codes, lent, &lines, &table, v);
-    0
-}
-
-// The release by marks of the node and its descendants.
-fn release_marked(
-    marks: &[u8],
-    parents: &[u16],
-    protectors: &mut [u8],
-    codes: &mut [u8],
-    lent: &mut [u8],
-    width: usize,
-    node: usize,
-) -> u8
-    requires { ⌜ Some (λ nodes. HoldsAll nodes width (now parents) (now protectors) (now codes)) × Spares node (now parents) (now marks) ⌝ }
-    requires { ⌜ (node < length (now parents)) × (width ≤ length (now lent)) ⌝ }
-    ensures { λ _. ⌜ now (lent .exit) ≡ rowAt width node (now (codes .entry)) ++ drop width (now (lent .entry)) ⌝ }
-    ensures { λ r. ⌜ Each (λ nodes. HoldsAll nodes width (now (parents .entry)) (now (protectors .entry)) (now (codes .entry))) (λ nodes. Released Live node nodes r (now (protectors .exit)) (now (codes .exit))) ⌝ }
-{
-    let start = node * width;
-    let end = start + width;
-    copy_row(&codes[start..end], lent);
-    if lacks_protector(protectors, codes, width, node) {
-        return 16;
-    }
-    let refused = end_protector(marks, parents, codes, lent, width, node);
-    if refused != 0 {
-        return refused;
-    }
-    protectors[node] = 0;
-    0
-}
-
-// How many marks are made: one for each node, or none where there is no room.
-fn marks_size(nodes: usize, room: usize) -> usize
-    ensures { λ r. ⌜ (r ≤ room) × (r ≤ nodes) ⌝ }
-{
-    if room < nodes {
-        return 0;
-    }
-    nodes
-}
-
-// The scratch, all zeros, is for the marks.
-fn release_with(
-    scratch: &mut [u8],
-    parents: &[u16],
-    protectors: &mut [u8],
-    codes: &mut [u8],
-    lent: &mut [u8],
-    width: usize,
-    node: usize,
-) -> u8
-    requires { ⌜ Zeros (now scratch) × Some (λ nodes. HoldsAll nodes width (now parents) (now protectors) (now codes)) ⌝ }
-    requires { ⌜ (node < length (now parents)) × (width ≤ length (now lent)) ⌝ }
-    ensures { λ _. ⌜ now (lent .exit) ≡ rowAt width node (now (codes .entry)) ++ drop width (now (lent .entry)) ⌝ }
-    ensures { λ r. ⌜ Each (λ nodes. HoldsAll nodes width (now (parents .entry)) (now (protectors .entry)) (now (codes .entry))) (λ nodes. Released Live node nodes r (now (protectors .exit)) (now (codes .exit))) ⌝ }
-{
-    let size = marks_size(parents.len(), scratch.len());
-    visit::mark_spared(parents, &mut scratch[..size], node);
-    release_marked(
-        &scratch[..size],
-        parents,
-        protectors,
-        codes,
-        lent,
-        width,
-        node,
-    )
 }
 
 // The release of a node of a live allocation: the first refusal, 16 to 23, with marks and codes as they were; or 0, with the node unprotected and the
@@ -207,12 +117,18 @@ pub fn release(
     ensures { λ _. ⌜ now (lent .exit) ≡ rowAt width node (now (codes .entry)) ++ drop width (now (lent .entry)) ⌝ }
     ensures { λ r. ⌜ Each (λ nodes. HoldsAll nodes width (now (parents .entry)) (now (protectors .entry)) (now (codes .entry))) (λ nodes. Released Live node nodes r (now (protectors .exit)) (now (codes .exit))) ⌝ }
 {
-    if parents.len() <= 16 {
-        let mut scratch = [0u8; 16];
-        return release_with(&mut scratch, parents, protectors, codes, lent, width, node);
+    let start = node * width;
+    let end = start + width;
+    copy_row(&codes[start..end], lent);
+    if lacks_protector(protectors, codes, width, node) {
+        return 16;
     }
-    let mut scratch = [0u8; 1024];
-    release_with(&mut scratch, parents, protectors, codes, lent, width, node)
+    let refused = end_protector(parents, codes, lent, width, node);
+    if refused != 0 {
+        return refused;
+    }
+    protectors[node] = 0;
+    0
 }
 
 // The release of a node of a dead allocation: 16 with the codes as they were; or 0 with its row unprotected. Its mark stays.

@@ -4,5 +4,5 @@ pub mod Places
 pub mod Walks
 pub mod Children
 pub mod Plans
-pub mod Sweeps
+pub mod Paths
 pub mod Counted

@@ -1,13 +1,16 @@
 -- Where the rows of a table stand.
 use Prim.Native.Nat.{ℕ, _+_, _-_, _*_, _≤_, _<_}
-use mathlib.Core.Path.{_≡_, ap, ap₂, _∙_}
+use mathlib.Core.Path.{_≡_, sym, ap, ap₂, _∙_}
 use mathlib.Core.List.{List, _++_}
 use native.Mathlib.Omega.{arith}
 use lib.ListN.{length, take, drop, length-drop, take-append-drop}
 use lib.Seq.{length-take-le, take-at}
+use Rattle.definition.specs.Tree.{relation}
 use Rattle.definition.proofs.Parts.{row-fits}
+use Rattle.visit.specs.declared.Answer.{Answer}
+use Rattle.visit.specs.declared.Answer.the-variants.{Stays, Changes, Refused}
 use Rattle.visit.specs.declared.Reach.{Reach}
-use Rattle.visit.specs.Walk.{Ready, rowAt, withRowAt}
+use Rattle.visit.specs.Walk.{Ready, Told, ToldRow, rowAt, withRowAt, nodeRefusal, nodeAfter}
 
 -- row n ends within the table
 pub row-in : (v : Reach) (ps codes : List ℕ) (n : ℕ) → Ready v ps codes → n < length ps → n * v .width + v .width ≤ length codes
@@ -28,6 +31,14 @@ put-back f w n codes row e =
 -- a row that is put back as it was
 pub same-row : (w n : ℕ) (codes : List ℕ) → withRowAt w n (rowAt w n codes) codes ≡ codes
 same-row w n codes = ap (λ (l : List ℕ). take (n * w) codes ++ l) (take-append-drop w (drop (n * w) codes)) ∙ take-append-drop (n * w) codes
+
+-- what the check of a row tells of its node
+pub told-node : (v : Reach) (ps starts codes : List ℕ) (n : ℕ) (answer : Answer) → ToldRow v starts (relation ps n (v .node)) (rowAt (v .width) n codes) answer
+    → Told (nodeRefusal v ps starts codes n) codes (nodeAfter v ps starts n codes) answer
+unfolding nodeRefusal nodeAfter
+told-node v ps starts codes n Stays t = (t .0, sym (same-row (v .width) n codes) ∙ ap (λ (row : List ℕ). withRowAt (v .width) n row codes) (t .1))
+told-node v ps starts codes n Changes t = t
+told-node v ps starts codes n (Refused m) t = t
 
 pub row-length : (w n : ℕ) (codes : List ℕ) → n * w + w ≤ length codes → length (rowAt w n codes) ≡ w
 row-length w n codes fits = length-take-le w (drop (n * w) codes) (omega (arith, length-drop (n * w) codes))

@@ -177,6 +177,13 @@ no-links s ps plan e = record { first = λ k l. absurd (omega arith); next = λ 
 pub no-marks : (accessed : ℕ) (ps plan : List ℕ) → length plan ≡ 0 → Marked accessed ps plan
 no-marks accessed ps plan e = record { path = λ k l. absurd (omega arith) }
 
+pub planned-none : (v : Reach) (ps plan : List ℕ) → length plan ≤ 1 → Planned v ps plan
+planned-none v ps plan e =
+    record {
+      links = record { first = λ k l. absurd (omega arith); next = λ k z l. absurd (omega arith) };
+      marks = record { path = λ k l. absurd (omega arith) };
+    }
+
 pub roomy-still : {ps plan after : List ℕ} → length after ≡ length plan → Roomy ps plan → Roomy ps after
 roomy-still e room = record { size = e ∙ room .size; few = room .few }
 

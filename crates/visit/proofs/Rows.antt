@@ -1,6 +1,7 @@
 -- Codes under accesses, byte by byte, as the loops over a row go through them.
 use Prim.Native.Nat.{ℕ, zero, suc, _+_, _≤_, _<_}
-use mathlib.Core.Path.{_≡_, refl, sym, ap, ap₂, subst⁻¹, _∙_}
+use mathlib.Core.Path.{_≡_, refl, sym, ap, ap₂, subst, _∙_}
+use mathlib.Core.Bool.{Bool, true, false}
 use mathlib.Core.Option.{Option, none, some}
 use mathlib.Core.List.{List, [], _∷_, _++_}
 use native.Mathlib.Numerals.{add-one}
@@ -10,16 +11,28 @@ use lib.ListN.{length, getD, take, drop, set, getD-replicate, length-replicate, 
 use lib.Seq.{getD-take, getD-drop, drop-drop, length-take-le, getD-append-add, take-at, drop-at, set-getD}
 use Rattle.definition.specs.Notation.{_or_}
 use Rattle.definition.specs.Permission.{AccessKind, NodeRelation}
-use Rattle.definition.specs.Permission.AccessKind.{Read, Write}
 use Rattle.definition.proofs.Lists.{loop-get, loop-set}
-use Rattle.permission.proofs.Lines.{outcome-at, refused-at, passes-at, next-at, stays-at, past-refusal, past-next, end-line, init-line}
-use Rattle.permission.specs.Codes.{accessKind, refusalCode, nextCode, endAccessCode, initAccessCode, outcome, outcomeTable, lineIn, lineAt, lineOf}
-use Rattle.permission.specs.declared.AccessKind as declared
+use Rattle.permission.proofs.Codes.{stays-told, becomes-told, refused-told, refused-next, refused-some}
+use Rattle.permission.specs.Codes.{accessKind, refusalCode, nextCode, endAccessCode, initAccessCode}
+use Rattle.permission.specs.declared.Outcome.{Outcome}
+use Rattle.permission.specs.declared.Outcome.the-variants.{Stays, Becomes, Refused}
 use Rattle.visit.specs.declared.Accesses.{Accesses}
-use Rattle.visit.specs.declared.Reach.{Reach}
+use Rattle.visit.specs.declared.Answer.the-variants as answer
 use Rattle.visit.specs.declared.Accesses.the-variants.{Each, AtEnd, AtInit}
-use Rattle.visit.specs.Walk.{accessAt, accessesAt, Looked, Lines, Tabled, EachOf, codesRefusal, codesAfter, Looks}
+use Rattle.visit.specs.Walk.{Told, unrefused, stepped, accessAt, accessesAt, codesRefusal, codesAfter}
 use Rattle.visit.proofs.Steps.{no-refusal, no-change}
+
+abbrev isStays : Outcome → Type 0
+isStays Stays = Unit {0}
+isStays (Becomes d) = ⊥
+isStays (Refused n) = ⊥
+
+abbrev isTrue : Bool → Type 0
+isTrue true = Unit {0}
+isTrue false = ⊥
+
+pub true-not-false : true ≡ false → ⊥
+true-not-false e = subst isTrue e tt
 
 pub or-positive : (n y : ℕ) → 0 < n → (n or y) ≡ n
 or-positive zero y h = absurd (omega arith)
@@ -76,22 +89,22 @@ module _ (r : NodeRelation) where
   codes-length [] (c ∷ cs) = refl
   codes-length (x ∷ xs) (c ∷ cs) = ap suc (codes-length xs cs)
 
--- ---- a look-up of a code's outcome
-module _ (x : Option AccessKind) (r : NodeRelation) (table : List ℕ) (t : table ≡ outcomeTable) (c line i d : ℕ) (e : line ≡ lineOf x r) (small : c < 16) (at : i ≡ c) (u : d ≡ getD table (line + i) 0) where
-  looked-up : d ≡ outcome x r c
-  looked-up = u ∙ ap₂ (λ (l : List ℕ) (k : ℕ). getD l k 0) t (ap₂ _+_ e at) ∙ outcome-at x r c small
+-- ---- what the outcome of a step tells
+module _ (x : Option AccessKind) (r : NodeRelation) (c : ℕ) where
+  abbrev Passes : ℕ → Type 0
+  Passes next = (refusalCode x r c ≡ 0) × (nextCode x r c ≡ next)
 
-  look-refused : 15 < d → d ≡ refusalCode x r c
-  look-refused h = looked-up ∙ refused-at x r c small (omega (arith, looked-up))
+step-stays : (x : Option AccessKind) (r : NodeRelation) (c : ℕ) → stepped x r c ≡ Stays → Passes x r c c
+step-stays none r c e = (no-refusal r c, no-change r c)
+step-stays (some a) r c e = stays-told a r c e
 
-  look-passes : d ≤ 15 → 0 ≡ refusalCode x r c
-  look-passes h = sym (passes-at x r c small (omega (arith, looked-up)))
+step-becomes : (x : Option AccessKind) (r : NodeRelation) (c d : ℕ) → stepped x r c ≡ Becomes d → Passes x r c d
+step-becomes none r c d e = absurd (subst (λ (o : Outcome). isStays o) e tt)
+step-becomes (some a) r c d e = becomes-told a r c d e
 
-  pub look-next : d ≤ 15 → d ≡ nextCode x r c
-  look-next h = looked-up ∙ sym (next-at x r c small (omega (arith, looked-up)))
-
-  pub look-stays : 15 < d → c ≡ nextCode x r c
-  look-stays h = sym (stays-at x r c small (omega (arith, looked-up)))
+step-refused : (x : Option AccessKind) (r : NodeRelation) (c n : ℕ) → stepped x r c ≡ Refused n → (refusalCode x r c ≡ n) × (nextCode x r c ≡ c) × (n ≡ 0 → ⊥)
+step-refused none r c n e = absurd (subst (λ (o : Outcome). isStays o) e tt)
+step-refused (some a) r c n e = (refused-told a r c n e, refused-next a r c n e, refused-some a r c n e)
 
 -- ---- the bytes of a row that are visited: n of them from `from` on
 module _ (what : Accesses) (n from : ℕ) (starts : List ℕ) (r : NodeRelation) where
@@ -173,74 +186,39 @@ module _ (what : Accesses) (n from : ℕ) (starts : List ℕ) (r : NodeRelation)
           ∙ loop-set (changed row) row 0 (from + k) changed-length (omega arith)
           ∙ ap (λ (i : ℕ). take i (changed row) ++ drop i row) next
 
-      pub turn-next : (d : ℕ) → d ≡ nextCode (accessAt what starts k) r (getD now (from + k) 0) → after ≡ set now (from + k) d → after ≡ changedTo (k + 1) row
-      turn-next d t s = turn (s ∙ ap (set now (from + k)) t)
+      module _ (o : Outcome) (t : o ≡ stepped (accessAt what starts k) r (getD now (from + k) 0)) where
+        pub turn-stays : o ≡ Stays → after ≡ now → after ≡ changedTo (k + 1) row
+        turn-stays e s = turn (s ∙ sym (ap (set now (from + k)) (step-stays (accessAt what starts k) r (getD now (from + k) 0) (sym t ∙ e) .1) ∙ set-getD now (from + k) 0))
 
-      pub turn-stays : getD now (from + k) 0 ≡ nextCode (accessAt what starts k) r (getD now (from + k) 0) → after ≡ now → after ≡ changedTo (k + 1) row
-      turn-stays t s = turn (s ∙ sym (ap (set now (from + k)) (sym t) ∙ set-getD now (from + k) 0))
+        pub turn-becomes : (d : ℕ) → o ≡ Becomes d → after ≡ set now (from + k) d → after ≡ changedTo (k + 1) row
+        turn-becomes d e s = turn (s ∙ ap (set now (from + k)) (sym (step-becomes (accessAt what starts k) r (getD now (from + k) 0) d (sym t ∙ e) .1)))
 
-  -- ---- a look at the bytes: what is left of the check at the k-th is the answer of the whole, and unless a change was noted the codes so far stay
-  abbrev pub LooksTo : List ℕ → ℕ → ℕ → Type 0
-  LooksTo row k noted = (refusalLeft k row ≡ refusalLeft 0 row) × (noted ≡ 0 → row ≡ changedTo k row)
+        pub turn-refused : (n : ℕ) → o ≡ Refused n → after ≡ now → after ≡ changedTo (k + 1) row
+        turn-refused n e s = turn (s ∙ sym (ap (set now (from + k)) (step-refused (accessAt what starts k) r (getD now (from + k) 0) n (sym t ∙ e) .1) ∙ set-getD now (from + k) 0))
+
+  -- ---- a check of the bytes: what is left of it at the k-th is the answer of the whole, and unless a change was seen the codes so far stay
+  abbrev pub ChecksTo : List ℕ → ℕ → Bool → Type 0
+  ChecksTo row k changes = (refusalLeft k row ≡ refusalLeft 0 row) × (changes ≡ false → row ≡ changedTo k row)
 
   module _ (row : List ℕ) (fits : from + n ≤ length row) where
-    pub looks-start : (noted : ℕ) → LooksTo row 0 noted
-    looks-start noted = (refl, λ z. changed-none row fits)
+    pub checks-start : (changes : Bool) → ChecksTo row 0 changes
+    checks-start changes = (refl, λ z. changed-none row fits)
 
-    pub looks-done : (k noted : ℕ) → k ≡ n → noted ≤ 1 → LooksTo row k noted → Looks plan r from row noted
-    looks-done k noted e small told =
-        record {
-          refused = λ h. absurd (omega arith);
-          passes = λ h. sym (told .0) ∙ ap (λ (i : ℕ). refusalLeft i row) e ∙ check-done row;
-          stays = λ z. told .1 z ∙ ap (λ (i : ℕ). changedTo i row) e ∙ changed-all row fits;
-        }
+    pub checks-done : (k : ℕ) (changes : Bool) → k ≡ n → ChecksTo row k changes → Told (codesRefusal r plan (drop from row)) row (changed row) (unrefused changes)
+    checks-done k true e told = sym (told .0) ∙ ap (λ (i : ℕ). refusalLeft i row) e ∙ check-done row
+    checks-done k false e told =
+        (sym (told .0) ∙ ap (λ (i : ℕ). refusalLeft i row) e ∙ check-done row, told .1 refl ∙ ap (λ (i : ℕ). changedTo i row) e ∙ changed-all row fits)
 
-    module _ (k : ℕ) (l : k < n) (noted : ℕ) (told : LooksTo row k noted) where
-      abbrev pub access : Option AccessKind
-      access = accessAt what starts k
+    module _ (k : ℕ) (l : k < n) (changes : Bool) (told : ChecksTo row k changes) (o : Outcome) (t : o ≡ stepped (accessAt what starts k) r (getD row (from + k) 0)) where
+      pub checks-stays : (changes′ : Bool) → o ≡ Stays → changes′ ≡ changes → ChecksTo row (k + 1) changes′
+      checks-stays changes′ e q =
+          (check-next row fits k 0 l (sym (step-stays (accessAt what starts k) r (getD row (from + k) 0) (sym t ∙ e) .0)) refl ∙ told .0, λ z. turn-stays row fits k l row row (told .1 (sym q ∙ z)) o t e refl)
 
-      abbrev pub code : ℕ
-      code = getD row (from + k) 0
+      pub checks-becomes : (d : ℕ) (changes′ : Bool) → o ≡ Becomes d → changes′ ≡ true → ChecksTo row (k + 1) changes′
+      checks-becomes d changes′ e q =
+          (check-next row fits k 0 l (sym (step-becomes (accessAt what starts k) r (getD row (from + k) 0) d (sym t ∙ e) .0)) refl ∙ told .0, λ z. absurd (true-not-false (sym q ∙ z)))
 
-      pub looks-on : (noted′ : ℕ) → 0 ≡ refusalCode access r code → (noted′ ≡ 0 → (noted ≡ 0) × (code ≡ nextCode access r code)) → LooksTo row (k + 1) noted′
-      looks-on noted′ e same = (check-next row fits k 0 l e refl ∙ told .0, λ z. turn-stays row fits k l row row (told .1 (same z .0)) (same z .1) refl)
-
-      -- a number that is no code
-      pub looks-past : (noted′ : ℕ) → 15 ≤ code → noted′ ≡ noted → LooksTo row (k + 1) noted′
-      looks-past noted′ h e = looks-on noted′ (sym (past-refusal access r code h)) (λ z. (omega arith, sym (past-next access r code h)))
-
-      -- a code, whose outcome is looked up
-      module _ (table : List ℕ) (t : table ≡ outcomeTable) (line i d : ℕ) (e : line ≡ lineOf access r) (small : code < 16) (at : i ≡ code) (u : d ≡ getD table (line + i) 0) where
-        pub looks-found : d ≤ 15 → (noted′ : ℕ) → (noted′ ≡ 0 → (noted ≡ 0) × (d ≡ code)) → LooksTo row (k + 1) noted′
-        looks-found h noted′ same =
-            looks-on noted′ (look-passes access r table t code line i d e small at u h)
-            (λ z. (same z .0, sym (same z .1) ∙ look-next access r table t code line i d e small at u h))
-
-        pub looks-refused : 15 < d → Looks plan r from row d
-        looks-refused h =
-            record {
-              refused = λ q. check-here row fits k d l (look-refused access r table t code line i d e small at u h) (omega arith) ∙ told .0;
-              passes = λ q. absurd (omega arith);
-              stays = λ q. absurd (omega arith);
-            }
-
--- ---- the line of a byte's access, by the code that tells it
-module _ (what : Accesses) (lines : List ℕ) (h : Lines what lines) where
-  pub looked-end : what ≡ AtEnd → Looked what lines
-  looked-end e =
-      subst⁻¹ (λ (w : Accesses). Lines w lines → Looked w lines) e
-      (λ t starts k. ap (λ (l : List ℕ). lineAt l (getD starts k 0)) t ∙ end-line (getD starts k 0)) h
-
-  pub looked-init : what ≡ AtInit → Looked what lines
-  looked-init e =
-      subst⁻¹ (λ (w : Accesses). Lines w lines → Looked w lines) e
-      (λ t starts k. ap (λ (l : List ℕ). lineAt l (getD starts k 0)) t ∙ init-line (getD starts k 0)) h
-
--- one access at all bytes asks nothing of the lines
-pub each-tabled : (v : Reach) (a : declared.AccessKind) (ps lines table : List ℕ) → EachOf v a ps → table ≡ outcomeTable → Tabled v lines table
-each-tabled v a ps lines table each e = record { accesses = subst⁻¹ (λ (w : Accesses). Lines w lines) (each .same) tt; outcomes = e }
-
-pub line-small : (x : Option AccessKind) → lineIn x ≤ 32
-line-small none = omega arith
-line-small (some Read) = omega arith
-line-small (some Write) = omega arith
+      pub checks-refused : (m : ℕ) → o ≡ Refused m → Told (codesRefusal r plan (drop from row)) row (changed row) (answer.Refused m)
+      checks-refused m e =
+          let s = step-refused (accessAt what starts k) r (getD row (from + k) 0) m (sym t ∙ e) in
+          (check-here row fits k m l (sym (s .0)) (omega (arith, s .2)) ∙ told .0, s .2)

@@ -1,3 +1,3 @@
 pub mod Walk
-pub mod Sweep
+pub mod Path
 pub mod Plan

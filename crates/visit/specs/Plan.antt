@@ -1,5 +1,5 @@
 -- The plan of a visit: for node k, three numbers from place 3 * k on.
-use Prim.Native.Nat.{ℕ, suc, _+_, _*_, _≤_, _<_}
+use Prim.Native.Nat.{ℕ, zero, suc, _+_, _*_, _≤_, _<_}
 use mathlib.Core.Path.{_≡_}
 use mathlib.Core.List.{List, [], _∷_}
 use lib.Dec.{eqb}
@@ -13,6 +13,11 @@ use Rattle.visit.specs.declared.Reach.{Reach}
 unfoldable pub childFrom : ℕ → ℕ → ℕ → List ℕ → ℕ
 childFrom s n m [] = 0
 childFrom s n m (p ∷ ps) = if eqb p n then (if eqb m s then childFrom s n (suc m) ps else m) else childFrom s n (suc m) ps
+
+-- the next child of a node's parent; the root is nobody's child
+unfoldable pub nextSibling : ℕ → List ℕ → ℕ → ℕ
+nextSibling s ps zero = 0
+nextSibling s ps (suc m) = childFrom s (getD ps (suc m) 0) (suc m + 1) (drop (suc m + 1) ps)
 
 -- the nodes that the plan has numbers for have their first child and their next sibling in it
 pub record Linked (s : ℕ) (ps plan : List ℕ) : Type 0 where

@@ -1,6 +1,7 @@
 -- A visit as the code makes it, over the tables. That it is the definition's is shown in the proofs of `tree` (Meaning).
-use Prim.Native.Nat.{ℕ, _+_, _*_, _≤_, _<_}
+use Prim.Native.Nat.{ℕ, zero, suc, _+_, _*_, _≤_, _<_}
 use mathlib.Core.Path.{_≡_}
+use mathlib.Core.Bool.{Bool, true, false}
 use mathlib.Core.Option.{Option, none, some}
 use mathlib.Core.List.{List, [], _∷_, _++_, map}
 use lib.ListN.{length, getD, take, drop, replicate}
@@ -11,10 +12,12 @@ use Rattle.definition.proofs.Trees.{Parents}
 use Rattle.definition.proofs.Order.{walk}
 use Rattle.permission.specs.declared.AccessKind as declared
 use Rattle.permission.specs.declared.Outcome.{Outcome}
-use Rattle.permission.specs.declared.Outcome.the-variants.{Becomes}
-use Rattle.permission.specs.Codes.{accessKind, transitionCode, refusalCode, nextCode, endAccessCode, initAccessCode, lineIn, lineAt, endLines, initLines, outcomeTable}
+use Rattle.permission.specs.declared.Outcome.the-variants as code
+use Rattle.permission.specs.Codes.{accessKind, transitionCode, refusalCode, nextCode, endAccessCode, initAccessCode}
 use Rattle.visit.specs.declared.Accesses.{Accesses}
 use Rattle.visit.specs.declared.Accesses.the-variants.{Each, AtEnd, AtInit}
+use Rattle.visit.specs.declared.Answer.{Answer}
+use Rattle.visit.specs.declared.Answer.the-variants.{Stays, Changes, Refused}
 use Rattle.visit.specs.declared.Reach.{Reach}
 
 -- a visit that can be made: its node is in the tree, its bytes are in a row, and the table has a row for each node
@@ -40,29 +43,20 @@ accessesAt AtInit n starts = map initAccessCode (take n starts)
 abbrev pub planned : Reach → List ℕ → List (Option AccessKind)
 planned v starts = accessesAt (v .what) (v .len) starts
 
--- ---- what a visit looks up
--- the line of the k-th byte's access is what `lines` has for its code
-abbrev pub Looked : Accesses → List ℕ → Type 0
-Looked what lines = (starts : List ℕ) (k : ℕ) → lineAt lines (getD starts k 0) ≡ lineIn (accessAt what starts k)
+-- ---- what a check tells: of what is refused, and of the codes before and after
+abbrev pub Told : ℕ → List ℕ → List ℕ → Answer → Type 0
+Told refused before after Stays = (refused ≡ 0) × (before ≡ after)
+Told refused before after Changes = refused ≡ 0
+Told refused before after (Refused n) = (n ≡ refused) × (n ≡ 0 → ⊥)
 
--- where each byte has an access of its own
-abbrev pub Lines : Accesses → List ℕ → Type 0
-Lines (Each a) lines = Unit {0}
-Lines AtEnd lines = lines ≡ endLines
-Lines AtInit lines = lines ≡ initLines
-
--- the accesses of the end of a row's protectors, said by each code or at once
-pub record EndsWith (row : List ℕ) (what : Accesses) : Type 0 where
-  pub same : accessesAt what (length row) row ≡ map endAccessCode row
-  pub lines : Lines what endLines
-
-pub record Tabled (v : Reach) (lines table : List ℕ) : Type 0 where
-  pub accesses : Lines (v .what) lines
-  pub outcomes : table ≡ outcomeTable
+-- nothing is refused: by whether a change was seen
+abbrev pub unrefused : Bool → Answer
+unrefused true = Changes
+unrefused false = Stays
 
 -- ---- a row
 abbrev pub stepped : Option AccessKind → NodeRelation → ℕ → Outcome
-stepped none r c = Becomes c
+stepped none r c = code.Stays
 stepped (some a) r c = transitionCode a r c
 
 -- the first refusal of codes under accesses
@@ -83,20 +77,14 @@ rowRefusal v starts r row = codesRefusal r (planned v starts) (drop (v .from) ro
 abbrev pub rowAfter : Reach → List ℕ → NodeRelation → List ℕ → List ℕ
 rowAfter v starts r row = take (v .from) row ++ codesAfter r (planned v starts) (drop (v .from) row)
 
+-- what the check of a row tells
+abbrev pub ToldRow : Reach → List ℕ → NodeRelation → List ℕ → Answer → Type 0
+ToldRow v starts r row = Told (rowRefusal v starts r row) row (rowAfter v starts r row)
+
 -- of one access at all its bytes
-abbrev pub eachAfter : Reach → declared.AccessKind → NodeRelation → List ℕ → List ℕ
-eachAfter v a r row = take (v .from) row ++ codesAfter r (replicate (v .len) (some (accessKind a))) (drop (v .from) row)
-
--- what a look at a row tells, of accesses from `from` on: the first refusal, or that there is none, and perhaps that every code stays
-pub record Looks (xs : List (Option AccessKind)) (r : NodeRelation) (from : ℕ) (row : List ℕ) (answer : ℕ) : Type 0 where
-  pub refused : 15 < answer → answer ≡ codesRefusal r xs (drop from row)
-  pub passes : answer ≤ 15 → codesRefusal r xs (drop from row) ≡ 0
-  pub stays : answer ≡ 0 → row ≡ take from row ++ codesAfter r xs (drop from row)
-
--- the visit makes this one, and spares none of these nodes
-pub record EachOf (v : Reach) (a : declared.AccessKind) (ps : List ℕ) : Type 0 where
-  pub same : v .what ≡ Each a
-  pub none : length ps ≤ v .spared
+abbrev pub ToldEach : declared.AccessKind → ℕ → ℕ → NodeRelation → List ℕ → Answer → Type 0
+ToldEach a from n r row =
+    Told (codesRefusal r (replicate n (some (accessKind a))) (drop from row)) row (take from row ++ codesAfter r (replicate n (some (accessKind a))) (drop from row))
 
 -- ---- a node
 -- row n of a table, and the table with another row there
@@ -121,6 +109,20 @@ below s n ps = walk s n (n + 1) (drop (n + 1) ps)
 abbrev pub subtree : ℕ → ℕ → List ℕ → List ℕ
 subtree s n ps = n ∷ below s n ps
 
+-- where a visit goes from a node on: to it, to its descendants, and to the siblings made after it with theirs; the root has none
+unfoldable pub nodesFrom : ℕ → List ℕ → ℕ → List ℕ
+nodesFrom s ps zero = subtree s 0 ps
+nodesFrom s ps (suc m) = walk s (getD ps (suc m) 0) (suc m) (drop (suc m) ps)
+
 -- the first refusal at the nodes of a list
 abbrev pub walkRefusal : Reach → List ℕ → List ℕ → List ℕ → List ℕ → ℕ
 walkRefusal v ps starts codes ns = firstRefusal (nodeRefusal v ps starts codes) ns
+
+-- the table after the nodes of a list
+unfoldable pub walkAfter : Reach → List ℕ → List ℕ → List ℕ → List ℕ → List ℕ
+walkAfter v ps starts [] codes = codes
+walkAfter v ps starts (n ∷ ns) codes = walkAfter v ps starts ns (nodeAfter v ps starts n codes)
+
+-- what the check of the nodes of a list tells
+abbrev pub ToldOf : Reach → List ℕ → List ℕ → List ℕ → List ℕ → Answer → Type 0
+ToldOf v ps starts codes ns = Told (walkRefusal v ps starts codes ns) codes (walkAfter v ps starts ns codes)

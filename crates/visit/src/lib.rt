@@ -1,27 +1,18 @@
 // A visit of one allocation's tree over its tables: each node's parent, and a row of codes for its bytes. It goes to every node but one that is
 // spared and its descendants, parents before children, children in the order they were made, each with its bytes ascending.
-// It is made twice: a look, and, if nothing is refused and a code changes, the change. So a refusal leaves nothing to undo. Only where something is
-// refused does the order matter, for what comes first: the nodes are gone over from the last to the first, and in the tree's order only to find that.
-mod each;
-mod order;
+// It is made in two passes, a check and, if nothing is refused, the change. So a refusal leaves nothing to undo.
+mod apply_pass;
+mod check_pass;
 mod path;
 mod plan;
-mod quiet;
 mod row;
-mod sweep;
 
-pub use each::apply_each_node;
-pub use each::look_at_nodes;
-pub use each::refusal_after_look;
+pub use apply_pass::apply;
+pub use check_pass::check;
 pub use path::relation_on;
 use permission::AccessKind;
-pub use quiet::all_stay;
-pub use row::lent_line;
-pub use sweep::apply;
-pub use sweep::check;
-pub use sweep::look;
-pub use sweep::mark_spared;
 ghost use mathlib.Core.Path.{_≡_};
+ghost use Rattle.visit.specs.Walk as walk;
 
 // The accesses of a visit: the same at each byte; or, by a lent row of codes, the one that the end of the byte's protector makes, or the
 // one by which a retag reads the byte.
@@ -40,6 +31,24 @@ pub struct Reach {
     pub from: usize,
     pub len: usize,
     pub what: Accesses,
+}
+
+// What the check pass tells: every code stays; nothing is refused, and some code changes; or the first refusal in the order of the visit.
+pub enum Answer {
+    Stays,
+    Changes,
+    Refused(u8),
+}
+
+// Nothing is refused.
+fn unrefused(changes: bool) -> Answer
+    ensures { λ r. ⌜ r ≡ walk.unrefused changes ⌝ }
+{
+    if changes {
+        Answer::Changes
+    } else {
+        Answer::Stays
+    }
 }
 
 pub fn wide(x: u16) -> usize

@@ -8,7 +8,7 @@ ghost use Rattle.definition.specs.Tree as definition;
 ghost use Rattle.definition.specs.Tree.{isAbove};
 ghost use Rattle.definition.proofs.Trees.{Parents};
 ghost use Rattle.permission.specs.Codes.{nodeRelation};
-ghost use Rattle.visit.specs.Sweep.{relationOn};
+ghost use Rattle.visit.specs.Path.{relationOn};
 
 // `upper` is `lower` or an ancestor of it: climbing from `lower` reaches it or passes it.
 pub(crate) fn is_above(parents: &[u16], upper: usize, lower: usize) -> bool

@@ -8,11 +8,11 @@ use permission::NodeRelation;
 ghost use mathlib.Core.Path.{_≡_};
 ghost use mathlib.Core.Logic.{_⊎_};
 ghost use Prim.Native.Nat.{_+_, _*_, _≤_, _<_};
-ghost use lib.ListN.{length, getD, drop};
+ghost use lib.ListN.{length, drop};
 ghost use Rattle.definition.specs.Tree as definition;
 ghost use Rattle.definition.proofs.Trees.{Parents};
 ghost use Rattle.permission.specs.Codes.{nodeRelation};
-ghost use Rattle.visit.specs.Plan.{childFrom, Linked, Marked, Zeros, Roomy, Unmarked, SameLinks};
+ghost use Rattle.visit.specs.Plan.{childFrom, nextSibling, Linked, Marked, Zeros, Roomy, Unmarked, SameLinks};
 
 // The first child of node n from a node on, but for the spared one, or 0.
 fn search_child(parents: &[u16], spared: usize, n: usize, from: usize) -> usize
@@ -43,11 +43,15 @@ pub(crate) fn first_child(plan: &[u16], parents: &[u16], spared: usize, n: usize
     search_child(parents, spared, n, n + 1)
 }
 
+// The root has none.
 pub(crate) fn next_sibling(plan: &[u16], parents: &[u16], spared: usize, n: usize) -> usize
     requires { ⌜ Linked spared (now parents) (now plan) ⌝ }
-    requires { ⌜ (0 < n) × (n < length (now parents)) ⌝ }
-    ensures { λ r. ⌜ r ≡ childFrom spared (getD (now (parents .entry)) n 0) (n + 1) (drop (n + 1) (now (parents .entry))) ⌝ }
+    requires { ⌜ n < length (now parents) ⌝ }
+    ensures { λ r. ⌜ r ≡ nextSibling spared (now (parents .entry)) n ⌝ }
 {
+    if n == 0 {
+        return 0;
+    }
     let at = 3 * n;
     if at + 2 < plan.len() {
         return wide(plan[at + 1]);
@@ -107,13 +111,10 @@ fn mark_path(parents: &[u16], plan: &mut [u16], accessed: usize)
     plan[2] = 1;
 }
 
-// How many numbers the plan has: none where it would not fit, or for one node, where there is nothing to look up.
+// How many numbers the plan has: three for each node, or none where there is no room for them.
 pub(crate) fn plan_size(nodes: usize, room: usize) -> usize
     ensures { λ r. ⌜ (r ≤ room) × ((r ≡ 0) ⊎ ((r ≡ 3 * nodes) × (nodes ≤ 1024))) ⌝ }
 {
-    if nodes < 2 {
-        return 0;
-    }
     if 1024 < nodes {
         return 0;
     }

@@ -1,23 +1,18 @@
-// The codes of a row under the accesses of a visit: what they come to, and the codes that they leave. An outcome is looked up in a table, in the
-// line of the access.
+// The codes of a row under the accesses of a visit: what they come to, and the codes that they leave.
 use crate::Accesses;
+use crate::Answer;
 use crate::Reach;
+use crate::unrefused;
 use permission::AccessKind;
 use permission::MaybeAccess;
 use permission::NodeRelation;
+use permission::Outcome;
 ghost use mathlib.Core.Path.{_≡_};
-ghost use mathlib.Core.Option.{some};
-ghost use mathlib.Core.List.{_++_};
 ghost use Prim.Native.Nat.{_+_, _*_, _≤_};
-ghost use lib.ListN.{length, getD, take, drop, replicate};
-ghost use Rattle.permission.specs.Codes.{outcomeTable, lineAt, lineOf, accessKind, nodeRelation};
-ghost use Rattle.visit.specs.Walk.{Looked, Tabled, accessAt, planned, codesAfter, rowAfter, rowAt, withRowAt, eachAfter, Looks};
-
-fn index(code: u8) -> usize
-    ensures { λ r. ⌜ r ≡ code ⌝ }
-{
-    code as usize
-}
+ghost use lib.ListN.{length, getD};
+ghost use Rattle.definition.specs.Permission.NodeRelation.{Local, Foreign};
+ghost use Rattle.permission.specs.Codes.{maybeAccess, nodeRelation};
+ghost use Rattle.visit.specs.Walk.{ToldEach, ToldRow, accessAt, stepped, rowAfter, rowAt, withRowAt};
 
 // The lent code at the k-th visited byte, 0 where there is none.
 fn start_at(starts: &[u8], k: usize) -> u8
@@ -26,279 +21,205 @@ fn start_at(starts: &[u8], k: usize) -> u8
     if k < starts.len() { starts[k] } else { 0 }
 }
 
-// What `lines` has for that code.
-pub fn lent_line(lines: &[u8; 16], starts: &[u8], k: usize) -> usize
-    ensures { λ r. ⌜ r ≡ lineAt (now (lines .entry)) (getD (now (starts .entry)) k 0) ⌝ }
+// The access at the k-th visited byte.
+fn access_at(what: Accesses, starts: &[u8], k: usize) -> MaybeAccess
+    ensures { λ r. ⌜ maybeAccess r ≡ accessAt what (now (starts .entry)) k ⌝ }
 {
-    let code = start_at(starts, k);
-    if code < 16 {
-        return index(lines[index(code)]);
-    }
-    0
-}
-
-// Where the outcomes of the access at the k-th visited byte start.
-fn line_at(
-    what: Accesses,
-    lines: &[u8; 16],
-    starts: &[u8],
-    k: usize,
-    relation: NodeRelation,
-) -> usize
-    requires { ⌜ Looked what (now lines) ⌝ }
-    ensures { λ r. ⌜ r ≡ lineOf (accessAt what (now (starts .entry)) k) (nodeRelation relation) ⌝ }
-{
-    let line = lent_line(lines, starts, k);
-    match relation {
-        NodeRelation::Foreign => line,
-        NodeRelation::Local => line + 48,
+    match what {
+        Accesses::Each(kind) => MaybeAccess::Access(kind),
+        Accesses::AtEnd => permission::end_access(start_at(starts, k)),
+        Accesses::AtInit => permission::init_access(start_at(starts, k)),
     }
 }
 
-// ---- a row
+// The outcome of that access, if there is one.
+fn local_step(code: u8, access: MaybeAccess) -> Outcome
+    ensures { λ r. ⌜ r ≡ stepped (maybeAccess access) Local code ⌝ }
+{
+    match access {
+        MaybeAccess::Nothing => Outcome::Stays,
+        MaybeAccess::Access(a) => permission::local(code, a),
+    }
+}
 
-// What the same access to `len` bytes from `from` on comes to in a row: above 15 it is the first refusal; else there is none, and 0 says that
-// every code stays.
-fn look_each(
-    row: &[u8],
-    table: &[u8; 96],
-    from: usize,
-    len: usize,
-    kind: AccessKind,
-    relation: NodeRelation,
-) -> u8
-    requires { ⌜ now table ≡ outcomeTable ⌝ }
+fn foreign_step(code: u8, access: MaybeAccess) -> Outcome
+    ensures { λ r. ⌜ r ≡ stepped (maybeAccess access) Foreign code ⌝ }
+{
+    match access {
+        MaybeAccess::Nothing => Outcome::Stays,
+        MaybeAccess::Access(a) => permission::foreign(code, a),
+    }
+}
+
+// ---- a row: the visited bytes, code by code
+
+// What the same access at each byte comes to, in the row of a local node and of a foreign one.
+fn check_local_each(row: &[u8], from: usize, len: usize, kind: AccessKind) -> Answer
     requires { ⌜ from + len ≤ length (now row) ⌝ }
-    ensures { λ r. ⌜ Looks (replicate len (some (accessKind kind))) (nodeRelation relation) from (now (row .entry)) r ⌝ }
+    ensures { λ r. ⌜ ToldEach kind from len Local (now (row .entry)) r ⌝ }
 {
-    let line = permission::line_of(MaybeAccess::Access(kind), relation);
-    let mut changed = 0;
+    let mut changes = false;
     let mut k = 0;
     while k < len {
-        let code = row[from + k];
-        if code < 16 {
-            let outcome = table[line + index(code)];
-            if 15 < outcome {
-                return outcome;
-            }
-            if outcome != code {
-                changed = 1; // it does not stay
-            }
+        match permission::local(row[from + k], kind) {
+            Outcome::Stays => {}
+            Outcome::Becomes(_) => changes = true,
+            Outcome::Refused(n) => return Answer::Refused(n),
         }
         k += 1;
     }
-    changed
+    unrefused(changes)
 }
 
-// The same where each byte may have another access.
-fn look_bytes(
-    row: &[u8],
-    starts: &[u8],
-    lines: &[u8; 16],
-    table: &[u8; 96],
-    v: Reach,
-    relation: NodeRelation,
-) -> u8
-    requires { ⌜ (now table ≡ outcomeTable) × Looked (v .what) (now lines) ⌝ }
+fn check_foreign_each(row: &[u8], from: usize, len: usize, kind: AccessKind) -> Answer
+    requires { ⌜ from + len ≤ length (now row) ⌝ }
+    ensures { λ r. ⌜ ToldEach kind from len Foreign (now (row .entry)) r ⌝ }
+{
+    let mut changes = false;
+    let mut k = 0;
+    while k < len {
+        match permission::foreign(row[from + k], kind) {
+            Outcome::Stays => {}
+            Outcome::Becomes(_) => changes = true,
+            Outcome::Refused(n) => return Answer::Refused(n),
+        }
+        k += 1;
+    }
+    unrefused(changes)
+}
+
+// What accesses that may differ come to there.
+fn check_local_bytes(row: &[u8], starts: &[u8], v: Reach) -> Answer
     requires { ⌜ v .from + v .len ≤ length (now row) ⌝ }
-    ensures { λ r. ⌜ Looks (planned v (now (starts .entry))) (nodeRelation relation) (v .from) (now (row .entry)) r ⌝ }
+    ensures { λ r. ⌜ ToldRow v (now (starts .entry)) Local (now (row .entry)) r ⌝ }
 {
     let what = v.what;
     let from = v.from;
     let len = v.len;
-    let mut changed = 0;
+    let mut changes = false;
     let mut k = 0;
     while k < len {
-        let code = row[from + k];
-        if code < 16 {
-            let line = line_at(what, lines, starts, k, relation);
-            let outcome = table[line + index(code)];
-            if 15 < outcome {
-                return outcome;
-            }
-            if outcome != code {
-                changed = 1;
-            }
+        match local_step(row[from + k], access_at(what, starts, k)) {
+            Outcome::Stays => {}
+            Outcome::Becomes(_) => changes = true,
+            Outcome::Refused(n) => return Answer::Refused(n),
         }
         k += 1;
     }
-    changed
+    unrefused(changes)
 }
 
-// What the accesses of a visit come to in a row, told in the same way.
-fn look_row(
-    row: &[u8],
-    starts: &[u8],
-    lines: &[u8; 16],
-    table: &[u8; 96],
-    v: Reach,
-    relation: NodeRelation,
-) -> u8
-    requires { ⌜ Tabled v (now lines) (now table) ⌝ }
+fn check_foreign_bytes(row: &[u8], starts: &[u8], v: Reach) -> Answer
     requires { ⌜ v .from + v .len ≤ length (now row) ⌝ }
-    ensures { λ r. ⌜ Looks (planned v (now (starts .entry))) (nodeRelation relation) (v .from) (now (row .entry)) r ⌝ }
+    ensures { λ r. ⌜ ToldRow v (now (starts .entry)) Foreign (now (row .entry)) r ⌝ }
+{
+    let what = v.what;
+    let from = v.from;
+    let len = v.len;
+    let mut changes = false;
+    let mut k = 0;
+    while k < len {
+        match foreign_step(row[from + k], access_at(what, starts, k)) {
+            Outcome::Stays => {}
+            Outcome::Becomes(_) => changes = true,
+            Outcome::Refused(n) => return Answer::Refused(n),
+        }
+        k += 1;
+    }
+    unrefused(changes)
+}
+
+// What the accesses of a visit come to there.
+fn check_local(row: &[u8], starts: &[u8], v: Reach) -> Answer
+    requires { ⌜ v .from + v .len ≤ length (now row) ⌝ }
+    ensures { λ r. ⌜ ToldRow v (now (starts .entry)) Local (now (row .entry)) r ⌝ }
 {
     let what = v.what;
     match what {
-        Accesses::Each(kind) => look_each(row, table, v.from, v.len, kind, relation),
-        Accesses::AtEnd => look_bytes(row, starts, lines, table, v, relation),
-        Accesses::AtInit => look_bytes(row, starts, lines, table, v, relation),
+        Accesses::Each(kind) => check_local_each(row, v.from, v.len, kind),
+        Accesses::AtEnd => check_local_bytes(row, starts, v),
+        Accesses::AtInit => check_local_bytes(row, starts, v),
     }
 }
 
-// The bytes of a row, each as the same access leaves it.
-fn apply_each(
-    row: &mut [u8],
-    table: &[u8; 96],
-    from: usize,
-    len: usize,
-    kind: AccessKind,
-    relation: NodeRelation,
-)
-    requires { ⌜ now table ≡ outcomeTable ⌝ }
-    requires { ⌜ from + len ≤ length (now row) ⌝ }
-    ensures { λ _. ⌜ now (row .exit) ≡ take from (now (row .entry)) ++ codesAfter (nodeRelation relation) (replicate len (some (accessKind kind))) (drop from (now (row .entry))) ⌝ }
-{
-    let line = permission::line_of(MaybeAccess::Access(kind), relation);
-    let mut k = 0;
-    while k < len {
-        let code = row[from + k];
-        if code < 16 {
-            let outcome = table[line + index(code)];
-            if outcome < 16 {
-                row[from + k] = outcome;
-            }
-        }
-        k += 1;
-    }
-}
-
-// The same where each byte may have another access.
-fn apply_bytes(
-    row: &mut [u8],
-    starts: &[u8],
-    lines: &[u8; 16],
-    table: &[u8; 96],
-    v: Reach,
-    relation: NodeRelation,
-)
-    requires { ⌜ (now table ≡ outcomeTable) × Looked (v .what) (now lines) ⌝ }
+fn check_foreign(row: &[u8], starts: &[u8], v: Reach) -> Answer
     requires { ⌜ v .from + v .len ≤ length (now row) ⌝ }
-    ensures { λ _. ⌜ now (row .exit) ≡ rowAfter v (now (starts .entry)) (nodeRelation relation) (now (row .entry)) ⌝ }
+    ensures { λ r. ⌜ ToldRow v (now (starts .entry)) Foreign (now (row .entry)) r ⌝ }
+{
+    let what = v.what;
+    match what {
+        Accesses::Each(kind) => check_foreign_each(row, v.from, v.len, kind),
+        Accesses::AtEnd => check_foreign_bytes(row, starts, v),
+        Accesses::AtInit => check_foreign_bytes(row, starts, v),
+    }
+}
+
+// What they leave there.
+fn apply_local(row: &mut [u8], starts: &[u8], v: Reach)
+    requires { ⌜ v .from + v .len ≤ length (now row) ⌝ }
+    ensures { λ _. ⌜ now (row .exit) ≡ rowAfter v (now (starts .entry)) Local (now (row .entry)) ⌝ }
 {
     let what = v.what;
     let from = v.from;
     let len = v.len;
     let mut k = 0;
     while k < len {
-        let code = row[from + k];
-        if code < 16 {
-            let line = line_at(what, lines, starts, k, relation);
-            let outcome = table[line + index(code)];
-            if outcome < 16 {
-                row[from + k] = outcome;
-            }
+        match local_step(row[from + k], access_at(what, starts, k)) {
+            Outcome::Stays => {}
+            Outcome::Becomes(next) => row[from + k] = next,
+            Outcome::Refused(_) => {}
         }
         k += 1;
     }
 }
 
-// The visited bytes of a row, each as its access leaves it.
-fn apply_row(
-    row: &mut [u8],
-    starts: &[u8],
-    lines: &[u8; 16],
-    table: &[u8; 96],
-    v: Reach,
-    relation: NodeRelation,
-)
-    requires { ⌜ Tabled v (now lines) (now table) ⌝ }
+fn apply_foreign(row: &mut [u8], starts: &[u8], v: Reach)
     requires { ⌜ v .from + v .len ≤ length (now row) ⌝ }
-    ensures { λ _. ⌜ now (row .exit) ≡ rowAfter v (now (starts .entry)) (nodeRelation relation) (now (row .entry)) ⌝ }
+    ensures { λ _. ⌜ now (row .exit) ≡ rowAfter v (now (starts .entry)) Foreign (now (row .entry)) ⌝ }
 {
     let what = v.what;
-    match what {
-        Accesses::Each(kind) => apply_each(row, table, v.from, v.len, kind, relation),
-        Accesses::AtEnd => apply_bytes(row, starts, lines, table, v, relation),
-        Accesses::AtInit => apply_bytes(row, starts, lines, table, v, relation),
+    let from = v.from;
+    let len = v.len;
+    let mut k = 0;
+    while k < len {
+        match foreign_step(row[from + k], access_at(what, starts, k)) {
+            Outcome::Stays => {}
+            Outcome::Becomes(next) => row[from + k] = next,
+            Outcome::Refused(_) => {}
+        }
+        k += 1;
     }
 }
 
-// ---- a row of a table
-
-// What the accesses come to in the row of node n, to which they stand in a relation.
-pub(crate) fn look_at(
+// ---- a row of a table: that of node n, to which the accesses stand in a relation
+pub(crate) fn check_at(
     codes: &[u8],
     starts: &[u8],
-    lines: &[u8; 16],
-    table: &[u8; 96],
     v: Reach,
     n: usize,
     relation: NodeRelation,
-) -> u8
-    requires { ⌜ Tabled v (now lines) (now table) ⌝ }
+) -> Answer
     requires { ⌜ (n * v .width + v .width ≤ length (now codes)) × (v .from + v .len ≤ v .width) ⌝ }
-    ensures { λ r. ⌜ Looks (planned v (now (starts .entry))) (nodeRelation relation) (v .from) (rowAt (v .width) n (now (codes .entry))) r ⌝ }
+    ensures { λ r. ⌜ ToldRow v (now (starts .entry)) (nodeRelation relation) (rowAt (v .width) n (now (codes .entry))) r ⌝ }
 {
     let width = v.width;
     let start = n * width;
     let end = start + width;
-    look_row(&codes[start..end], starts, lines, table, v, relation)
+    match relation {
+        NodeRelation::Local => check_local(&codes[start..end], starts, v),
+        NodeRelation::Foreign => check_foreign(&codes[start..end], starts, v),
+    }
 }
 
-// The row of node n, each byte as its access leaves it.
-pub(crate) fn apply_at(
-    codes: &mut [u8],
-    starts: &[u8],
-    lines: &[u8; 16],
-    table: &[u8; 96],
-    v: Reach,
-    n: usize,
-    relation: NodeRelation,
-)
-    requires { ⌜ Tabled v (now lines) (now table) ⌝ }
+pub(crate) fn apply_at(codes: &mut [u8], starts: &[u8], v: Reach, n: usize, relation: NodeRelation)
     requires { ⌜ (n * v .width + v .width ≤ length (now codes)) × (v .from + v .len ≤ v .width) ⌝ }
     ensures { λ _. ⌜ now (codes .exit) ≡ withRowAt (v .width) n (rowAfter v (now (starts .entry)) (nodeRelation relation) (rowAt (v .width) n (now (codes .entry)))) (now (codes .entry)) ⌝ }
 {
     let width = v.width;
     let start = n * width;
     let end = start + width;
-    apply_row(&mut codes[start..end], starts, lines, table, v, relation);
-}
-
-// The same two for one access at all its bytes.
-pub(crate) fn look_each_at(
-    codes: &[u8],
-    table: &[u8; 96],
-    v: Reach,
-    kind: AccessKind,
-    n: usize,
-    relation: NodeRelation,
-) -> u8
-    requires { ⌜ now table ≡ outcomeTable ⌝ }
-    requires { ⌜ (n * v .width + v .width ≤ length (now codes)) × (v .from + v .len ≤ v .width) ⌝ }
-    ensures { λ r. ⌜ Looks (replicate (v .len) (some (accessKind kind))) (nodeRelation relation) (v .from) (rowAt (v .width) n (now (codes .entry))) r ⌝ }
-{
-    let width = v.width;
-    let start = n * width;
-    let end = start + width;
-    look_each(&codes[start..end], table, v.from, v.len, kind, relation)
-}
-
-pub(crate) fn apply_each_at(
-    codes: &mut [u8],
-    table: &[u8; 96],
-    v: Reach,
-    kind: AccessKind,
-    n: usize,
-    relation: NodeRelation,
-)
-    requires { ⌜ now table ≡ outcomeTable ⌝ }
-    requires { ⌜ (n * v .width + v .width ≤ length (now codes)) × (v .from + v .len ≤ v .width) ⌝ }
-    ensures { λ _. ⌜ now (codes .exit) ≡ withRowAt (v .width) n (eachAfter v kind (nodeRelation relation) (rowAt (v .width) n (now (codes .entry)))) (now (codes .entry)) ⌝ }
-{
-    let width = v.width;
-    let start = n * width;
-    let end = start + width;
-    apply_each(&mut codes[start..end], table, v.from, v.len, kind, relation);
+    match relation {
+        NodeRelation::Local => apply_local(&mut codes[start..end], starts, v),
+        NodeRelation::Foreign => apply_foreign(&mut codes[start..end], starts, v),
+    }
 }

@@ -14,7 +14,7 @@ use Rattle.definition.proofs.Any.{any-at, any-none}
 use Rattle.tree.specs.Table.{HoldsAll}
 use Rattle.tree.proofs.Strong.{strong-prevents, other-prevents-not}
 use Rattle.tree.proofs.Held.{node-fits, held-count, marks-count}
-use Rattle.visit.proofs.Sweeps.{Sweeping, sweeping-start, sweeping-up, sweeping-on, met}
+use Rattle.visit.proofs.Paths.{Sweeping, sweeping-start, sweeping-up, sweeping-on, met}
 use borrow.Author.Needs.{needs}
 use native.Mathlib.Omega.{arith}
 use Rattle.tree.proofs.deallocation.strong_protector_after_write.Statement.{statement}

@@ -1,14 +1,16 @@
 -- The invariant: the first refusal of the reads that are left is that of all.
-use Prim.Native.Nat.{_-_, _≤_}
-use mathlib.Core.List.{List}
+use Prim.Native.Nat.{_+_, _-_, _≤_}
+use mathlib.Core.Path.{_≡_, refl, sym, ap, subst, _∙_}
 use mathlib.Core.Logic.{⊎-elim}
-use mathlib.Core.Path.{_≡_, refl, sym, ap, _∙_}
+use mathlib.Core.List.{List}
 use native.Mathlib.Omega.{arith}
 use borrow.Author.Needs.{needs}
 use lib.ListN.{length}
-use Rattle.definition.specs.Tree.{Node}
+use Rattle.definition.specs.Tree.{Node, accessVisit}
 use Rattle.permission.specs.Codes.{accessKind, maybeAccess}
 use Rattle.tree.specs.Table.{Holds}
+use Rattle.tree.specs.Requests.{Checked}
+use Rattle.tree.proofs.Visits.{checked-stays, checked-changes}
 use Rattle.tree.proofs.Inits.{readsLeft, reads-all, reads-skipped, reads-passed, reads-refused, reads-end}
 use Rattle.tree.proofs.retag.first_refused_read.Statement.{statement}
 use Rattle.tree.proofs.retag.first_refused_read.Tie as tie
@@ -38,21 +40,29 @@ enum-known-kind c = search needs
 add-at : tie.Need-add-at Inv-loop μ-loop
 add-at c = search needs
 
-access-refusal-requires : tie.Need-access-refusal-requires Inv-loop μ-loop
-access-refusal-requires c κs =
-    let s = c .before .before .before .before .before .before .before .before .before .before in
-    (s .pre .0, (s .pre .1 .0, omega arith))
+check-access-requires : tie.Need-check-access-requires Inv-loop μ-loop
+check-access-requires c κs = let s = c .before .before .before .before .before .before .before .before .before .before in (s .pre .0, (s .pre .1 .0, omega arith))
+
+enum-told-2 : tie.Need-enum-told-2 Inv-loop μ-loop
+enum-told-2 c = search needs
+
+enum-told-3 : tie.Need-enum-told-3 Inv-loop μ-loop
+enum-told-3 c = search needs
+
+enum-known-n : tie.Need-enum-known-n Inv-loop μ-loop
+enum-known-n c = search needs
 
 returns : tie.Need-returns Inv-loop μ-loop
 returns c =
-    let s = c .before .before .before .before .before .before .before .before .before .before .before .before in
-    let l = c .before .before .before .before .before .before .before .before .loop in
+    let s = c .before .before .before .before .before .before .before .before .before .before .before .before .before .before in
+    let l = c .before .before .before .before .before .before .before .before .before .before .loop in
+    let kind = c .before .before .before .before .before .kind in
     let node = s .args .node in
     let from = s .args .from in
     let inside = s .args .inside .now in
     λ nodes holds.
-    reads-refused node from inside nodes (l .k) (omega arith) _ (c .before .before .before .before .before .init-access .ensures) (accessKind (c .before .before .before .kind .given .0 .0)) (c .before .access-refusal .result)
-    (ap maybeAccess (c .before .before .before .kind .given .1)) (c .before .access-refusal .ensures nodes holds) (c .if1 .taken)
+    let t = subst (Checked (accessVisit (accessKind (kind .given .0 .0)) node (from + l .k) 1) nodes) (c .before .n .given .1) (c .before .before .before .check-access .ensures nodes holds) in
+    reads-refused node from inside nodes (l .k) (omega arith) _ (c .before .before .before .before .before .before .before .init-access .ensures) (accessKind (kind .given .0 .0)) (c .before .n .given .0 .0) (ap maybeAccess (kind .given .1)) (t .0) (t .1)
     ∙ l .inv .1 nodes holds
     ∙ reads-all node from inside nodes
 
@@ -73,9 +83,13 @@ loop-again c =
       λ nodes holds.
           ⊎-elim
           (λ w. reads-skipped node from inside nodes (l .k) (omega arith) _ (c .before .init-access .ensures) (ap maybeAccess (w .1 .given .1)))
+          (⊎-elim
           (λ w.
-          reads-passed node from inside nodes (l .k) (omega arith) _ (c .before .init-access .ensures) (accessKind (w .1 .given .0 .0)) (w .3 .result)
-          (ap maybeAccess (w .1 .given .1)) (w .3 .ensures nodes holds) (w .4 .left))
+          reads-passed node from inside nodes (l .k) (omega arith) _ (c .before .init-access .ensures) (accessKind (w .1 .given .0 .0)) _ (ap maybeAccess (w .1 .given .1)) refl
+          (checked-stays (accessVisit (accessKind (w .1 .given .0 .0)) node (from + l .k) 1) nodes _ (w .3 .ensures nodes holds) (w .5 .given .1)))
+          (λ w.
+          reads-passed node from inside nodes (l .k) (omega arith) _ (c .before .init-access .ensures) (accessKind (w .1 .given .0 .0)) _ (ap maybeAccess (w .1 .given .1)) refl
+          (checked-changes (accessVisit (accessKind (w .1 .given .0 .0)) node (from + l .k) 1) nodes _ (w .3 .ensures nodes holds) (w .5 .given .1))))
           (c .match .came)
           ∙ l .inv .1 nodes holds,
     )
@@ -101,7 +115,10 @@ first-refused-read-spec =
     enum-told
     enum-known-kind
     add-at
-    access-refusal-requires
+    check-access-requires
+    enum-told-2
+    enum-told-3
+    enum-known-n
     returns
     add-k
     loop-less

@@ -1,48 +1,81 @@
--- Nothing is refused or changed, or the reads are refused and nothing changes, or the table is as they leave it.
-use Rattle.tree.proofs.Visits.{visit-accepted, visit-refused}
+-- One visit makes all reads; where it is refused some read is, and the first refusal byte by byte is looked for.
+use mathlib.Core.Path.{refl, sym, subst, _∙_}
+use mathlib.Core.List.{map}
+use Rattle.definition.specs.Permission.{permission}
+use Rattle.definition.proofs.Retags.{readsVisit}
+use Rattle.tree.specs.Requests.{Checked}
+use Rattle.tree.proofs.Meaning.{means-told, means-after}
+use Rattle.tree.proofs.Inits.{reads-none, reads-together}
+use Rattle.tree.proofs.Visits.{held-ready, means-reads, visit-accepted, visit-refused}
 use borrow.Author.Needs.{needs}
 use Rattle.tree.proofs.retag.make_reads.Statement.{statement}
 use Rattle.tree.proofs.retag.make_reads.Tie as tie
-use Rattle.tree.proofs.retag.apply_reads.Reads as apply-reads-reads
-use Rattle.tree.proofs.retag.reads_refusal.Reads as reads-refusal-reads
-use Rattle.tree.proofs.retag.reads_stay.Reads as reads-stay-reads
 
-reads-stay-requires : tie.Need-reads-stay-requires
-reads-stay-requires c κs = search needs
+check-requires : tie.Need-check-requires
+check-requires c κs = let s = c .before .before .before .before in (held-ready _ (s .pre .0 .0) _ _ (s .pre .0 .1) (s .pre .1 .0) (s .pre .1 .1), s .pre .0 .1 .root)
+
+enum-told : tie.Need-enum-told
+enum-told c = search needs
+
+enum-told-2 : tie.Need-enum-told-2
+enum-told-2 c = search needs
+
+apply-requires : tie.Need-apply-requires
+apply-requires c κs = let s = c .before .before .before .before .before .before .before .before in (held-ready _ (s .pre .0 .0) _ _ (s .pre .0 .1) (s .pre .1 .0) (s .pre .1 .1), s .pre .0 .1 .root)
+
+enum-told-3 : tie.Need-enum-told-3
+enum-told-3 c = search needs
+
+first-refused-read-requires : tie.Need-first-refused-read-requires
+first-refused-read-requires c κs = search needs
 
 same-length : tie.Need-same-length
 same-length c = search needs
 
 returns : tie.Need-returns
-returns c = λ nodes holds. c .before .reads-stay .ensures (c .if1 .taken) nodes holds
-
-reads-refusal-requires : tie.Need-reads-refusal-requires
-reads-refusal-requires c κs = search needs
-
-apply-reads-requires : tie.Need-apply-reads-requires
-apply-reads-requires c κs = search needs
+returns c =
+    let s = c .before .before .before .before .before .before .before in
+    λ nodes holds.
+    let means = means-reads (s .args .parents .now) (holds .root) (s .args .width) (s .args .node) (s .args .from) (s .args .inside .now) in
+    let t = subst (Checked (readsVisit (s .args .node) (s .args .from) (map permission (s .args .inside .now))) nodes) (c .enum-told .given .1) (means-told _ _ _ _ means nodes (s .args .codes .now) holds (c .before .before .check .result) (c .before .before .check .ensures)) in
+    visit-accepted _ nodes 0 _ (sym (reads-none (s .args .node) (s .args .from) (s .args .inside .now) nodes (t .0))) refl (holds .table .rows ∙ t .1)
 
 same-length-2 : tie.Need-same-length-2
 same-length-2 c = search needs
 
 returns-2 : tie.Need-returns-2
-returns-2 c = λ nodes holds. visit-accepted _ nodes (c .before .before .before .before .before .reads-refusal .result) _ (c .before .before .before .before .before .reads-refusal .ensures nodes holds) (c .before .before .before .before .if2 .taken) (c .before .before .apply-reads .ensures nodes holds)
+returns-2 c =
+    let s = c .before .before .before .before .before .before .before .before .before .before .before in
+    λ nodes holds.
+    let means = means-reads (s .args .parents .now) (holds .root) (s .args .width) (s .args .node) (s .args .from) (s .args .inside .now) in
+    let t = subst (Checked (readsVisit (s .args .node) (s .args .from) (map permission (s .args .inside .now))) nodes) (c .before .before .before .before .enum-told2 .given .1) (means-told _ _ _ _ means nodes (s .args .codes .now) holds (c .before .before .before .before .before .before .check .result) (c .before .before .before .before .before .before .check .ensures)) in
+    visit-accepted _ nodes 0 _ (sym (reads-none (s .args .node) (s .args .from) (s .args .inside .now) nodes t)) refl (c .before .before .apply .ensures ∙ means-after _ _ _ _ means nodes (s .args .codes .now) holds)
 
 same-length-3 : tie.Need-same-length-3
 same-length-3 c = search needs
 
 returns-3 : tie.Need-returns-3
-returns-3 c = λ nodes holds. visit-refused _ nodes (c .before .reads-refusal .result) _ (c .before .reads-refusal .ensures nodes holds) (c .if2 .left) (holds .table .rows)
+returns-3 c =
+    let s = c .before .before .before .before .before .before .before .before .before in
+    let read = c .first-refused-read in
+    λ nodes holds.
+    let means = means-reads (s .args .parents .now) (holds .root) (s .args .width) (s .args .node) (s .args .from) (s .args .inside .now) in
+    let t = subst (Checked (readsVisit (s .args .node) (s .args .from) (map permission (s .args .inside .now))) nodes) (c .before .before .enum-told3 .given .1) (means-told _ _ _ _ means nodes (s .args .codes .now) holds (c .before .before .before .before .check .result) (c .before .before .before .before .check .ensures)) in
+    visit-refused _ nodes (read .result) _ (read .ensures nodes holds)
+    (λ z. t .1 (t .0 ∙ reads-together (s .args .node) nodes (s .args .from) (map permission (s .args .inside .now)) (sym (read .ensures nodes holds) ∙ z))) (holds .table .rows)
 
 pub make-reads-spec : {M : Type 1} → statement M
 make-reads-spec =
     tie.close
     (tie.spec
-    reads-stay-requires
+    check-requires
+    enum-told
+    enum-told-2
+    apply-requires
+    enum-told-3
+    first-refused-read-requires
     same-length
     returns
-    reads-refusal-requires
-    apply-reads-requires
     same-length-2
     returns-2
     same-length-3

@@ -9,17 +9,14 @@ use Rattle.visit.proofs.plan.plan_size.Tie as tie
 returns : tie.Need-returns
 returns c = (omega arith, inl refl)
 
-returns-2 : tie.Need-returns-2
-returns-2 c = (omega arith, inl refl)
-
 mul-size : tie.Need-mul-size
 mul-size c = search needs
 
-returns-3 : tie.Need-returns-3
-returns-3 c = (omega arith, inl refl)
+returns-2 : tie.Need-returns-2
+returns-2 c = (omega arith, inl refl)
 
-returns-4 : tie.Need-returns-4
-returns-4 c = (omega arith, inr (refl, omega arith))
+returns-3 : tie.Need-returns-3
+returns-3 c = (omega arith, inr (refl, omega arith))
 
 pub plan-size-spec : {M : Type 1} → statement M
-plan-size-spec = tie.close (tie.spec returns returns-2 mul-size returns-3 returns-4)
+plan-size-spec = tie.close (tie.spec returns mul-size returns-2 returns-3)
