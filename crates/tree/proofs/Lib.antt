@@ -1,4 +1,3 @@
-pub mod Loops
 pub mod Held
 pub mod Meaning
 pub mod Inits

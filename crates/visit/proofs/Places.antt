@@ -57,4 +57,4 @@ module _ (w n : ℕ) (codes lent out : List ℕ) (fits : n * w + w ≤ length co
 
 -- a table of the same length is as ready
 pub ready-again : (v : Reach) (ps codes codes′ : List ℕ) → length codes′ ≡ length codes → Ready v ps codes → Ready v ps codes′
-ready-again v ps codes codes′ e r = record { tree = r .tree; node = r .node; inside = r .inside; rows = e ∙ r .rows }
+ready-again v ps codes codes′ e r = record { tree = r .tree; node = r .node; inside = r .inside; rows = e ∙ r .rows; few = r .few }

@@ -3,7 +3,6 @@ use Prim.Native.Nat.{ℕ, _+_, _*_, _≤_, _<_}
 use mathlib.Core.Path.{_≡_, refl, sym, ap, subst, _∙_}
 use mathlib.Core.Bool.{Bool, true, false, not, _||_, or-true, or-false}
 use mathlib.Core.List.{List, _++_}
-use mathlib.Core.Logic.{_⊎_, inl, inr, ⊎-elim}
 use native.Mathlib.Nat.{le-refl, min-le-left}
 use native.Mathlib.Decide.{ℕ-discrete, decLt}
 use native.Mathlib.Omega.{arith}
@@ -17,28 +16,30 @@ use Rattle.definition.specs.Tree.{relation, isAbove}
 use Rattle.definition.proofs.Trees.{Parents, above-itself, above-parent, not-above-smaller}
 use Rattle.visit.specs.declared.Reach.{Reach}
 use Rattle.visit.specs.Plan.{childFrom, Linked, Marked, Planned, Zeros, Roomy, Unmarked, SameLinks}
-use Rattle.visit.proofs.Children.{search-here, search-spared, search-other, search-end, search-from}
+use Rattle.visit.proofs.Children.{search-here, search-spared, search-other, search-end, search-from, sibling-root, sibling-at}
 
 -- ---- the links
 -- the nodes from m on are linked
 pub record Linking (s : ℕ) (ps plan : List ℕ) (m : ℕ) : Type 0 where
   pub first : (k : ℕ) → k < length ps → getD plan (3 * k) 0 ≡ childFrom s k m (drop m ps)
   pub next : (k : ℕ) → m ≤ k → k < length ps → getD plan (3 * k + 1) 0 ≡ childFrom s (getD ps k 0) (k + 1) (drop (k + 1) ps)
+  pub root : getD plan 1 0 ≡ 0
   pub unmarked : Unmarked plan
 
 module _ (s : ℕ) (ps : List ℕ) where
   pub linking-none : (plan : List ℕ) → Zeros plan → Linking s ps plan (length ps)
   linking-none plan z =
-      record { first = λ k l. z (3 * k) ∙ sym (search-end s ps k (length ps) (le-refl (length ps))); next = λ k h l. absurd (omega arith); unmarked = λ k. z (3 * k + 2) }
+      record { first = λ k l. z (3 * k) ∙ sym (search-end s ps k (length ps) (le-refl (length ps))); next = λ k h l. absurd (omega arith); root = z 1; unmarked = λ k. z (3 * k + 2) }
 
-  pub linked : Parents ps → (plan : List ℕ) → Roomy ps plan → (m : ℕ) → m ≤ 1 → (0 < length ps → 0 < m) → Linking s ps plan m → Linked s ps plan
-  linked tree plan room m h z links =
+  pub linked : Parents ps → (plan : List ℕ) → (m : ℕ) → m ≤ 1 → (0 < length ps → 0 < m) → Linking s ps plan m → Linked s ps plan
+  linked tree plan m h z links =
       record {
-        first = λ k l.
-            let inside : k < length ps = omega (arith, room .size) in
-            let some = z (omega arith) in
-            links .first k inside ∙ search-from s ps tree k k m (omega arith) some;
-        next = λ k q l. links .next k (omega arith) (omega (arith, room .size));
+        first = λ k l. links .first k l ∙ search-from s ps tree k k m (omega (arith, z (omega arith))) (z (omega arith));
+        next = λ k l.
+            elim (ℕ-discrete k 0) [
+              | yes q ↦ ap (λ (i : ℕ). getD plan (3 * i + 1) 0) q ∙ links .root ∙ sym (sibling-root s ps k q)
+              | no q ↦ links .next k (omega arith) l ∙ sym (sibling-at s ps k (omega arith))
+            ];
       }
 
   -- node m in front of the children of its parent
@@ -60,6 +61,9 @@ module _ (s : ℕ) (ps : List ℕ) where
     first-kept : (k : ℕ) → k < length ps → getD followed (3 * k) 0 ≡ childFrom s k (m + 1) (drop (m + 1) ps)
     first-kept k i = getD-set-other plan (3 * m + 1) (3 * k) _ 0 (λ r. absurd (omega arith)) ∙ links .first k i
 
+    root-kept : getD followed 1 0 ≡ 0
+    root-kept = getD-set-other plan (3 * m + 1) 1 _ 0 (λ r. absurd (omega arith)) ∙ links .root
+
     unmarked-kept : Unmarked followed
     unmarked-kept k = getD-set-other plan (3 * m + 1) (3 * k + 2) _ 0 (λ r. absurd (omega arith)) ∙ links .unmarked k
 
@@ -72,6 +76,7 @@ module _ (s : ℕ) (ps : List ℕ) where
                 | no c ↦ first-kept k i ∙ sym (search-other s ps k m l c)
               ];
           next = next-linked;
+          root = root-kept;
           unmarked = unmarked-kept;
         }
 
@@ -87,6 +92,7 @@ module _ (s : ℕ) (ps : List ℕ) where
                     getD-set-other followed (3 * p) (3 * k) m 0 (λ r. absurd (omega arith)) ∙ first-kept k i ∙ sym (search-other s ps k m l (λ r. c (sym (e ∙ r))))
               ];
           next = λ k h i. getD-set-other followed (3 * p) (3 * k + 1) m 0 (λ r. absurd (omega arith)) ∙ next-linked k h i;
+          root = getD-set-other followed (3 * p) 1 m 0 (λ r. absurd (omega arith)) ∙ root-kept;
           unmarked = λ k. getD-set-other followed (3 * p) (3 * k + 2) m 0 (λ r. absurd (omega arith)) ∙ unmarked-kept k;
         }
 
@@ -99,9 +105,8 @@ pub record Marking (ps : List ℕ) (accessed : ℕ) (before plan : List ℕ) (n 
 pub same-links : (plan : List ℕ) → SameLinks plan plan
 same-links plan = record { first = λ k. refl; next = λ k. refl }
 
-pub links-kept : (s : ℕ) (ps before after : List ℕ) → length after ≡ length before → SameLinks before after → Linked s ps before → Linked s ps after
-links-kept s ps before after e same links =
-    record { first = λ k l. same .first k ∙ links .first k (omega arith); next = λ k z l. same .next k ∙ links .next k z (omega arith) }
+pub links-kept : (s : ℕ) (ps before after : List ℕ) → SameLinks before after → Linked s ps before → Linked s ps after
+links-kept s ps before after same links = record { first = λ k l. same .first k ∙ links .first k l; next = λ k l. same .next k ∙ links .next k l }
 
 module _ (ps : List ℕ) (tree : Parents ps) (accessed : ℕ) where
   pub marking-none : (plan : List ℕ) → Unmarked plan → Marking ps accessed plan plan accessed
@@ -150,39 +155,23 @@ module _ (ps : List ℕ) (tree : Parents ps) (accessed : ℕ) where
     told false true e = refl
     told false false e = cc
 
-    pub marked-root : n ≡ 0 → Roomy ps plan → length marked ≡ length plan → Marked accessed ps marked
+    pub marked-root : n ≡ 0 → Marked accessed ps marked
     unfolding relation
-    marked-root z room same =
-        record {
-          path = λ k i.
-              told (isAbove ps k accessed) (eqb (getD marked (3 * k + 2) 0) 0)
-              (elim (ℕ-discrete k n) [
-                | yes q ↦
-                    subst (λ (j : ℕ). isAbove ps j accessed ≡ not (eqb (getD marked (3 * j + 2) 0) 0)) (sym q) (here (omega (arith, room .size)) ∙ sym mark-here)
-                | no q ↦
-                    marks .path k (omega (arith, same, room .size))
-                    ∙ ap (λ (b : Bool). not (eqb (getD plan (3 * k + 2) 0) 0) || b) (not-above-smaller ps tree k n (omega arith))
-                    ∙ or-false (not (eqb (getD plan (3 * k + 2) 0) 0))
-                    ∙ ap (λ (x : ℕ). not (eqb x 0)) (sym (mark-other k q))
-              ]);
-        }
+    marked-root z k i =
+        sym
+        (told (isAbove ps k accessed) (eqb (getD marked (3 * k + 2) 0) 0)
+        (elim (ℕ-discrete k n) [
+          | yes q ↦
+              subst (λ (j : ℕ). isAbove ps j accessed ≡ not (eqb (getD marked (3 * j + 2) 0) 0)) (sym q) (here (omega arith) ∙ sym mark-here)
+          | no q ↦
+              marks .path k i
+              ∙ ap (λ (b : Bool). not (eqb (getD plan (3 * k + 2) 0) 0) || b) (not-above-smaller ps tree k n (omega arith))
+              ∙ or-false (not (eqb (getD plan (3 * k + 2) 0) 0))
+              ∙ ap (λ (x : ℕ). not (eqb x 0)) (sym (mark-other k q))
+        ]))
 
     pub marked-same : SameLinks before marked
     marked-same = same-marked
-
--- ---- a plan of no nodes
-pub no-links : (s : ℕ) (ps plan : List ℕ) → length plan ≡ 0 → Linked s ps plan
-no-links s ps plan e = record { first = λ k l. absurd (omega arith); next = λ k z l. absurd (omega arith) }
-
-pub no-marks : (accessed : ℕ) (ps plan : List ℕ) → length plan ≡ 0 → Marked accessed ps plan
-no-marks accessed ps plan e = record { path = λ k l. absurd (omega arith) }
-
-pub planned-none : (v : Reach) (ps plan : List ℕ) → length plan ≤ 1 → Planned v ps plan
-planned-none v ps plan e =
-    record {
-      links = record { first = λ k l. absurd (omega arith); next = λ k z l. absurd (omega arith) };
-      marks = record { path = λ k l. absurd (omega arith) };
-    }
 
 pub roomy-still : {ps plan after : List ℕ} → length after ≡ length plan → Roomy ps plan → Roomy ps after
 roomy-still e room = record { size = e ∙ room .size; few = room .few }
@@ -201,16 +190,13 @@ module _ (scratch : List ℕ) (size : ℕ) where
     | no l ↦ List·getD-eq-default (take size scratch) 0 {n = i} (omega (arith, length-take size scratch, min-le-left size (length scratch)))
   ]
 
-pub room-taken : (ps scratch : List ℕ) (size : ℕ) → size ≤ length scratch → ((size ≡ 0) ⊎ ((size ≡ 3 * length ps) × (length ps ≤ 1024)))
-    → (length (take size scratch) ≡ 0) ⊎ Roomy ps (take size scratch)
-room-taken ps scratch size l cases =
-    let long = length-take-le size scratch l in
-    ⊎-elim (λ e. inl (long ∙ e)) (λ e. inr (record { size = long ∙ e .0; few = e .1 })) cases
-
 -- lent again, once it is made
 pub lent-long : (plan rest : List ℕ) (size : ℕ) → length plan ≡ size → size ≡ length (take size (plan ++ rest))
 lent-long plan rest size e = sym (ap length (take-at plan rest size e) ∙ e)
 
-pub planned-lent : (v : Reach) (ps plan rest : List ℕ) (size : ℕ) → length plan ≡ size → Linked (v .spared) ps plan × Marked (v .node) ps plan → Planned v ps (take size (plan ++ rest))
-planned-lent v ps plan rest size e made =
-    subst (λ (p : List ℕ). Planned v ps p) (sym (take-at plan rest size e)) (record { links = made .0; marks = made .1 })
+pub planned-lent : (v : Reach) (ps plan rest : List ℕ) (size : ℕ) → length plan ≡ size → Planned v ps plan → Planned v ps (take size (plan ++ rest))
+planned-lent v ps plan rest size e made = subst (λ (p : List ℕ). Planned v ps p) (sym (take-at plan rest size e)) made
+
+-- a node's three numbers are in the plan
+pub in-plan : {ps plan : List ℕ} → Roomy ps plan → (n : ℕ) → n < length ps → (3 * n + 2 < length plan) × (length plan ≤ 3072)
+in-plan room n l = (omega (arith, room .size), omega (arith, room .size, room .few))

@@ -5,9 +5,11 @@ use mathlib.Core.List.{List, [], _∷_}
 use lib.Dec.{eqb}
 use lib.ListN.{length, getD, drop}
 use Rattle.definition.specs.Notation.{if_then_else_}
+use Rattle.definition.specs.Permission.{NodeRelation}
 use Rattle.definition.specs.Permission.NodeRelation.{Local, Foreign}
 use Rattle.definition.specs.Tree.{relation}
 use Rattle.visit.specs.declared.Reach.{Reach}
+use Rattle.visit.specs.Walk.{Ready}
 
 -- the first child of n among the nodes m, m + 1, .., whose parents are listed, but for s; 0 where there is none
 unfoldable pub childFrom : ℕ → ℕ → ℕ → List ℕ → ℕ
@@ -19,28 +21,40 @@ unfoldable pub nextSibling : ℕ → List ℕ → ℕ → ℕ
 nextSibling s ps zero = 0
 nextSibling s ps (suc m) = childFrom s (getD ps (suc m) 0) (suc m + 1) (drop (suc m + 1) ps)
 
--- the nodes that the plan has numbers for have their first child and their next sibling in it
-pub record Linked (s : ℕ) (ps plan : List ℕ) : Type 0 where
-  pub first : (k : ℕ) → 3 * k + 2 < length plan → getD plan (3 * k) 0 ≡ childFrom s k (k + 1) (drop (k + 1) ps)
-  pub next : (k : ℕ) → 0 < k → 3 * k + 2 < length plan → getD plan (3 * k + 1) 0 ≡ childFrom s (getD ps k 0) (k + 1) (drop (k + 1) ps)
+-- what the plan says that node n is to the accessed one
+abbrev pub marked : List ℕ → ℕ → NodeRelation
+marked plan n = if eqb (getD plan (3 * n + 2) 0) 0 then Foreign else Local
 
--- and what they are to the accessed node
-pub record Marked (accessed : ℕ) (ps plan : List ℕ) : Type 0 where
-  pub path : (k : ℕ) → 3 * k + 2 < length plan → relation ps k accessed ≡ (if eqb (getD plan (3 * k + 2) 0) 0 then Foreign else Local)
+-- each node's first child and next sibling are in the plan; the root has no sibling
+pub record Linked (s : ℕ) (ps plan : List ℕ) : Type 0 where
+  pub first : (k : ℕ) → k < length ps → getD plan (3 * k) 0 ≡ childFrom s k (k + 1) (drop (k + 1) ps)
+  pub next : (k : ℕ) → k < length ps → getD plan (3 * k + 1) 0 ≡ nextSibling s ps k
+
+-- and so is what it is to the accessed node
+abbrev pub Marked : ℕ → List ℕ → List ℕ → Type 0
+Marked accessed ps plan = (k : ℕ) → k < length ps → marked plan k ≡ relation ps k accessed
+
+-- a plan has three numbers for each of at most 1,024 nodes
+pub record Roomy (ps plan : List ℕ) : Type 0 where
+  pub size : length plan ≡ 3 * length ps
+  pub few : length ps ≤ 1024
 
 -- the plan of a visit
 pub record Planned (v : Reach) (ps plan : List ℕ) : Type 0 where
+  pub room : Roomy ps plan
   pub links : Linked (v .spared) ps plan
   pub marks : Marked (v .node) ps plan
+
+-- a visit that can be made from a node on
+pub record VisitFrom (v : Reach) (ps plan codes : List ℕ) (first : ℕ) : Type 0 where
+  pub planned : Planned v ps plan
+  pub ready : Ready v ps codes
+  pub inside : first < length ps
+  pub visited : first ≡ v .spared → ⊥
 
 -- ---- while it is made
 abbrev pub Zeros : List ℕ → Type 0
 Zeros plan = (i : ℕ) → getD plan i 0 ≡ 0
-
--- a plan for all nodes, or for none
-pub record Roomy (ps plan : List ℕ) : Type 0 where
-  pub size : length plan ≡ 3 * length ps
-  pub few : length ps ≤ 1024
 
 abbrev pub Unmarked : List ℕ → Type 0
 Unmarked plan = (k : ℕ) → getD plan (3 * k + 2) 0 ≡ 0

@@ -10,22 +10,20 @@ use Rattle.definition.specs.Permission.{AccessKind, NodeRelation}
 use Rattle.definition.specs.Tree.{relation}
 use Rattle.definition.proofs.Trees.{Parents}
 use Rattle.definition.proofs.Order.{walk}
-use Rattle.permission.specs.declared.AccessKind as declared
-use Rattle.permission.specs.declared.Outcome.{Outcome}
-use Rattle.permission.specs.declared.Outcome.the-variants as code
-use Rattle.permission.specs.Codes.{accessKind, transitionCode, refusalCode, nextCode, endAccessCode, initAccessCode}
+use Rattle.permission.specs.Codes.{accessKind, refusalCode, nextCode, endAccessCode, initAccessCode}
 use Rattle.visit.specs.declared.Accesses.{Accesses}
 use Rattle.visit.specs.declared.Accesses.the-variants.{Each, AtEnd, AtInit}
 use Rattle.visit.specs.declared.Answer.{Answer}
 use Rattle.visit.specs.declared.Answer.the-variants.{Stays, Changes, Refused}
 use Rattle.visit.specs.declared.Reach.{Reach}
 
--- a visit that can be made: its node is in the tree, its bytes are in a row, and the table has a row for each node
+-- a visit that can be made: its node is in the tree, its bytes are in a row, and the table has a row for each node, of which there are at most 1,024
 pub record Ready (v : Reach) (ps codes : List ℕ) : Type 0 where
   pub tree : Parents ps
   pub node : v .node < length ps
   pub inside : v .from + v .len ≤ v .width
   pub rows : length codes ≡ length ps * v .width
+  pub few : length ps ≤ 1024
 
 -- ---- the accesses at the bytes, from the first visited one on
 -- at the k-th of them
@@ -54,11 +52,11 @@ abbrev pub unrefused : Bool → Answer
 unrefused true = Changes
 unrefused false = Stays
 
--- ---- a row
-abbrev pub stepped : Option AccessKind → NodeRelation → ℕ → Outcome
-stepped none r c = code.Stays
-stepped (some a) r c = transitionCode a r c
+-- ---- a part of a row, under one access at all its codes
+abbrev pub ToldPart : Option AccessKind → NodeRelation → List ℕ → Answer → Type 0
+ToldPart x r row = Told (firstRefusal (refusalCode x r) row) row (map (nextCode x r) row)
 
+-- ---- a row
 -- the first refusal of codes under accesses
 unfoldable pub codesRefusal : NodeRelation → List (Option AccessKind) → List ℕ → ℕ
 codesRefusal r xs [] = 0
@@ -80,11 +78,6 @@ rowAfter v starts r row = take (v .from) row ++ codesAfter r (planned v starts) 
 -- what the check of a row tells
 abbrev pub ToldRow : Reach → List ℕ → NodeRelation → List ℕ → Answer → Type 0
 ToldRow v starts r row = Told (rowRefusal v starts r row) row (rowAfter v starts r row)
-
--- of one access at all its bytes
-abbrev pub ToldEach : declared.AccessKind → ℕ → ℕ → NodeRelation → List ℕ → Answer → Type 0
-ToldEach a from n r row =
-    Told (codesRefusal r (replicate n (some (accessKind a))) (drop from row)) row (take from row ++ codesAfter r (replicate n (some (accessKind a))) (drop from row))
 
 -- ---- a node
 -- row n of a table, and the table with another row there

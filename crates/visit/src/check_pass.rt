@@ -4,65 +4,40 @@ use crate::Reach;
 use crate::plan::first_child;
 use crate::plan::make_plan;
 use crate::plan::next_sibling;
-use crate::plan::plan_size;
-use crate::plan::planned_relation;
+use crate::plan::relation;
 use crate::row::check_at;
 use crate::unrefused;
-ghost use mathlib.Core.Path.{_≡_};
-ghost use Prim.Native.Nat.{_<_};
+ghost use Prim.Native.Nat.{ℕ, _*_, _≤_, _<_};
+ghost use mathlib.Core.List.{List};
 ghost use lib.ListN.{length};
-ghost use Rattle.visit.specs.Walk.{Ready, Told, ToldOf, nodeRefusal, nodeAfter, nodesFrom, subtree};
-ghost use Rattle.visit.specs.Plan.{Planned, Zeros};
+ghost use Rattle.visit.specs.Walk.{Ready, ToldOf, nodesFrom, subtree};
+ghost use Rattle.visit.specs.Plan.{VisitFrom, Zeros};
 
-// At node n.
-fn check_node(
-    plan: &[u16],
-    parents: &[u16],
-    codes: &[u8],
-    starts: &[u8],
-    v: Reach,
-    n: usize,
-) -> Answer
-    requires { ⌜ Planned v (now parents) (now plan) × Ready v (now parents) (now codes) ⌝ }
-    requires { ⌜ n < length (now parents) ⌝ }
-    ensures { λ r. ⌜ Told (nodeRefusal v (now (parents .entry)) (now (starts .entry)) (now (codes .entry)) n) (now (codes .entry)) (nodeAfter v (now (parents .entry)) (now (starts .entry)) n (now (codes .entry))) r ⌝ }
+// At a node, its descendants, and the siblings made after it with theirs. Children come in the order they were made; of a last sibling, its children
+// are what is left, so that a chain needs no stack. The number of later nodes falls.
+fn check_from(plan: &[u16], codes: &[u8], starts: &[u8], v: Reach, first: usize) -> Answer
+    requires { ⌜ ((ps : List ℕ) × VisitFrom v ps (now plan) (now codes) first) ⌝ }
+    ensures { λ r. ⌜ ((ps : List ℕ) → VisitFrom v ps (now (plan .entry)) (now (codes .entry)) first
+        → ToldOf v ps (now (starts .entry)) (now (codes .entry)) (nodesFrom (v .spared) ps first) r) ⌝ }
 {
-    let relation = planned_relation(plan, parents, n, v.node);
-    check_at(codes, starts, v, n, relation)
-}
-
-// At a node, its descendants, and the siblings made after it with theirs.
-fn check_from(
-    plan: &[u16],
-    parents: &[u16],
-    codes: &[u8],
-    starts: &[u8],
-    v: Reach,
-    first: usize,
-) -> Answer
-    requires { ⌜ Planned v (now parents) (now plan) × Ready v (now parents) (now codes) ⌝ }
-    requires { ⌜ (first < length (now parents)) × (first ≡ v .spared → ⊥) ⌝ }
-    ensures { λ r. ⌜ ToldOf v (now (parents .entry)) (now (starts .entry)) (now (codes .entry)) (nodesFrom (v .spared) (now (parents .entry)) first) r ⌝ }
-{
-    let spared = v.spared;
     let mut changes = false;
     let mut m = first;
     loop {
-        match check_node(plan, parents, codes, starts, v, m) {
+        match check_at(codes, starts, v, m, relation(plan, m)) {
             Answer::Stays => {}
             Answer::Changes => changes = true,
             Answer::Refused(n) => return Answer::Refused(n),
         }
-        let child = first_child(plan, parents, spared, m);
-        let sibling = next_sibling(plan, parents, spared, m);
+        let child = first_child(plan, m);
+        let sibling = next_sibling(plan, m);
         if sibling == 0 {
             if child == 0 {
                 return unrefused(changes);
             }
-            m = child; // of the last sibling, its children are what is left
+            m = child;
         } else {
             if child != 0 {
-                match check_from(plan, parents, codes, starts, v, child) {
+                match check_from(plan, codes, starts, v, child) {
                     Answer::Stays => {}
                     Answer::Changes => changes = true,
                     Answer::Refused(n) => return Answer::Refused(n),
@@ -73,7 +48,7 @@ fn check_from(
     }
 }
 
-// With a plan, for which the scratch, all zeros, is lent.
+// With a plan, for which zeros are lent.
 fn check_planned(
     scratch: &mut [u16],
     parents: &[u16],
@@ -81,22 +56,23 @@ fn check_planned(
     starts: &[u8],
     v: Reach,
 ) -> Answer
-    requires { ⌜ Zeros (now scratch) × Ready v (now parents) (now codes) × (0 < v .spared) ⌝ }
+    requires { ⌜ Zeros (now scratch) × (3 * length (now parents) ≤ length (now scratch)) ⌝ }
+    requires { ⌜ Ready v (now parents) (now codes) × (0 < v .spared) ⌝ }
     ensures { λ r. ⌜ ToldOf v (now (parents .entry)) (now (starts .entry)) (now (codes .entry)) (subtree (v .spared) 0 (now (parents .entry))) r ⌝ }
 {
-    let size = plan_size(parents.len(), scratch.len());
+    let size = 3 * parents.len();
     make_plan(parents, &mut scratch[..size], v);
-    check_from(&scratch[..size], parents, codes, starts, v, 0)
+    check_from(&scratch[..size], codes, starts, v, 0)
 }
 
-// What a visit comes to. In a small tree children are searched for; for a larger one a plan is made of them.
+// What a visit comes to. The plan of a small tree does without the long array.
 pub fn check(parents: &[u16], codes: &[u8], starts: &[u8], v: Reach) -> Answer
     requires { ⌜ Ready v (now parents) (now codes) × (0 < v .spared) ⌝ }
     ensures { λ r. ⌜ ToldOf v (now (parents .entry)) (now (starts .entry)) (now (codes .entry)) (subtree (v .spared) 0 (now (parents .entry))) r ⌝ }
 {
     if parents.len() <= 16 {
-        let none = [0u16; 1];
-        return check_from(&none, parents, codes, starts, v, 0);
+        let mut scratch = [0u16; 48];
+        return check_planned(&mut scratch, parents, codes, starts, v);
     }
     let mut scratch = [0u16; 3072];
     check_planned(&mut scratch, parents, codes, starts, v)

@@ -3,13 +3,13 @@
 // It is made in two passes, a check and, if nothing is refused, the change. So a refusal leaves nothing to undo.
 mod apply_pass;
 mod check_pass;
-mod path;
 mod plan;
 mod row;
 
 pub use apply_pass::apply;
 pub use check_pass::check;
-pub use path::relation_on;
+pub use plan::make_plan;
+pub use plan::relation;
 use permission::AccessKind;
 ghost use mathlib.Core.Path.{_≡_};
 ghost use Rattle.visit.specs.Walk as walk;
@@ -49,10 +49,4 @@ fn unrefused(changes: bool) -> Answer
     } else {
         Answer::Stays
     }
-}
-
-pub fn wide(x: u16) -> usize
-    ensures { λ r. ⌜ r ≡ x ⌝ }
-{
-    x as usize
 }

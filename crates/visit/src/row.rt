@@ -1,4 +1,5 @@
-// The codes of a row under the accesses of a visit: what they come to, and the codes that they leave.
+// The codes of a row under the accesses of a visit: what they come to, and the codes that they leave. Bytes with the same access are gone over
+// together, so that the loops over codes hold nothing but the decision.
 use crate::Accesses;
 use crate::Answer;
 use crate::Reach;
@@ -8,20 +9,22 @@ use permission::MaybeAccess;
 use permission::NodeRelation;
 use permission::Outcome;
 ghost use mathlib.Core.Path.{_≡_};
-ghost use Prim.Native.Nat.{_+_, _*_, _≤_};
+ghost use mathlib.Core.Option.{some};
+ghost use mathlib.Core.List.{map};
+ghost use Prim.Native.Nat.{ℕ, _+_, _*_, _≤_, _<_};
 ghost use lib.ListN.{length, getD};
 ghost use Rattle.definition.specs.Permission.NodeRelation.{Local, Foreign};
-ghost use Rattle.permission.specs.Codes.{maybeAccess, nodeRelation};
-ghost use Rattle.visit.specs.Walk.{ToldEach, ToldRow, accessAt, stepped, rowAfter, rowAt, withRowAt};
+ghost use Rattle.permission.specs.Codes.{accessKind, maybeAccess, nodeRelation, nextCode};
+ghost use Rattle.visit.specs.Walk.{ToldPart, ToldRow, accessAt, rowAfter, rowAt, withRowAt};
 
-// The lent code at the k-th visited byte, 0 where there is none.
+// ---- the accesses at the visited bytes
+// The lent code at the k-th of them, 0 where there is none.
 fn start_at(starts: &[u8], k: usize) -> u8
     ensures { λ r. ⌜ r ≡ getD (now (starts .entry)) k 0 ⌝ }
 {
     if k < starts.len() { starts[k] } else { 0 }
 }
 
-// The access at the k-th visited byte.
 fn access_at(what: Accesses, starts: &[u8], k: usize) -> MaybeAccess
     ensures { λ r. ⌜ maybeAccess r ≡ accessAt what (now (starts .entry)) k ⌝ }
 {
@@ -32,162 +35,159 @@ fn access_at(what: Accesses, starts: &[u8], k: usize) -> MaybeAccess
     }
 }
 
-// The outcome of that access, if there is one.
-fn local_step(code: u8, access: MaybeAccess) -> Outcome
-    ensures { λ r. ⌜ r ≡ stepped (maybeAccess access) Local code ⌝ }
+// How far the bytes from the k-th on have its code.
+fn same_until(starts: &[u8], k: usize, len: usize) -> usize
+    requires { ⌜ k < len ⌝ }
+    ensures { λ r. ⌜ (k < r) × (r ≤ len) × ((i : ℕ) → k ≤ i → i < r → getD (now (starts .entry)) i 0 ≡ getD (now (starts .entry)) k 0) ⌝ }
 {
-    match access {
-        MaybeAccess::Nothing => Outcome::Stays,
-        MaybeAccess::Access(a) => permission::local(code, a),
-    }
-}
-
-fn foreign_step(code: u8, access: MaybeAccess) -> Outcome
-    ensures { λ r. ⌜ r ≡ stepped (maybeAccess access) Foreign code ⌝ }
-{
-    match access {
-        MaybeAccess::Nothing => Outcome::Stays,
-        MaybeAccess::Access(a) => permission::foreign(code, a),
-    }
-}
-
-// ---- a row: the visited bytes, code by code
-
-// What the same access at each byte comes to, in the row of a local node and of a foreign one.
-fn check_local_each(row: &[u8], from: usize, len: usize, kind: AccessKind) -> Answer
-    requires { ⌜ from + len ≤ length (now row) ⌝ }
-    ensures { λ r. ⌜ ToldEach kind from len Local (now (row .entry)) r ⌝ }
-{
-    let mut changes = false;
-    let mut k = 0;
-    while k < len {
-        match permission::local(row[from + k], kind) {
-            Outcome::Stays => {}
-            Outcome::Becomes(_) => changes = true,
-            Outcome::Refused(n) => return Answer::Refused(n),
+    let start = start_at(starts, k);
+    let mut e = k + 1;
+    while e < len {
+        if start_at(starts, e) != start {
+            return e;
         }
-        k += 1;
+        e += 1;
     }
-    unrefused(changes)
+    e
 }
 
-fn check_foreign_each(row: &[u8], from: usize, len: usize, kind: AccessKind) -> Answer
-    requires { ⌜ from + len ≤ length (now row) ⌝ }
-    ensures { λ r. ⌜ ToldEach kind from len Foreign (now (row .entry)) r ⌝ }
+// How far they have its access.
+fn until(what: Accesses, starts: &[u8], k: usize, len: usize) -> usize
+    requires { ⌜ k < len ⌝ }
+    ensures { λ r. ⌜ (k < r) × (r ≤ len) × ((i : ℕ) → k ≤ i → i < r → accessAt what (now (starts .entry)) i ≡ accessAt what (now (starts .entry)) k) ⌝ }
 {
-    let mut changes = false;
-    let mut k = 0;
-    while k < len {
-        match permission::foreign(row[from + k], kind) {
-            Outcome::Stays => {}
-            Outcome::Becomes(_) => changes = true,
-            Outcome::Refused(n) => return Answer::Refused(n),
-        }
-        k += 1;
-    }
-    unrefused(changes)
-}
-
-// What accesses that may differ come to there.
-fn check_local_bytes(row: &[u8], starts: &[u8], v: Reach) -> Answer
-    requires { ⌜ v .from + v .len ≤ length (now row) ⌝ }
-    ensures { λ r. ⌜ ToldRow v (now (starts .entry)) Local (now (row .entry)) r ⌝ }
-{
-    let what = v.what;
-    let from = v.from;
-    let len = v.len;
-    let mut changes = false;
-    let mut k = 0;
-    while k < len {
-        match local_step(row[from + k], access_at(what, starts, k)) {
-            Outcome::Stays => {}
-            Outcome::Becomes(_) => changes = true,
-            Outcome::Refused(n) => return Answer::Refused(n),
-        }
-        k += 1;
-    }
-    unrefused(changes)
-}
-
-fn check_foreign_bytes(row: &[u8], starts: &[u8], v: Reach) -> Answer
-    requires { ⌜ v .from + v .len ≤ length (now row) ⌝ }
-    ensures { λ r. ⌜ ToldRow v (now (starts .entry)) Foreign (now (row .entry)) r ⌝ }
-{
-    let what = v.what;
-    let from = v.from;
-    let len = v.len;
-    let mut changes = false;
-    let mut k = 0;
-    while k < len {
-        match foreign_step(row[from + k], access_at(what, starts, k)) {
-            Outcome::Stays => {}
-            Outcome::Becomes(_) => changes = true,
-            Outcome::Refused(n) => return Answer::Refused(n),
-        }
-        k += 1;
-    }
-    unrefused(changes)
-}
-
-// What the accesses of a visit come to there.
-fn check_local(row: &[u8], starts: &[u8], v: Reach) -> Answer
-    requires { ⌜ v .from + v .len ≤ length (now row) ⌝ }
-    ensures { λ r. ⌜ ToldRow v (now (starts .entry)) Local (now (row .entry)) r ⌝ }
-{
-    let what = v.what;
     match what {
-        Accesses::Each(kind) => check_local_each(row, v.from, v.len, kind),
-        Accesses::AtEnd => check_local_bytes(row, starts, v),
-        Accesses::AtInit => check_local_bytes(row, starts, v),
+        Accesses::Each(_) => len,
+        Accesses::AtEnd => same_until(starts, k, len),
+        Accesses::AtInit => same_until(starts, k, len),
     }
 }
 
-fn check_foreign(row: &[u8], starts: &[u8], v: Reach) -> Answer
-    requires { ⌜ v .from + v .len ≤ length (now row) ⌝ }
-    ensures { λ r. ⌜ ToldRow v (now (starts .entry)) Foreign (now (row .entry)) r ⌝ }
+// ---- a part of a row, under one access: of a local node, and of a foreign one
+fn check_local(row: &[u8], kind: AccessKind) -> Answer
+    ensures { λ r. ⌜ ToldPart (some (accessKind kind)) Local (now (row .entry)) r ⌝ }
 {
-    let what = v.what;
-    match what {
-        Accesses::Each(kind) => check_foreign_each(row, v.from, v.len, kind),
-        Accesses::AtEnd => check_foreign_bytes(row, starts, v),
-        Accesses::AtInit => check_foreign_bytes(row, starts, v),
-    }
-}
-
-// What they leave there.
-fn apply_local(row: &mut [u8], starts: &[u8], v: Reach)
-    requires { ⌜ v .from + v .len ≤ length (now row) ⌝ }
-    ensures { λ _. ⌜ now (row .exit) ≡ rowAfter v (now (starts .entry)) Local (now (row .entry)) ⌝ }
-{
-    let what = v.what;
-    let from = v.from;
-    let len = v.len;
+    let mut changes = false;
     let mut k = 0;
-    while k < len {
-        match local_step(row[from + k], access_at(what, starts, k)) {
+    while k < row.len() {
+        match permission::local(row[k], kind) {
             Outcome::Stays => {}
-            Outcome::Becomes(next) => row[from + k] = next,
+            Outcome::Becomes(_) => changes = true,
+            Outcome::Refused(n) => return Answer::Refused(n),
+        }
+        k += 1;
+    }
+    unrefused(changes)
+}
+
+fn check_foreign(row: &[u8], kind: AccessKind) -> Answer
+    ensures { λ r. ⌜ ToldPart (some (accessKind kind)) Foreign (now (row .entry)) r ⌝ }
+{
+    let mut changes = false;
+    let mut k = 0;
+    while k < row.len() {
+        match permission::foreign(row[k], kind) {
+            Outcome::Stays => {}
+            Outcome::Becomes(_) => changes = true,
+            Outcome::Refused(n) => return Answer::Refused(n),
+        }
+        k += 1;
+    }
+    unrefused(changes)
+}
+
+fn apply_local(row: &mut [u8], kind: AccessKind)
+    ensures { λ _. ⌜ now (row .exit) ≡ map (nextCode (some (accessKind kind)) Local) (now (row .entry)) ⌝ }
+{
+    let mut k = 0;
+    while k < row.len() {
+        match permission::local(row[k], kind) {
+            Outcome::Stays => {}
+            Outcome::Becomes(next) => row[k] = next,
             Outcome::Refused(_) => {}
         }
         k += 1;
     }
 }
 
-fn apply_foreign(row: &mut [u8], starts: &[u8], v: Reach)
+fn apply_foreign(row: &mut [u8], kind: AccessKind)
+    ensures { λ _. ⌜ now (row .exit) ≡ map (nextCode (some (accessKind kind)) Foreign) (now (row .entry)) ⌝ }
+{
+    let mut k = 0;
+    while k < row.len() {
+        match permission::foreign(row[k], kind) {
+            Outcome::Stays => {}
+            Outcome::Becomes(next) => row[k] = next,
+            Outcome::Refused(_) => {}
+        }
+        k += 1;
+    }
+}
+
+fn check_part(row: &[u8], access: MaybeAccess, relation: NodeRelation) -> Answer
+    ensures { λ r. ⌜ ToldPart (maybeAccess access) (nodeRelation relation) (now (row .entry)) r ⌝ }
+{
+    match access {
+        MaybeAccess::Nothing => Answer::Stays,
+        MaybeAccess::Access(kind) => match relation {
+            NodeRelation::Local => check_local(row, kind),
+            NodeRelation::Foreign => check_foreign(row, kind),
+        },
+    }
+}
+
+fn apply_part(row: &mut [u8], access: MaybeAccess, relation: NodeRelation)
+    ensures { λ _. ⌜ now (row .exit) ≡ map (nextCode (maybeAccess access) (nodeRelation relation)) (now (row .entry)) ⌝ }
+{
+    match access {
+        MaybeAccess::Nothing => {}
+        MaybeAccess::Access(kind) => match relation {
+            NodeRelation::Local => apply_local(row, kind),
+            NodeRelation::Foreign => apply_foreign(row, kind),
+        },
+    }
+}
+
+// ---- a row, part by part
+fn check_row(row: &[u8], starts: &[u8], v: Reach, relation: NodeRelation) -> Answer
     requires { ⌜ v .from + v .len ≤ length (now row) ⌝ }
-    ensures { λ _. ⌜ now (row .exit) ≡ rowAfter v (now (starts .entry)) Foreign (now (row .entry)) ⌝ }
+    ensures { λ r. ⌜ ToldRow v (now (starts .entry)) (nodeRelation relation) (now (row .entry)) r ⌝ }
+{
+    let what = v.what;
+    let from = v.from;
+    let len = v.len;
+    let mut changes = false;
+    let mut k = 0;
+    while k < len {
+        let e = until(what, starts, k, len);
+        let access = access_at(what, starts, k);
+        let start = from + k;
+        let end = from + e;
+        match check_part(&row[start..end], access, relation) {
+            Answer::Stays => {}
+            Answer::Changes => changes = true,
+            Answer::Refused(n) => return Answer::Refused(n),
+        }
+        k = e;
+    }
+    unrefused(changes)
+}
+
+fn apply_row(row: &mut [u8], starts: &[u8], v: Reach, relation: NodeRelation)
+    requires { ⌜ v .from + v .len ≤ length (now row) ⌝ }
+    ensures { λ _. ⌜ now (row .exit) ≡ rowAfter v (now (starts .entry)) (nodeRelation relation) (now (row .entry)) ⌝ }
 {
     let what = v.what;
     let from = v.from;
     let len = v.len;
     let mut k = 0;
     while k < len {
-        match foreign_step(row[from + k], access_at(what, starts, k)) {
-            Outcome::Stays => {}
-            Outcome::Becomes(next) => row[from + k] = next,
-            Outcome::Refused(_) => {}
-        }
-        k += 1;
+        let e = until(what, starts, k, len);
+        let access = access_at(what, starts, k);
+        let start = from + k;
+        let end = from + e;
+        apply_part(&mut row[start..end], access, relation);
+        k = e;
     }
 }
 
@@ -205,10 +205,7 @@ pub(crate) fn check_at(
     let width = v.width;
     let start = n * width;
     let end = start + width;
-    match relation {
-        NodeRelation::Local => check_local(&codes[start..end], starts, v),
-        NodeRelation::Foreign => check_foreign(&codes[start..end], starts, v),
-    }
+    check_row(&codes[start..end], starts, v, relation)
 }
 
 pub(crate) fn apply_at(codes: &mut [u8], starts: &[u8], v: Reach, n: usize, relation: NodeRelation)
@@ -218,8 +215,5 @@ pub(crate) fn apply_at(codes: &mut [u8], starts: &[u8], v: Reach, n: usize, rela
     let width = v.width;
     let start = n * width;
     let end = start + width;
-    match relation {
-        NodeRelation::Local => apply_local(&mut codes[start..end], starts, v),
-        NodeRelation::Foreign => apply_foreign(&mut codes[start..end], starts, v),
-    }
+    apply_row(&mut codes[start..end], starts, v, relation);
 }

@@ -4,7 +4,7 @@ use mathlib.Core.Path.{_≡_, refl, ap, _∙_}
 use native.Mathlib.Omega.{arith}
 use borrow.Author.Needs.{needs}
 use lib.ListN.{length}
-use Rattle.tree.proofs.Loops.{copiedTo, copied-to-length, copy-turn, copied-all}
+use Rattle.visit.proofs.Loops.{copiedTo, copied-to-length, copy-turn, copied-all}
 use Rattle.tree.proofs.protector.copy_row.Statement.{statement}
 use Rattle.tree.proofs.protector.copy_row.Tie as tie
 

@@ -5,7 +5,7 @@ use native.Mathlib.Omega.{arith}
 use borrow.Author.Needs.{needs}
 use lib.ListN.{set, length}
 use Rattle.permission.specs.Codes.{unprotectedCode}
-use Rattle.tree.proofs.Loops.{mappedTo, mapped-to-length, map-turn, mapped-all}
+use Rattle.visit.proofs.Loops.{mappedTo, mapped-to-length, map-turn, mapped-all}
 use Rattle.tree.proofs.protector.unprotect_row.Statement.{statement}
 use Rattle.tree.proofs.protector.unprotect_row.Tie as tie
 

@@ -1,45 +1,45 @@
 -- The invariant: what is left at m leaves what the whole visit leaves. The number of later nodes falls.
-use Prim.Native.Nat.{ℕ, _-_, _≤_, _<_}
-use mathlib.Core.Path.{_≡_, refl, _∙_}
-use native.Mathlib.Nat.{le-refl}
-use native.Mathlib.Omega.{arith}
+use Prim.Native.Nat.{ℕ, _-_, _*_, _<_}
+use mathlib.Core.Path.{_≡_, refl, subst, _∙_}
 use lib.ListN.{length}
-use Rattle.visit.specs.Walk.{walkAfter, nodesFrom}
-use Rattle.visit.proofs.Places.{ready-again}
-use Rattle.visit.proofs.Children.{child-later, sibling-later, changed-last, changed-child, changed-leaf, changed-below}
+use Rattle.visit.proofs.Turns.{fewer, Applying, at-first, planned-here, row-here, at-child, at-sibling, from-child, still, changed-last, changed-child, changed-leaf, changed-below}
+use borrow.Author.Needs.{needs}
+use native.Mathlib.Omega.{arith}
 use borrow.Fn.Kinds.{In}
 use borrow.Fn.PlainCycle.{Measures, is, falls, and}
 use Rattle.visit.proofs.apply_pass.apply_from.Reads as apply-from
 use Rattle.visit.proofs.apply_pass.apply_from.Kinds as apply-from-kinds
 use Rattle.visit.proofs.apply_pass.+apply_from.Lts-apply_from as apply-from-lts
-use Rattle.visit.proofs.apply_pass.apply_node.Reads as apply-node-reads
 use Rattle.visit.proofs.plan.first_child.Reads as first-child-reads
 use Rattle.visit.proofs.plan.next_sibling.Reads as next-sibling-reads
+use Rattle.visit.proofs.plan.relation.Reads as relation-reads
+use Rattle.visit.proofs.row.apply_at.Reads as apply-at-reads
 use Rattle.visit.proofs.apply_pass.+apply_from.{statement}
 use Rattle.visit.proofs.apply_pass.+apply_from.Tie.{close}
 
-abbrev μ-apply-from : Measures 4 apply-from-kinds.ps ℕ
-μ-apply-from κs a = length (a .1 .0 .now) - a .1 .1 .1 .1 .1 .0
+abbrev μ-apply-from : Measures 3 apply-from-kinds.ps ℕ
+μ-apply-from κs a = length (a .0 .now) - 3 * a .1 .1 .1 .1 .0
 
-abbrev apply-from-at : ℕ → In 4 apply-from-kinds.ps
+abbrev apply-from-at : ℕ → In 3 apply-from-kinds.ps
 apply-from-at t =
-    and 4 apply-from-kinds.ps (is 4 apply-from-kinds.ps μ-apply-from t) apply-from.Pre
+    and 3 apply-from-kinds.ps (is 3 apply-from-kinds.ps μ-apply-from t) apply-from.Pre
 
-abbrev apply-from-below : ℕ → In 4 apply-from-kinds.ps
+abbrev apply-from-below : ℕ → In 3 apply-from-kinds.ps
 apply-from-below t =
-    and 4 apply-from-kinds.ps (falls 4 apply-from-kinds.ps _<_ μ-apply-from t) apply-from.Pre
+    and 3 apply-from-kinds.ps (falls 3 apply-from-kinds.ps _<_ μ-apply-from t) apply-from.Pre
 
 abbrev apply-from-Inv-loop : apply-from-lts.InvT-loop
-apply-from-Inv-loop plan parents codes₀ starts v first spared m₀ codes m =
-    (m < length parents) × (m ≡ v .spared → ⊥) × (first ≤ m) × (length codes ≡ length codes₀)
-    × (walkAfter v parents starts (nodesFrom (v .spared) parents m) codes ≡ walkAfter v parents starts (nodesFrom (v .spared) parents first) codes₀)
+apply-from-Inv-loop plan codes₀ starts v first m₀ codes m =
+    Applying plan codes₀ starts v first m codes × (length codes ≡ length codes₀)
 
 abbrev apply-from-μ-loop : apply-from-lts.MeasureT-loop
-apply-from-μ-loop plan parents codes₀ starts v first spared m₀ codes m = length parents - m
+apply-from-μ-loop plan codes₀ starts v first m₀ codes m = length plan - 3 * m
 
 apply-from-loop-holds : (t : ℕ) → apply-from-lts.Need-loop-holds (
-  apply-node-reads.Asked,
-  apply-node-reads.Learnt,
+  relation-reads.Asked,
+  relation-reads.Learnt,
+  apply-at-reads.Asked,
+  apply-at-reads.Learnt,
   first-child-reads.Asked,
   first-child-reads.Learnt,
   next-sibling-reads.Asked,
@@ -47,13 +47,13 @@ apply-from-loop-holds : (t : ℕ) → apply-from-lts.Need-loop-holds (
   apply-from-below t,
   apply-from.Post,
 ) (apply-from-at t) apply-from.Post apply-from-Inv-loop apply-from-μ-loop
-apply-from-loop-holds t c =
-    let s = c .before .before .before .before in
-    (s .pre .1 .1 .0, s .pre .1 .1 .1, le-refl (s .args .first), refl, refl)
+apply-from-loop-holds t c = (λ ps p. (at-first p, refl), refl)
 
-apply-from-apply-node-requires : (t : ℕ) → apply-from-lts.Need-apply-node-requires (
-  apply-node-reads.Asked,
-  apply-node-reads.Learnt,
+apply-from-relation-requires : (t : ℕ) → apply-from-lts.Need-relation-requires (
+  relation-reads.Asked,
+  relation-reads.Learnt,
+  apply-at-reads.Asked,
+  apply-at-reads.Learnt,
   first-child-reads.Asked,
   first-child-reads.Learnt,
   next-sibling-reads.Asked,
@@ -61,17 +61,35 @@ apply-from-apply-node-requires : (t : ℕ) → apply-from-lts.Need-apply-node-re
   apply-from-below t,
   apply-from.Post,
 ) (apply-from-at t) apply-from.Post apply-from-Inv-loop apply-from-μ-loop
-apply-from-apply-node-requires t c κs =
-    let s = c .before .before .before .before .before .before in
-    let l = c .before .loop in
-    let v = s .args .v in
-    let ps = s .args .parents .now in
-    let starts = s .args .starts .now in
-    ((s .pre .1 .0 .0, ready-again _ _ _ _ (l .inv .3) (s .pre .1 .0 .1)), l .inv .0)
+apply-from-relation-requires t c κs = 
+    let l = c .before in
+    let s = l .before .before .before .before in
+    let q = s .pre .1 in let i₀ = l .loop .inv .0 (q .0) (q .1) in
+    planned-here (q .1) (i₀ .0)
+
+apply-from-apply-at-requires : (t : ℕ) → apply-from-lts.Need-apply-at-requires (
+  relation-reads.Asked,
+  relation-reads.Learnt,
+  apply-at-reads.Asked,
+  apply-at-reads.Learnt,
+  first-child-reads.Asked,
+  first-child-reads.Learnt,
+  next-sibling-reads.Asked,
+  next-sibling-reads.Learnt,
+  apply-from-below t,
+  apply-from.Post,
+) (apply-from-at t) apply-from.Post apply-from-Inv-loop apply-from-μ-loop
+apply-from-apply-at-requires t c κs = 
+    let l = c .before .before in
+    let s = l .before .before .before .before in
+    let q = s .pre .1 in let i₀ = l .loop .inv .0 (q .0) (q .1) in
+    row-here {codes = l .loop .codes} (still (l .loop .inv .1) (q .1)) (i₀ .0)
 
 apply-from-first-child-requires : (t : ℕ) → apply-from-lts.Need-first-child-requires (
-  apply-node-reads.Asked,
-  apply-node-reads.Learnt,
+  relation-reads.Asked,
+  relation-reads.Learnt,
+  apply-at-reads.Asked,
+  apply-at-reads.Learnt,
   first-child-reads.Asked,
   first-child-reads.Learnt,
   next-sibling-reads.Asked,
@@ -79,11 +97,17 @@ apply-from-first-child-requires : (t : ℕ) → apply-from-lts.Need-first-child-
   apply-from-below t,
   apply-from.Post,
 ) (apply-from-at t) apply-from.Post apply-from-Inv-loop apply-from-μ-loop
-apply-from-first-child-requires t c κs = (c .before .before .before .before .before .before .before .before .before .pre .1 .0 .0 .links, c .before .before .before .before .loop .inv .0)
+apply-from-first-child-requires t c κs = 
+    let l = c .before .before .before .before .before in
+    let s = l .before .before .before .before in
+    let q = s .pre .1 in let i₀ = l .loop .inv .0 (q .0) (q .1) in
+    planned-here (q .1) (i₀ .0)
 
 apply-from-next-sibling-requires : (t : ℕ) → apply-from-lts.Need-next-sibling-requires (
-  apply-node-reads.Asked,
-  apply-node-reads.Learnt,
+  relation-reads.Asked,
+  relation-reads.Learnt,
+  apply-at-reads.Asked,
+  apply-at-reads.Learnt,
   first-child-reads.Asked,
   first-child-reads.Learnt,
   next-sibling-reads.Asked,
@@ -91,11 +115,17 @@ apply-from-next-sibling-requires : (t : ℕ) → apply-from-lts.Need-next-siblin
   apply-from-below t,
   apply-from.Post,
 ) (apply-from-at t) apply-from.Post apply-from-Inv-loop apply-from-μ-loop
-apply-from-next-sibling-requires t c κs = (c .before .before .before .before .before .before .before .before .before .before .pre .1 .0 .0 .links, c .before .before .before .before .before .loop .inv .0)
+apply-from-next-sibling-requires t c κs = 
+    let l = c .before .before .before .before .before .before in
+    let s = l .before .before .before .before in
+    let q = s .pre .1 in let i₀ = l .loop .inv .0 (q .0) (q .1) in
+    planned-here (q .1) (i₀ .0)
 
 apply-from-same-length : (t : ℕ) → apply-from-lts.Need-same-length (
-  apply-node-reads.Asked,
-  apply-node-reads.Learnt,
+  relation-reads.Asked,
+  relation-reads.Learnt,
+  apply-at-reads.Asked,
+  apply-at-reads.Learnt,
   first-child-reads.Asked,
   first-child-reads.Learnt,
   next-sibling-reads.Asked,
@@ -103,20 +133,20 @@ apply-from-same-length : (t : ℕ) → apply-from-lts.Need-same-length (
   apply-from-below t,
   apply-from.Post,
 ) (apply-from-at t) apply-from.Post apply-from-Inv-loop apply-from-μ-loop
-apply-from-same-length t c =
-    let s = c .before .before .before .before .before .before .before .before .before .before .before .before .before in
-    let l = c .before .before .before .before .before .before .before .before .loop in
-    let v = s .args .v in
-    let ps = s .args .parents .now in
-    let starts = s .args .starts .now in
-    let node = c .before .before .before .before .before .before .apply-node in
-    let child = c .before .before .before .first-child in
-    let sibling = c .before .before .next-sibling in
-    node .kept .1 .1 .0 ∙ l .inv .3
+apply-from-same-length t c = 
+    let sibling = c .before .before in
+    let child = sibling .before in
+    let changed = child .before .before .before in
+    let related = changed .before in
+    let l = related .before .before in
+    let s = l .before .before .before .before in
+    changed .apply-at .kept .0 ∙ l .loop .inv .1
 
 apply-from-returns : (t : ℕ) → apply-from-lts.Need-returns (
-  apply-node-reads.Asked,
-  apply-node-reads.Learnt,
+  relation-reads.Asked,
+  relation-reads.Learnt,
+  apply-at-reads.Asked,
+  apply-at-reads.Learnt,
   first-child-reads.Asked,
   first-child-reads.Learnt,
   next-sibling-reads.Asked,
@@ -124,20 +154,21 @@ apply-from-returns : (t : ℕ) → apply-from-lts.Need-returns (
   apply-from-below t,
   apply-from.Post,
 ) (apply-from-at t) apply-from.Post apply-from-Inv-loop apply-from-μ-loop
-apply-from-returns t c =
-    let s = c .before .before .before .before .before .before .before .before .before .before .before .before .before in
-    let l = c .before .before .before .before .before .before .before .before .loop in
-    let v = s .args .v in
-    let ps = s .args .parents .now in
-    let starts = s .args .starts .now in
-    let node = c .before .before .before .before .before .before .apply-node in
-    let child = c .before .before .before .first-child in
-    let sibling = c .before .before .next-sibling in
-    changed-last v ps starts (l .codes) (l .codes) (l .m) (child .result) (sibling .result) (l .inv .0) (l .inv .1) (child .ensures) (sibling .ensures) _ (node .ensures) (c .before .if1 .taken) (c .if2 .taken) ∙ l .inv .4
+apply-from-returns t c = 
+    let sibling = c .before .before in
+    let child = sibling .before in
+    let changed = child .before .before .before in
+    let related = changed .before in
+    let l = related .before .before in
+    let s = l .before .before .before .before in
+    λ ps p. let i = l .loop .inv .0 ps p in
+    changed-last (still (l .loop .inv .1) p) (i .0) (s .args .starts .now) _ (related .relation .ensures) _ (changed .apply-at .ensures) (child .first-child .result) (sibling .next-sibling .result) (child .first-child .ensures) (sibling .next-sibling .ensures) (c .before .if1 .taken) (c .if2 .taken) ∙ i .1
 
 apply-from-loop-less : (t : ℕ) → apply-from-lts.Need-loop-less (
-  apply-node-reads.Asked,
-  apply-node-reads.Learnt,
+  relation-reads.Asked,
+  relation-reads.Learnt,
+  apply-at-reads.Asked,
+  apply-at-reads.Learnt,
   first-child-reads.Asked,
   first-child-reads.Learnt,
   next-sibling-reads.Asked,
@@ -145,21 +176,21 @@ apply-from-loop-less : (t : ℕ) → apply-from-lts.Need-loop-less (
   apply-from-below t,
   apply-from.Post,
 ) (apply-from-at t) apply-from.Post apply-from-Inv-loop apply-from-μ-loop
-apply-from-loop-less t c =
-    let s = c .before .before .before .before .before .before .before .before .before .before .before .before .before in
-    let l = c .before .before .before .before .before .before .before .before .loop in
-    let v = s .args .v in
-    let ps = s .args .parents .now in
-    let starts = s .args .starts .now in
-    let node = c .before .before .before .before .before .before .apply-node in
-    let child = c .before .before .before .first-child in
-    let sibling = c .before .before .next-sibling in
-    let later = child-later (v .spared) ps (l .m) (child .result) (child .ensures) (c .if2 .left) in
-    omega (arith, later .0, later .1)
+apply-from-loop-less t c = 
+    let sibling = c .before .before in
+    let child = sibling .before in
+    let changed = child .before .before .before in
+    let related = changed .before in
+    let l = related .before .before in
+    let s = l .before .before .before .before in
+    let q = s .pre .1 in let i₀ = l .loop .inv .0 (q .0) (q .1) in
+    omega (arith, at-child (q .1) (i₀ .0) (child .first-child .result) (child .first-child .ensures) (c .if2 .left) .0, planned-here (q .1) (i₀ .0) .0)
 
 apply-from-loop-again : (t : ℕ) → apply-from-lts.Need-loop-again (
-  apply-node-reads.Asked,
-  apply-node-reads.Learnt,
+  relation-reads.Asked,
+  relation-reads.Learnt,
+  apply-at-reads.Asked,
+  apply-at-reads.Learnt,
   first-child-reads.Asked,
   first-child-reads.Learnt,
   next-sibling-reads.Asked,
@@ -167,21 +198,21 @@ apply-from-loop-again : (t : ℕ) → apply-from-lts.Need-loop-again (
   apply-from-below t,
   apply-from.Post,
 ) (apply-from-at t) apply-from.Post apply-from-Inv-loop apply-from-μ-loop
-apply-from-loop-again t c =
-    let s = c .before .before .before .before .before .before .before .before .before .before .before .before .before in
-    let l = c .before .before .before .before .before .before .before .before .loop in
-    let v = s .args .v in
-    let ps = s .args .parents .now in
-    let starts = s .args .starts .now in
-    let node = c .before .before .before .before .before .before .apply-node in
-    let child = c .before .before .before .first-child in
-    let sibling = c .before .before .next-sibling in
-    let later = child-later (v .spared) ps (l .m) (child .result) (child .ensures) (c .if2 .left) in
-    (later .1, later .2, omega (arith, later .0, l .inv .2), node .kept .1 .1 .0 ∙ l .inv .3, changed-child v ps starts (l .codes) (l .codes) (l .m) (child .result) (sibling .result) (l .inv .0) (l .inv .1) (child .ensures) (sibling .ensures) _ (node .ensures) (c .before .if1 .taken) (c .if2 .left) ∙ l .inv .4)
+apply-from-loop-again t c = 
+    let sibling = c .before .before in
+    let child = sibling .before in
+    let changed = child .before .before .before in
+    let related = changed .before in
+    let l = related .before .before in
+    let s = l .before .before .before .before in
+    (λ ps p. let i = l .loop .inv .0 ps p in
+    (at-child p (i .0) (child .first-child .result) (child .first-child .ensures) (c .if2 .left) .1, changed-child (still (l .loop .inv .1) p) (i .0) (s .args .starts .now) _ (related .relation .ensures) _ (changed .apply-at .ensures) (child .first-child .result) (sibling .next-sibling .result) (child .first-child .ensures) (sibling .next-sibling .ensures) (c .before .if1 .taken) (c .if2 .left) ∙ i .1), changed .apply-at .kept .0 ∙ l .loop .inv .1)
 
 apply-from-apply-from-requires : (t : ℕ) → apply-from-lts.Need-apply-from-requires (
-  apply-node-reads.Asked,
-  apply-node-reads.Learnt,
+  relation-reads.Asked,
+  relation-reads.Learnt,
+  apply-at-reads.Asked,
+  apply-at-reads.Learnt,
   first-child-reads.Asked,
   first-child-reads.Learnt,
   next-sibling-reads.Asked,
@@ -189,21 +220,22 @@ apply-from-apply-from-requires : (t : ℕ) → apply-from-lts.Need-apply-from-re
   apply-from-below t,
   apply-from.Post,
 ) (apply-from-at t) apply-from.Post apply-from-Inv-loop apply-from-μ-loop
-apply-from-apply-from-requires t c κs =
-    let s = c .before .before .before .before .before .before .before .before .before .before .before .before .before .before in
-    let l = c .before .before .before .before .before .before .before .before .before .loop in
-    let v = s .args .v in
-    let ps = s .args .parents .now in
-    let starts = s .args .starts .now in
-    let node = c .before .before .before .before .before .before .before .apply-node in
-    let child = c .before .before .before .before .first-child in
-    let sibling = c .before .before .before .next-sibling in
-    let later = child-later (v .spared) ps (l .m) (child .result) (child .ensures) (c .before .if3 .taken) in
-    (omega (arith, later .0, later .1, l .inv .2), ((s .pre .1 .0 .0, ready-again _ _ _ _ (node .kept .1 .1 .0 ∙ l .inv .3) (s .pre .1 .0 .1)), (later .1, later .2)))
+apply-from-apply-from-requires t c κs = 
+    let sibling = c .before .before .before in
+    let child = sibling .before in
+    let changed = child .before .before .before in
+    let related = changed .before in
+    let l = related .before .before in
+    let s = l .before .before .before .before in
+    let q = s .pre .1 in let i₀ = l .loop .inv .0 (q .0) (q .1) in
+    let below = at-child (q .1) (i₀ .0) (child .first-child .result) (child .first-child .ensures) (c .before .if3 .taken) in
+    (subst (λ (k : ℕ). length (s .args .plan .now) - 3 * child .first-child .result < k) (s .pre .0) (fewer (length (s .args .plan .now)) (s .args .first) (l .loop .m) (child .first-child .result) (i₀ .0 .later) (below .0) (planned-here (q .1) (i₀ .0) .0)), (q .0, from-child (q .1) (i₀ .0) (child .first-child .result) (child .first-child .ensures) (c .before .if3 .taken) _ (changed .apply-at .kept .0 ∙ l .loop .inv .1)))
 
 apply-from-loop-less-2 : (t : ℕ) → apply-from-lts.Need-loop-less-2 (
-  apply-node-reads.Asked,
-  apply-node-reads.Learnt,
+  relation-reads.Asked,
+  relation-reads.Learnt,
+  apply-at-reads.Asked,
+  apply-at-reads.Learnt,
   first-child-reads.Asked,
   first-child-reads.Learnt,
   next-sibling-reads.Asked,
@@ -211,21 +243,21 @@ apply-from-loop-less-2 : (t : ℕ) → apply-from-lts.Need-loop-less-2 (
   apply-from-below t,
   apply-from.Post,
 ) (apply-from-at t) apply-from.Post apply-from-Inv-loop apply-from-μ-loop
-apply-from-loop-less-2 t c =
-    let s = c .before .before .before .before .before .before .before .before .before .before .before .before .before .before .before .before .before in
-    let l = c .before .before .before .before .before .before .before .before .before .before .before .before .loop in
-    let v = s .args .v in
-    let ps = s .args .parents .now in
-    let starts = s .args .starts .now in
-    let node = c .before .before .before .before .before .before .before .before .before .before .apply-node in
-    let child = c .before .before .before .before .before .before .before .first-child in
-    let sibling = c .before .before .before .before .before .before .next-sibling in
-    let later = sibling-later (v .spared) ps (l .m) (sibling .result) (sibling .ensures) (c .before .before .before .before .before .if1 .left) in
-    omega (arith, later .0, later .1)
+apply-from-loop-less-2 t c = 
+    let sibling = c .before .before .before .before .before .before in
+    let child = sibling .before in
+    let changed = child .before .before .before in
+    let related = changed .before in
+    let l = related .before .before in
+    let s = l .before .before .before .before in
+    let q = s .pre .1 in let i₀ = l .loop .inv .0 (q .0) (q .1) in
+    omega (arith, at-sibling (q .1) (i₀ .0) (sibling .next-sibling .result) (sibling .next-sibling .ensures) (c .before .before .before .before .before .if1 .left) .0, planned-here (q .1) (i₀ .0) .0)
 
 apply-from-loop-again-2 : (t : ℕ) → apply-from-lts.Need-loop-again-2 (
-  apply-node-reads.Asked,
-  apply-node-reads.Learnt,
+  relation-reads.Asked,
+  relation-reads.Learnt,
+  apply-at-reads.Asked,
+  apply-at-reads.Learnt,
   first-child-reads.Asked,
   first-child-reads.Learnt,
   next-sibling-reads.Asked,
@@ -233,21 +265,23 @@ apply-from-loop-again-2 : (t : ℕ) → apply-from-lts.Need-loop-again-2 (
   apply-from-below t,
   apply-from.Post,
 ) (apply-from-at t) apply-from.Post apply-from-Inv-loop apply-from-μ-loop
-apply-from-loop-again-2 t c =
-    let s = c .before .before .before .before .before .before .before .before .before .before .before .before .before .before .before .before .before in
-    let l = c .before .before .before .before .before .before .before .before .before .before .before .before .loop in
-    let v = s .args .v in
-    let ps = s .args .parents .now in
-    let starts = s .args .starts .now in
-    let node = c .before .before .before .before .before .before .before .before .before .before .apply-node in
-    let child = c .before .before .before .before .before .before .before .first-child in
-    let sibling = c .before .before .before .before .before .before .next-sibling in
-    let later = sibling-later (v .spared) ps (l .m) (sibling .result) (sibling .ensures) (c .before .before .before .before .before .if1 .left) in
-    (later .1, later .2, omega (arith, later .0, l .inv .2), c .before .before .apply-from .kept .1 .1 .0 ∙ node .kept .1 .1 .0 ∙ l .inv .3, changed-below v ps starts (l .codes) (l .codes) (l .m) (child .result) (sibling .result) (l .inv .0) (l .inv .1) (child .ensures) (sibling .ensures) _ (node .ensures) (c .before .before .before .before .before .if1 .left) (c .before .before .before .before .if3 .taken) _ (c .before .before .apply-from .ensures) ∙ l .inv .4)
+apply-from-loop-again-2 t c = 
+    let sibling = c .before .before .before .before .before .before in
+    let child = sibling .before in
+    let changed = child .before .before .before in
+    let related = changed .before in
+    let l = related .before .before in
+    let s = l .before .before .before .before in
+    let below = c .before .before .apply-from in
+    (λ ps p. let i = l .loop .inv .0 ps p in
+    let down = from-child p (i .0) (child .first-child .result) (child .first-child .ensures) (c .before .before .before .before .if3 .taken) _ (changed .apply-at .kept .0 ∙ l .loop .inv .1) in
+    (at-sibling p (i .0) (sibling .next-sibling .result) (sibling .next-sibling .ensures) (c .before .before .before .before .before .if1 .left) .1, changed-below (still (l .loop .inv .1) p) (i .0) (s .args .starts .now) _ (related .relation .ensures) _ (changed .apply-at .ensures) (child .first-child .result) (sibling .next-sibling .result) (child .first-child .ensures) (sibling .next-sibling .ensures) (c .before .before .before .before .before .if1 .left) (c .before .before .before .before .if3 .taken) _ (below .ensures ps down) ∙ i .1), below .kept .1 .0 ∙ changed .apply-at .kept .0 ∙ l .loop .inv .1)
 
 apply-from-loop-less-3 : (t : ℕ) → apply-from-lts.Need-loop-less-3 (
-  apply-node-reads.Asked,
-  apply-node-reads.Learnt,
+  relation-reads.Asked,
+  relation-reads.Learnt,
+  apply-at-reads.Asked,
+  apply-at-reads.Learnt,
   first-child-reads.Asked,
   first-child-reads.Learnt,
   next-sibling-reads.Asked,
@@ -255,21 +289,21 @@ apply-from-loop-less-3 : (t : ℕ) → apply-from-lts.Need-loop-less-3 (
   apply-from-below t,
   apply-from.Post,
 ) (apply-from-at t) apply-from.Post apply-from-Inv-loop apply-from-μ-loop
-apply-from-loop-less-3 t c =
-    let s = c .before .before .before .before .before .before .before .before .before .before .before .before .before in
-    let l = c .before .before .before .before .before .before .before .before .loop in
-    let v = s .args .v in
-    let ps = s .args .parents .now in
-    let starts = s .args .starts .now in
-    let node = c .before .before .before .before .before .before .apply-node in
-    let child = c .before .before .before .first-child in
-    let sibling = c .before .before .next-sibling in
-    let later = sibling-later (v .spared) ps (l .m) (sibling .result) (sibling .ensures) (c .before .if1 .left) in
-    omega (arith, later .0, later .1)
+apply-from-loop-less-3 t c = 
+    let sibling = c .before .before in
+    let child = sibling .before in
+    let changed = child .before .before .before in
+    let related = changed .before in
+    let l = related .before .before in
+    let s = l .before .before .before .before in
+    let q = s .pre .1 in let i₀ = l .loop .inv .0 (q .0) (q .1) in
+    omega (arith, at-sibling (q .1) (i₀ .0) (sibling .next-sibling .result) (sibling .next-sibling .ensures) (c .before .if1 .left) .0, planned-here (q .1) (i₀ .0) .0)
 
 apply-from-loop-again-3 : (t : ℕ) → apply-from-lts.Need-loop-again-3 (
-  apply-node-reads.Asked,
-  apply-node-reads.Learnt,
+  relation-reads.Asked,
+  relation-reads.Learnt,
+  apply-at-reads.Asked,
+  apply-at-reads.Learnt,
   first-child-reads.Asked,
   first-child-reads.Learnt,
   next-sibling-reads.Asked,
@@ -277,22 +311,22 @@ apply-from-loop-again-3 : (t : ℕ) → apply-from-lts.Need-loop-again-3 (
   apply-from-below t,
   apply-from.Post,
 ) (apply-from-at t) apply-from.Post apply-from-Inv-loop apply-from-μ-loop
-apply-from-loop-again-3 t c =
-    let s = c .before .before .before .before .before .before .before .before .before .before .before .before .before in
-    let l = c .before .before .before .before .before .before .before .before .loop in
-    let v = s .args .v in
-    let ps = s .args .parents .now in
-    let starts = s .args .starts .now in
-    let node = c .before .before .before .before .before .before .apply-node in
-    let child = c .before .before .before .first-child in
-    let sibling = c .before .before .next-sibling in
-    let later = sibling-later (v .spared) ps (l .m) (sibling .result) (sibling .ensures) (c .before .if1 .left) in
-    (later .1, later .2, omega (arith, later .0, l .inv .2), node .kept .1 .1 .0 ∙ l .inv .3, changed-leaf v ps starts (l .codes) (l .codes) (l .m) (child .result) (sibling .result) (l .inv .0) (l .inv .1) (child .ensures) (sibling .ensures) _ (node .ensures) (c .before .if1 .left) (c .if3 .left) ∙ l .inv .4)
+apply-from-loop-again-3 t c = 
+    let sibling = c .before .before in
+    let child = sibling .before in
+    let changed = child .before .before .before in
+    let related = changed .before in
+    let l = related .before .before in
+    let s = l .before .before .before .before in
+    (λ ps p. let i = l .loop .inv .0 ps p in
+    (at-sibling p (i .0) (sibling .next-sibling .result) (sibling .next-sibling .ensures) (c .before .if1 .left) .1, changed-leaf (still (l .loop .inv .1) p) (i .0) (s .args .starts .now) _ (related .relation .ensures) _ (changed .apply-at .ensures) (child .first-child .result) (sibling .next-sibling .result) (child .first-child .ensures) (sibling .next-sibling .ensures) (c .before .if1 .left) (c .if3 .left) ∙ i .1), changed .apply-at .kept .0 ∙ l .loop .inv .1)
 
 pub +apply-from-spec : {M : Type 1} → statement M
 +apply-from-spec = close μ-apply-from λ t. apply-from-lts.spec (
-  apply-node-reads.Asked,
-  apply-node-reads.Learnt,
+  relation-reads.Asked,
+  relation-reads.Learnt,
+  apply-at-reads.Asked,
+  apply-at-reads.Learnt,
   first-child-reads.Asked,
   first-child-reads.Learnt,
   next-sibling-reads.Asked,
@@ -305,7 +339,8 @@ pub +apply-from-spec : {M : Type 1} → statement M
     apply-from-Inv-loop
     apply-from-μ-loop
     (apply-from-loop-holds t)
-    (apply-from-apply-node-requires t)
+    (apply-from-relation-requires t)
+    (apply-from-apply-at-requires t)
     (apply-from-first-child-requires t)
     (apply-from-next-sibling-requires t)
     (apply-from-same-length t)

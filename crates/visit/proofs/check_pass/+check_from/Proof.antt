@@ -1,47 +1,48 @@
 -- The invariant: what is left at m tells of the whole. The number of later nodes falls.
-use Prim.Native.Nat.{ℕ, _-_, _≤_, _<_}
-use mathlib.Core.Path.{_≡_, refl, subst⁻¹}
+use Prim.Native.Nat.{ℕ, _-_, _*_, _<_}
+use mathlib.Core.Path.{refl, subst, subst⁻¹}
 use mathlib.Core.Logic.{⊎-elim}
-use mathlib.Core.Bool.{true}
-use native.Mathlib.Nat.{le-refl}
-use native.Mathlib.Omega.{arith}
-use borrow.Author.Needs.{needs}
 use lib.ListN.{length}
-use Rattle.visit.specs.Walk.{ToldOf, nodeRefusal, nodeAfter, nodesFrom}
-use Rattle.visit.proofs.Children.{Goes, Noted, note-stays, note-changes, child-later, sibling-later, refused-node, done-last, goes-child, goes-leaf, refused-below, goes-sibling}
+use Rattle.visit.specs.Walk.{ToldOf, nodesFrom}
+use Rattle.visit.proofs.Turns.{fewer, Checking, at-first, planned-here, row-here, at-child, at-sibling, from-child, refused-here, Seen, seen-stays, seen-changes, nothing-left, child-left, sibling-left, refused-below, past-stays, past-changes}
+use borrow.Author.Needs.{needs}
+use native.Mathlib.Omega.{arith}
 use borrow.Fn.Kinds.{In}
 use borrow.Fn.PlainCycle.{Measures, is, falls, and}
 use Rattle.visit.proofs.check_pass.check_from.Reads as check-from
 use Rattle.visit.proofs.check_pass.check_from.Kinds as check-from-kinds
 use Rattle.visit.proofs.check_pass.+check_from.Lts-check_from as check-from-lts
-use Rattle.visit.proofs.check_pass.check_node.Reads as check-node-reads
 use Rattle.visit.proofs.plan.first_child.Reads as first-child-reads
 use Rattle.visit.proofs.plan.next_sibling.Reads as next-sibling-reads
+use Rattle.visit.proofs.plan.relation.Reads as relation-reads
+use Rattle.visit.proofs.row.check_at.Reads as check-at-reads
 use Rattle.visit.proofs.unrefused.Reads as unrefused-reads
 use Rattle.visit.proofs.check_pass.+check_from.{statement}
 use Rattle.visit.proofs.check_pass.+check_from.Tie.{close}
 
-abbrev μ-check-from : Measures 4 check-from-kinds.ps ℕ
-μ-check-from κs a = length (a .1 .0 .now) - a .1 .1 .1 .1 .1 .0
+abbrev μ-check-from : Measures 3 check-from-kinds.ps ℕ
+μ-check-from κs a = length (a .0 .now) - 3 * a .1 .1 .1 .1 .0
 
-abbrev check-from-at : ℕ → In 4 check-from-kinds.ps
+abbrev check-from-at : ℕ → In 3 check-from-kinds.ps
 check-from-at t =
-    and 4 check-from-kinds.ps (is 4 check-from-kinds.ps μ-check-from t) check-from.Pre
+    and 3 check-from-kinds.ps (is 3 check-from-kinds.ps μ-check-from t) check-from.Pre
 
-abbrev check-from-below : ℕ → In 4 check-from-kinds.ps
+abbrev check-from-below : ℕ → In 3 check-from-kinds.ps
 check-from-below t =
-    and 4 check-from-kinds.ps (falls 4 check-from-kinds.ps _<_ μ-check-from t) check-from.Pre
+    and 3 check-from-kinds.ps (falls 3 check-from-kinds.ps _<_ μ-check-from t) check-from.Pre
 
 abbrev check-from-Inv-loop : check-from-lts.InvT-loop
-check-from-Inv-loop plan parents codes starts v first spared changes₀ m₀ changes m =
-    (m < length parents) × (m ≡ v .spared → ⊥) × (first ≤ m) × Goes v parents starts codes (nodesFrom (v .spared) parents first) m changes
+check-from-Inv-loop plan codes starts v first changes₀ m₀ changes m =
+    Checking plan codes starts v first m changes
 
 abbrev check-from-μ-loop : check-from-lts.MeasureT-loop
-check-from-μ-loop plan parents codes starts v first spared changes₀ m₀ changes m = length parents - m
+check-from-μ-loop plan codes starts v first changes₀ m₀ changes m = length plan - 3 * m
 
 check-from-loop-holds : (t : ℕ) → check-from-lts.Need-loop-holds (
-  check-node-reads.Asked,
-  check-node-reads.Learnt,
+  relation-reads.Asked,
+  relation-reads.Learnt,
+  check-at-reads.Asked,
+  check-at-reads.Learnt,
   first-child-reads.Asked,
   first-child-reads.Learnt,
   next-sibling-reads.Asked,
@@ -51,13 +52,13 @@ check-from-loop-holds : (t : ℕ) → check-from-lts.Need-loop-holds (
   check-from-below t,
   check-from.Post,
 ) (check-from-at t) check-from.Post check-from-Inv-loop check-from-μ-loop
-check-from-loop-holds t c =
-    let s = c .before .before .before .before in
-    (s .pre .1 .1 .0, s .pre .1 .1 .1, le-refl (s .args .first), (refl, λ z. refl))
+check-from-loop-holds t c = let s = c .before .before .before in λ ps p. (at-first p, (refl, λ z. refl))
 
-check-from-check-node-requires : (t : ℕ) → check-from-lts.Need-check-node-requires (
-  check-node-reads.Asked,
-  check-node-reads.Learnt,
+check-from-relation-requires : (t : ℕ) → check-from-lts.Need-relation-requires (
+  relation-reads.Asked,
+  relation-reads.Learnt,
+  check-at-reads.Asked,
+  check-at-reads.Learnt,
   first-child-reads.Asked,
   first-child-reads.Learnt,
   next-sibling-reads.Asked,
@@ -67,11 +68,34 @@ check-from-check-node-requires : (t : ℕ) → check-from-lts.Need-check-node-re
   check-from-below t,
   check-from.Post,
 ) (check-from-at t) check-from.Post check-from-Inv-loop check-from-μ-loop
-check-from-check-node-requires t c κs = (c .before .before .before .before .before .pre .1 .0, c .loop .inv .0)
+check-from-relation-requires t c κs = 
+    let s = c .before .before .before .before in
+    let p = s .pre .1 in planned-here (p .1) (c .loop .inv (p .0) (p .1) .0)
+
+check-from-check-at-requires : (t : ℕ) → check-from-lts.Need-check-at-requires (
+  relation-reads.Asked,
+  relation-reads.Learnt,
+  check-at-reads.Asked,
+  check-at-reads.Learnt,
+  first-child-reads.Asked,
+  first-child-reads.Learnt,
+  next-sibling-reads.Asked,
+  next-sibling-reads.Learnt,
+  unrefused-reads.Asked,
+  unrefused-reads.Learnt,
+  check-from-below t,
+  check-from.Post,
+) (check-from-at t) check-from.Post check-from-Inv-loop check-from-μ-loop
+check-from-check-at-requires t c κs = 
+    let l = c .before in
+    let s = l .before .before .before .before in
+    let p = s .pre .1 in row-here (p .1) (l .loop .inv (p .0) (p .1) .0)
 
 check-from-enum-told : (t : ℕ) → check-from-lts.Need-enum-told (
-  check-node-reads.Asked,
-  check-node-reads.Learnt,
+  relation-reads.Asked,
+  relation-reads.Learnt,
+  check-at-reads.Asked,
+  check-at-reads.Learnt,
   first-child-reads.Asked,
   first-child-reads.Learnt,
   next-sibling-reads.Asked,
@@ -84,8 +108,10 @@ check-from-enum-told : (t : ℕ) → check-from-lts.Need-enum-told (
 check-from-enum-told t c = search needs
 
 check-from-enum-told-2 : (t : ℕ) → check-from-lts.Need-enum-told-2 (
-  check-node-reads.Asked,
-  check-node-reads.Learnt,
+  relation-reads.Asked,
+  relation-reads.Learnt,
+  check-at-reads.Asked,
+  check-at-reads.Learnt,
   first-child-reads.Asked,
   first-child-reads.Learnt,
   next-sibling-reads.Asked,
@@ -98,8 +124,10 @@ check-from-enum-told-2 : (t : ℕ) → check-from-lts.Need-enum-told-2 (
 check-from-enum-told-2 t c = search needs
 
 check-from-enum-known-n : (t : ℕ) → check-from-lts.Need-enum-known-n (
-  check-node-reads.Asked,
-  check-node-reads.Learnt,
+  relation-reads.Asked,
+  relation-reads.Learnt,
+  check-at-reads.Asked,
+  check-at-reads.Learnt,
   first-child-reads.Asked,
   first-child-reads.Learnt,
   next-sibling-reads.Asked,
@@ -112,8 +140,10 @@ check-from-enum-known-n : (t : ℕ) → check-from-lts.Need-enum-known-n (
 check-from-enum-known-n t c = search needs
 
 check-from-returns : (t : ℕ) → check-from-lts.Need-returns (
-  check-node-reads.Asked,
-  check-node-reads.Learnt,
+  relation-reads.Asked,
+  relation-reads.Learnt,
+  check-at-reads.Asked,
+  check-at-reads.Learnt,
   first-child-reads.Asked,
   first-child-reads.Learnt,
   next-sibling-reads.Asked,
@@ -123,18 +153,19 @@ check-from-returns : (t : ℕ) → check-from-lts.Need-returns (
   check-from-below t,
   check-from.Post,
 ) (check-from-at t) check-from.Post check-from-Inv-loop check-from-μ-loop
-check-from-returns t c =
-    let s = c .before .before .before .before .before .before .before .before .before in
-    let l = c .before .before .before .before .loop in
-    let v = s .args .v in
-    let ps = s .args .parents .now in
-    let starts = s .args .starts .now in
-    let codes = s .args .codes .now in
-    refused-node v ps starts codes (nodesFrom (v .spared) ps (s .args .first)) (l .m) _ _ (l .inv .0) (l .inv .1) refl refl (l .changes) (l .inv .3) _ (c .before .before .before .check-node .result) (c .before .before .before .check-node .ensures) (c .before .n .given .1)
+check-from-returns t c = 
+    let checked = c .before .before .before in
+    let related = checked .before in
+    let l = related .before in
+    let s = l .before .before .before .before in
+    λ ps p. let i = l .loop .inv ps p in
+    refused-here p (i .0) (s .args .starts .now) (l .loop .changes) (i .1) _ (related .relation .ensures) (checked .check-at .result) (checked .check-at .ensures) _ (c .before .n .given .1)
 
 check-from-first-child-requires : (t : ℕ) → check-from-lts.Need-first-child-requires (
-  check-node-reads.Asked,
-  check-node-reads.Learnt,
+  relation-reads.Asked,
+  relation-reads.Learnt,
+  check-at-reads.Asked,
+  check-at-reads.Learnt,
   first-child-reads.Asked,
   first-child-reads.Learnt,
   next-sibling-reads.Asked,
@@ -144,11 +175,16 @@ check-from-first-child-requires : (t : ℕ) → check-from-lts.Need-first-child-
   check-from-below t,
   check-from.Post,
 ) (check-from-at t) check-from.Post check-from-Inv-loop check-from-μ-loop
-check-from-first-child-requires t c κs = (c .before .before .before .before .before .before .before .pre .1 .0 .0 .links, c .before .before .loop .inv .0)
+check-from-first-child-requires t c κs = 
+    let l = c .before .before .before in
+    let s = l .before .before .before .before in
+    let p = s .pre .1 in planned-here (p .1) (l .loop .inv (p .0) (p .1) .0)
 
 check-from-next-sibling-requires : (t : ℕ) → check-from-lts.Need-next-sibling-requires (
-  check-node-reads.Asked,
-  check-node-reads.Learnt,
+  relation-reads.Asked,
+  relation-reads.Learnt,
+  check-at-reads.Asked,
+  check-at-reads.Learnt,
   first-child-reads.Asked,
   first-child-reads.Learnt,
   next-sibling-reads.Asked,
@@ -158,11 +194,16 @@ check-from-next-sibling-requires : (t : ℕ) → check-from-lts.Need-next-siblin
   check-from-below t,
   check-from.Post,
 ) (check-from-at t) check-from.Post check-from-Inv-loop check-from-μ-loop
-check-from-next-sibling-requires t c κs = (c .before .before .before .before .before .before .before .before .pre .1 .0 .0 .links, c .before .before .before .loop .inv .0)
+check-from-next-sibling-requires t c κs = 
+    let l = c .before .before .before .before in
+    let s = l .before .before .before .before in
+    let p = s .pre .1 in planned-here (p .1) (l .loop .inv (p .0) (p .1) .0)
 
 check-from-unrefused-requires : (t : ℕ) → check-from-lts.Need-unrefused-requires (
-  check-node-reads.Asked,
-  check-node-reads.Learnt,
+  relation-reads.Asked,
+  relation-reads.Learnt,
+  check-at-reads.Asked,
+  check-at-reads.Learnt,
   first-child-reads.Asked,
   first-child-reads.Learnt,
   next-sibling-reads.Asked,
@@ -175,8 +216,10 @@ check-from-unrefused-requires : (t : ℕ) → check-from-lts.Need-unrefused-requ
 check-from-unrefused-requires t c κs = search needs
 
 check-from-returns-2 : (t : ℕ) → check-from-lts.Need-returns-2 (
-  check-node-reads.Asked,
-  check-node-reads.Learnt,
+  relation-reads.Asked,
+  relation-reads.Learnt,
+  check-at-reads.Asked,
+  check-at-reads.Learnt,
   first-child-reads.Asked,
   first-child-reads.Learnt,
   next-sibling-reads.Asked,
@@ -186,27 +229,28 @@ check-from-returns-2 : (t : ℕ) → check-from-lts.Need-returns-2 (
   check-from-below t,
   check-from.Post,
 ) (check-from-at t) check-from.Post check-from-Inv-loop check-from-μ-loop
-check-from-returns-2 t c =
-    let s = c .before .before .before .before .before .before .before .before .before .before .before .before in
-    let l = c .before .before .before .before .before .before .before .loop in
-    let v = s .args .v in
-    let ps = s .args .parents .now in
-    let starts = s .args .starts .now in
-    let codes = s .args .codes .now in
-    let node = c .before .before .before .before .before .before .check-node in
-    let seen = c .before .before .before .before .before .match in
-    let child = c .before .before .before .before .first-child in
-    let sibling = c .before .before .before .next-sibling in
-    let noted : Noted v ps starts (nodeRefusal v ps starts codes (l .m)) codes (nodeAfter v ps starts (l .m) codes) (l .changes) (seen .changes) =
+check-from-returns-2 t c = 
+    let sibling = c .before .before .before in
+    let child = sibling .before in
+    let came = child .before in
+    let checked = came .before in
+    let related = checked .before in
+    let l = related .before in
+    let s = l .before .before .before .before in
+    λ ps p. let i = l .loop .inv ps p in
+    let seen : Seen p (i .0) (s .args .starts .now) (l .loop .changes) (i .1) _ (related .relation .ensures) (checked .check-at .result) (checked .check-at .ensures) (came .match .changes) =
     ⊎-elim
-    (λ w. note-stays v ps starts _ codes _ (node .result) (node .ensures) (w .1 .given .1) (l .changes) (seen .changes) (w .2))
-    (λ w. note-changes v ps starts _ codes _ (node .result) (node .ensures) (w .1 .given .1) (l .changes) (seen .changes) (w .2))
-    (seen .came) in
-    subst⁻¹ (ToldOf v ps starts codes (nodesFrom (v .spared) ps (s .args .first))) (c .unrefused .ensures) (done-last v ps starts codes (nodesFrom (v .spared) ps (s .args .first)) (l .m) (child .result) (sibling .result) (l .inv .0) (l .inv .1) (child .ensures) (sibling .ensures) (l .changes) (l .inv .3) (seen .changes) noted (c .before .before .if1 .taken) (c .before .if2 .taken))
+    (λ w. seen-stays p (i .0) (s .args .starts .now) (l .loop .changes) (i .1) _ (related .relation .ensures) (checked .check-at .result) (checked .check-at .ensures) (came .match .changes) (w .1 .given .1) (w .2))
+    (λ w. seen-changes p (i .0) (s .args .starts .now) (l .loop .changes) (i .1) _ (related .relation .ensures) (checked .check-at .result) (checked .check-at .ensures) (came .match .changes) (w .1 .given .1) (w .2))
+    (came .match .came) in
+    subst⁻¹ (ToldOf (s .args .v) ps (s .args .starts .now) (s .args .codes .now) (nodesFrom (s .args .v .spared) ps (s .args .first))) (c .unrefused .ensures)
+    (nothing-left p (i .0) (s .args .starts .now) (l .loop .changes) (i .1) _ (related .relation .ensures) (checked .check-at .result) (checked .check-at .ensures) (came .match .changes) seen (child .first-child .result) (sibling .next-sibling .result) (child .first-child .ensures) (sibling .next-sibling .ensures) (c .before .before .if1 .taken) (c .before .if2 .taken))
 
 check-from-loop-less : (t : ℕ) → check-from-lts.Need-loop-less (
-  check-node-reads.Asked,
-  check-node-reads.Learnt,
+  relation-reads.Asked,
+  relation-reads.Learnt,
+  check-at-reads.Asked,
+  check-at-reads.Learnt,
   first-child-reads.Asked,
   first-child-reads.Learnt,
   next-sibling-reads.Asked,
@@ -216,23 +260,22 @@ check-from-loop-less : (t : ℕ) → check-from-lts.Need-loop-less (
   check-from-below t,
   check-from.Post,
 ) (check-from-at t) check-from.Post check-from-Inv-loop check-from-μ-loop
-check-from-loop-less t c =
-    let s = c .before .before .before .before .before .before .before .before .before .before .before in
-    let l = c .before .before .before .before .before .before .loop in
-    let v = s .args .v in
-    let ps = s .args .parents .now in
-    let starts = s .args .starts .now in
-    let codes = s .args .codes .now in
-    let node = c .before .before .before .before .before .check-node in
-    let seen = c .before .before .before .before .match in
-    let child = c .before .before .before .first-child in
-    let sibling = c .before .before .next-sibling in
-    let later = child-later (v .spared) ps (l .m) (child .result) (child .ensures) (c .if2 .left) in
-    omega (arith, later .0, later .1)
+check-from-loop-less t c = 
+    let sibling = c .before .before in
+    let child = sibling .before in
+    let came = child .before in
+    let checked = came .before in
+    let related = checked .before in
+    let l = related .before in
+    let s = l .before .before .before .before in
+    let q = s .pre .1 in let i₀ = l .loop .inv (q .0) (q .1) in
+    omega (arith, at-child (q .1) (i₀ .0) (child .first-child .result) (child .first-child .ensures) (c .if2 .left) .0, planned-here (q .1) (i₀ .0) .0)
 
 check-from-loop-again : (t : ℕ) → check-from-lts.Need-loop-again (
-  check-node-reads.Asked,
-  check-node-reads.Learnt,
+  relation-reads.Asked,
+  relation-reads.Learnt,
+  check-at-reads.Asked,
+  check-at-reads.Learnt,
   first-child-reads.Asked,
   first-child-reads.Learnt,
   next-sibling-reads.Asked,
@@ -242,28 +285,27 @@ check-from-loop-again : (t : ℕ) → check-from-lts.Need-loop-again (
   check-from-below t,
   check-from.Post,
 ) (check-from-at t) check-from.Post check-from-Inv-loop check-from-μ-loop
-check-from-loop-again t c =
-    let s = c .before .before .before .before .before .before .before .before .before .before .before in
-    let l = c .before .before .before .before .before .before .loop in
-    let v = s .args .v in
-    let ps = s .args .parents .now in
-    let starts = s .args .starts .now in
-    let codes = s .args .codes .now in
-    let node = c .before .before .before .before .before .check-node in
-    let seen = c .before .before .before .before .match in
-    let child = c .before .before .before .first-child in
-    let sibling = c .before .before .next-sibling in
-    let noted : Noted v ps starts (nodeRefusal v ps starts codes (l .m)) codes (nodeAfter v ps starts (l .m) codes) (l .changes) (seen .changes) =
+check-from-loop-again t c = 
+    let sibling = c .before .before in
+    let child = sibling .before in
+    let came = child .before in
+    let checked = came .before in
+    let related = checked .before in
+    let l = related .before in
+    let s = l .before .before .before .before in
+    λ ps p. let i = l .loop .inv ps p in
+    let seen : Seen p (i .0) (s .args .starts .now) (l .loop .changes) (i .1) _ (related .relation .ensures) (checked .check-at .result) (checked .check-at .ensures) (came .match .changes) =
     ⊎-elim
-    (λ w. note-stays v ps starts _ codes _ (node .result) (node .ensures) (w .1 .given .1) (l .changes) (seen .changes) (w .2))
-    (λ w. note-changes v ps starts _ codes _ (node .result) (node .ensures) (w .1 .given .1) (l .changes) (seen .changes) (w .2))
-    (seen .came) in
-    let later = child-later (v .spared) ps (l .m) (child .result) (child .ensures) (c .if2 .left) in
-    (later .1, later .2, omega (arith, later .0, l .inv .2), goes-child v ps starts codes (nodesFrom (v .spared) ps (s .args .first)) (l .m) (child .result) (sibling .result) (l .inv .0) (l .inv .1) (child .ensures) (sibling .ensures) (l .changes) (l .inv .3) (seen .changes) noted (c .before .if1 .taken) (c .if2 .left))
+    (λ w. seen-stays p (i .0) (s .args .starts .now) (l .loop .changes) (i .1) _ (related .relation .ensures) (checked .check-at .result) (checked .check-at .ensures) (came .match .changes) (w .1 .given .1) (w .2))
+    (λ w. seen-changes p (i .0) (s .args .starts .now) (l .loop .changes) (i .1) _ (related .relation .ensures) (checked .check-at .result) (checked .check-at .ensures) (came .match .changes) (w .1 .given .1) (w .2))
+    (came .match .came) in
+    (at-child p (i .0) (child .first-child .result) (child .first-child .ensures) (c .if2 .left) .1, child-left p (i .0) (s .args .starts .now) (l .loop .changes) (i .1) _ (related .relation .ensures) (checked .check-at .result) (checked .check-at .ensures) (came .match .changes) seen (child .first-child .result) (sibling .next-sibling .result) (child .first-child .ensures) (sibling .next-sibling .ensures) (c .before .if1 .taken) (c .if2 .left))
 
 check-from-check-from-requires : (t : ℕ) → check-from-lts.Need-check-from-requires (
-  check-node-reads.Asked,
-  check-node-reads.Learnt,
+  relation-reads.Asked,
+  relation-reads.Learnt,
+  check-at-reads.Asked,
+  check-at-reads.Learnt,
   first-child-reads.Asked,
   first-child-reads.Learnt,
   next-sibling-reads.Asked,
@@ -273,23 +315,23 @@ check-from-check-from-requires : (t : ℕ) → check-from-lts.Need-check-from-re
   check-from-below t,
   check-from.Post,
 ) (check-from-at t) check-from.Post check-from-Inv-loop check-from-μ-loop
-check-from-check-from-requires t c κs =
-    let s = c .before .before .before .before .before .before .before .before .before .before .before in
-    let l = c .before .before .before .before .before .before .loop in
-    let v = s .args .v in
-    let ps = s .args .parents .now in
-    let starts = s .args .starts .now in
-    let codes = s .args .codes .now in
-    let node = c .before .before .before .before .before .check-node in
-    let seen = c .before .before .before .before .match in
-    let child = c .before .before .before .first-child in
-    let sibling = c .before .before .next-sibling in
-    let later = child-later (v .spared) ps (l .m) (child .result) (child .ensures) (c .if3 .taken) in
-    (omega (arith, later .0, later .1, l .inv .2), (s .pre .1 .0, (later .1, later .2)))
+check-from-check-from-requires t c κs = 
+    let sibling = c .before .before in
+    let child = sibling .before in
+    let came = child .before in
+    let checked = came .before in
+    let related = checked .before in
+    let l = related .before in
+    let s = l .before .before .before .before in
+    let q = s .pre .1 in let i₀ = l .loop .inv (q .0) (q .1) in
+    let below = at-child (q .1) (i₀ .0) (child .first-child .result) (child .first-child .ensures) (c .if3 .taken) in
+    (subst (λ (k : ℕ). length (s .args .plan .now) - 3 * child .first-child .result < k) (s .pre .0) (fewer (length (s .args .plan .now)) (s .args .first) (l .loop .m) (child .first-child .result) (i₀ .0 .later) (below .0) (planned-here (q .1) (i₀ .0) .0)), (q .0, from-child (q .1) (i₀ .0) (child .first-child .result) (child .first-child .ensures) (c .if3 .taken) _ refl))
 
 check-from-enum-told-3 : (t : ℕ) → check-from-lts.Need-enum-told-3 (
-  check-node-reads.Asked,
-  check-node-reads.Learnt,
+  relation-reads.Asked,
+  relation-reads.Learnt,
+  check-at-reads.Asked,
+  check-at-reads.Learnt,
   first-child-reads.Asked,
   first-child-reads.Learnt,
   next-sibling-reads.Asked,
@@ -302,8 +344,10 @@ check-from-enum-told-3 : (t : ℕ) → check-from-lts.Need-enum-told-3 (
 check-from-enum-told-3 t c = search needs
 
 check-from-enum-told-4 : (t : ℕ) → check-from-lts.Need-enum-told-4 (
-  check-node-reads.Asked,
-  check-node-reads.Learnt,
+  relation-reads.Asked,
+  relation-reads.Learnt,
+  check-at-reads.Asked,
+  check-at-reads.Learnt,
   first-child-reads.Asked,
   first-child-reads.Learnt,
   next-sibling-reads.Asked,
@@ -316,8 +360,10 @@ check-from-enum-told-4 : (t : ℕ) → check-from-lts.Need-enum-told-4 (
 check-from-enum-told-4 t c = search needs
 
 check-from-enum-known-n-2 : (t : ℕ) → check-from-lts.Need-enum-known-n-2 (
-  check-node-reads.Asked,
-  check-node-reads.Learnt,
+  relation-reads.Asked,
+  relation-reads.Learnt,
+  check-at-reads.Asked,
+  check-at-reads.Learnt,
   first-child-reads.Asked,
   first-child-reads.Learnt,
   next-sibling-reads.Asked,
@@ -330,8 +376,10 @@ check-from-enum-known-n-2 : (t : ℕ) → check-from-lts.Need-enum-known-n-2 (
 check-from-enum-known-n-2 t c = search needs
 
 check-from-returns-3 : (t : ℕ) → check-from-lts.Need-returns-3 (
-  check-node-reads.Asked,
-  check-node-reads.Learnt,
+  relation-reads.Asked,
+  relation-reads.Learnt,
+  check-at-reads.Asked,
+  check-at-reads.Learnt,
   first-child-reads.Asked,
   first-child-reads.Learnt,
   next-sibling-reads.Asked,
@@ -341,27 +389,29 @@ check-from-returns-3 : (t : ℕ) → check-from-lts.Need-returns-3 (
   check-from-below t,
   check-from.Post,
 ) (check-from-at t) check-from.Post check-from-Inv-loop check-from-μ-loop
-check-from-returns-3 t c =
-    let s = c .before .before .before .before .before .before .before .before .before .before .before .before .before .before .before in
-    let l = c .before .before .before .before .before .before .before .before .before .before .loop in
-    let v = s .args .v in
-    let ps = s .args .parents .now in
-    let starts = s .args .starts .now in
-    let codes = s .args .codes .now in
-    let node = c .before .before .before .before .before .before .before .before .before .check-node in
-    let seen = c .before .before .before .before .before .before .before .before .match in
-    let child = c .before .before .before .before .before .before .before .first-child in
-    let sibling = c .before .before .before .before .before .before .next-sibling in
-    let noted : Noted v ps starts (nodeRefusal v ps starts codes (l .m)) codes (nodeAfter v ps starts (l .m) codes) (l .changes) (seen .changes) =
+check-from-returns-3 t c = 
+    let sibling = c .before .before .before .before .before .before in
+    let child = sibling .before in
+    let came = child .before in
+    let checked = came .before in
+    let related = checked .before in
+    let l = related .before in
+    let s = l .before .before .before .before in
+    let below = c .before .before .before .check-from in
+    λ ps p. let i = l .loop .inv ps p in
+    let seen : Seen p (i .0) (s .args .starts .now) (l .loop .changes) (i .1) _ (related .relation .ensures) (checked .check-at .result) (checked .check-at .ensures) (came .match .changes) =
     ⊎-elim
-    (λ w. note-stays v ps starts _ codes _ (node .result) (node .ensures) (w .1 .given .1) (l .changes) (seen .changes) (w .2))
-    (λ w. note-changes v ps starts _ codes _ (node .result) (node .ensures) (w .1 .given .1) (l .changes) (seen .changes) (w .2))
-    (seen .came) in
-    refused-below v ps starts codes (nodesFrom (v .spared) ps (s .args .first)) (l .m) (child .result) (sibling .result) (l .inv .0) (l .inv .1) (child .ensures) (sibling .ensures) (l .changes) (l .inv .3) (seen .changes) noted (c .before .before .before .before .before .if1 .left) (c .before .before .before .before .if3 .taken) _ (c .before .before .before .check-from .result) (c .before .before .before .check-from .ensures) (c .before .n2 .given .1)
+    (λ w. seen-stays p (i .0) (s .args .starts .now) (l .loop .changes) (i .1) _ (related .relation .ensures) (checked .check-at .result) (checked .check-at .ensures) (came .match .changes) (w .1 .given .1) (w .2))
+    (λ w. seen-changes p (i .0) (s .args .starts .now) (l .loop .changes) (i .1) _ (related .relation .ensures) (checked .check-at .result) (checked .check-at .ensures) (came .match .changes) (w .1 .given .1) (w .2))
+    (came .match .came) in
+    let down = from-child p (i .0) (child .first-child .result) (child .first-child .ensures) (c .before .before .before .before .if3 .taken) _ refl in
+    refused-below p (i .0) (s .args .starts .now) (l .loop .changes) (i .1) _ (related .relation .ensures) (checked .check-at .result) (checked .check-at .ensures) (came .match .changes) seen (child .first-child .result) (sibling .next-sibling .result) (child .first-child .ensures) (sibling .next-sibling .ensures) (c .before .before .before .before .before .if1 .left) (c .before .before .before .before .if3 .taken) (below .result) (below .ensures ps down) _ (c .before .n2 .given .1)
 
 check-from-loop-less-2 : (t : ℕ) → check-from-lts.Need-loop-less-2 (
-  check-node-reads.Asked,
-  check-node-reads.Learnt,
+  relation-reads.Asked,
+  relation-reads.Learnt,
+  check-at-reads.Asked,
+  check-at-reads.Learnt,
   first-child-reads.Asked,
   first-child-reads.Learnt,
   next-sibling-reads.Asked,
@@ -371,23 +421,22 @@ check-from-loop-less-2 : (t : ℕ) → check-from-lts.Need-loop-less-2 (
   check-from-below t,
   check-from.Post,
 ) (check-from-at t) check-from.Post check-from-Inv-loop check-from-μ-loop
-check-from-loop-less-2 t c =
-    let s = c .before .before .before .before .before .before .before .before .before .before .before .before .before .before in
-    let l = c .before .before .before .before .before .before .before .before .before .loop in
-    let v = s .args .v in
-    let ps = s .args .parents .now in
-    let starts = s .args .starts .now in
-    let codes = s .args .codes .now in
-    let node = c .before .before .before .before .before .before .before .before .check-node in
-    let seen = c .before .before .before .before .before .before .before .match in
-    let child = c .before .before .before .before .before .before .first-child in
-    let sibling = c .before .before .before .before .before .next-sibling in
-    let later = sibling-later (v .spared) ps (l .m) (sibling .result) (sibling .ensures) (c .before .before .before .before .if1 .left) in
-    omega (arith, later .0, later .1)
+check-from-loop-less-2 t c = 
+    let sibling = c .before .before .before .before .before in
+    let child = sibling .before in
+    let came = child .before in
+    let checked = came .before in
+    let related = checked .before in
+    let l = related .before in
+    let s = l .before .before .before .before in
+    let q = s .pre .1 in let i₀ = l .loop .inv (q .0) (q .1) in
+    omega (arith, at-sibling (q .1) (i₀ .0) (sibling .next-sibling .result) (sibling .next-sibling .ensures) (c .before .before .before .before .if1 .left) .0, planned-here (q .1) (i₀ .0) .0)
 
 check-from-loop-again-2 : (t : ℕ) → check-from-lts.Need-loop-again-2 (
-  check-node-reads.Asked,
-  check-node-reads.Learnt,
+  relation-reads.Asked,
+  relation-reads.Learnt,
+  check-at-reads.Asked,
+  check-at-reads.Learnt,
   first-child-reads.Asked,
   first-child-reads.Learnt,
   next-sibling-reads.Asked,
@@ -397,28 +446,29 @@ check-from-loop-again-2 : (t : ℕ) → check-from-lts.Need-loop-again-2 (
   check-from-below t,
   check-from.Post,
 ) (check-from-at t) check-from.Post check-from-Inv-loop check-from-μ-loop
-check-from-loop-again-2 t c =
-    let s = c .before .before .before .before .before .before .before .before .before .before .before .before .before .before in
-    let l = c .before .before .before .before .before .before .before .before .before .loop in
-    let v = s .args .v in
-    let ps = s .args .parents .now in
-    let starts = s .args .starts .now in
-    let codes = s .args .codes .now in
-    let node = c .before .before .before .before .before .before .before .before .check-node in
-    let seen = c .before .before .before .before .before .before .before .match in
-    let child = c .before .before .before .before .before .before .first-child in
-    let sibling = c .before .before .before .before .before .next-sibling in
-    let noted : Noted v ps starts (nodeRefusal v ps starts codes (l .m)) codes (nodeAfter v ps starts (l .m) codes) (l .changes) (seen .changes) =
+check-from-loop-again-2 t c = 
+    let sibling = c .before .before .before .before .before in
+    let child = sibling .before in
+    let came = child .before in
+    let checked = came .before in
+    let related = checked .before in
+    let l = related .before in
+    let s = l .before .before .before .before in
+    let below = c .before .before .check-from in
+    λ ps p. let i = l .loop .inv ps p in
+    let seen : Seen p (i .0) (s .args .starts .now) (l .loop .changes) (i .1) _ (related .relation .ensures) (checked .check-at .result) (checked .check-at .ensures) (came .match .changes) =
     ⊎-elim
-    (λ w. note-stays v ps starts _ codes _ (node .result) (node .ensures) (w .1 .given .1) (l .changes) (seen .changes) (w .2))
-    (λ w. note-changes v ps starts _ codes _ (node .result) (node .ensures) (w .1 .given .1) (l .changes) (seen .changes) (w .2))
-    (seen .came) in
-    let later = sibling-later (v .spared) ps (l .m) (sibling .result) (sibling .ensures) (c .before .before .before .before .if1 .left) in
-    (later .1, later .2, omega (arith, later .0, l .inv .2), goes-sibling v ps starts codes (nodesFrom (v .spared) ps (s .args .first)) (l .m) (child .result) (sibling .result) (l .inv .0) (l .inv .1) (child .ensures) (sibling .ensures) (l .changes) (l .inv .3) (seen .changes) noted (c .before .before .before .before .if1 .left) (c .before .before .before .if3 .taken) (seen .changes) (note-stays v ps starts _ codes _ (c .before .before .check-from .result) (c .before .before .check-from .ensures) (c .enum-told3 .given .1) (seen .changes) (seen .changes) refl))
+    (λ w. seen-stays p (i .0) (s .args .starts .now) (l .loop .changes) (i .1) _ (related .relation .ensures) (checked .check-at .result) (checked .check-at .ensures) (came .match .changes) (w .1 .given .1) (w .2))
+    (λ w. seen-changes p (i .0) (s .args .starts .now) (l .loop .changes) (i .1) _ (related .relation .ensures) (checked .check-at .result) (checked .check-at .ensures) (came .match .changes) (w .1 .given .1) (w .2))
+    (came .match .came) in
+    let down = from-child p (i .0) (child .first-child .result) (child .first-child .ensures) (c .before .before .before .if3 .taken) _ refl in
+    (at-sibling p (i .0) (sibling .next-sibling .result) (sibling .next-sibling .ensures) (c .before .before .before .before .if1 .left) .1, past-stays p (i .0) (s .args .starts .now) (l .loop .changes) (i .1) _ (related .relation .ensures) (checked .check-at .result) (checked .check-at .ensures) (came .match .changes) seen (child .first-child .result) (sibling .next-sibling .result) (child .first-child .ensures) (sibling .next-sibling .ensures) (c .before .before .before .before .if1 .left) (c .before .before .before .if3 .taken) (below .result) (below .ensures ps down) (c .enum-told3 .given .1))
 
 check-from-loop-less-3 : (t : ℕ) → check-from-lts.Need-loop-less-3 (
-  check-node-reads.Asked,
-  check-node-reads.Learnt,
+  relation-reads.Asked,
+  relation-reads.Learnt,
+  check-at-reads.Asked,
+  check-at-reads.Learnt,
   first-child-reads.Asked,
   first-child-reads.Learnt,
   next-sibling-reads.Asked,
@@ -428,23 +478,22 @@ check-from-loop-less-3 : (t : ℕ) → check-from-lts.Need-loop-less-3 (
   check-from-below t,
   check-from.Post,
 ) (check-from-at t) check-from.Post check-from-Inv-loop check-from-μ-loop
-check-from-loop-less-3 t c =
-    let s = c .before .before .before .before .before .before .before .before .before .before .before .before .before .before in
-    let l = c .before .before .before .before .before .before .before .before .before .loop in
-    let v = s .args .v in
-    let ps = s .args .parents .now in
-    let starts = s .args .starts .now in
-    let codes = s .args .codes .now in
-    let node = c .before .before .before .before .before .before .before .before .check-node in
-    let seen = c .before .before .before .before .before .before .before .match in
-    let child = c .before .before .before .before .before .before .first-child in
-    let sibling = c .before .before .before .before .before .next-sibling in
-    let later = sibling-later (v .spared) ps (l .m) (sibling .result) (sibling .ensures) (c .before .before .before .before .if1 .left) in
-    omega (arith, later .0, later .1)
+check-from-loop-less-3 t c = 
+    let sibling = c .before .before .before .before .before in
+    let child = sibling .before in
+    let came = child .before in
+    let checked = came .before in
+    let related = checked .before in
+    let l = related .before in
+    let s = l .before .before .before .before in
+    let q = s .pre .1 in let i₀ = l .loop .inv (q .0) (q .1) in
+    omega (arith, at-sibling (q .1) (i₀ .0) (sibling .next-sibling .result) (sibling .next-sibling .ensures) (c .before .before .before .before .if1 .left) .0, planned-here (q .1) (i₀ .0) .0)
 
 check-from-loop-again-3 : (t : ℕ) → check-from-lts.Need-loop-again-3 (
-  check-node-reads.Asked,
-  check-node-reads.Learnt,
+  relation-reads.Asked,
+  relation-reads.Learnt,
+  check-at-reads.Asked,
+  check-at-reads.Learnt,
   first-child-reads.Asked,
   first-child-reads.Learnt,
   next-sibling-reads.Asked,
@@ -454,28 +503,29 @@ check-from-loop-again-3 : (t : ℕ) → check-from-lts.Need-loop-again-3 (
   check-from-below t,
   check-from.Post,
 ) (check-from-at t) check-from.Post check-from-Inv-loop check-from-μ-loop
-check-from-loop-again-3 t c =
-    let s = c .before .before .before .before .before .before .before .before .before .before .before .before .before .before in
-    let l = c .before .before .before .before .before .before .before .before .before .loop in
-    let v = s .args .v in
-    let ps = s .args .parents .now in
-    let starts = s .args .starts .now in
-    let codes = s .args .codes .now in
-    let node = c .before .before .before .before .before .before .before .before .check-node in
-    let seen = c .before .before .before .before .before .before .before .match in
-    let child = c .before .before .before .before .before .before .first-child in
-    let sibling = c .before .before .before .before .before .next-sibling in
-    let noted : Noted v ps starts (nodeRefusal v ps starts codes (l .m)) codes (nodeAfter v ps starts (l .m) codes) (l .changes) (seen .changes) =
+check-from-loop-again-3 t c = 
+    let sibling = c .before .before .before .before .before in
+    let child = sibling .before in
+    let came = child .before in
+    let checked = came .before in
+    let related = checked .before in
+    let l = related .before in
+    let s = l .before .before .before .before in
+    let below = c .before .before .check-from in
+    λ ps p. let i = l .loop .inv ps p in
+    let seen : Seen p (i .0) (s .args .starts .now) (l .loop .changes) (i .1) _ (related .relation .ensures) (checked .check-at .result) (checked .check-at .ensures) (came .match .changes) =
     ⊎-elim
-    (λ w. note-stays v ps starts _ codes _ (node .result) (node .ensures) (w .1 .given .1) (l .changes) (seen .changes) (w .2))
-    (λ w. note-changes v ps starts _ codes _ (node .result) (node .ensures) (w .1 .given .1) (l .changes) (seen .changes) (w .2))
-    (seen .came) in
-    let later = sibling-later (v .spared) ps (l .m) (sibling .result) (sibling .ensures) (c .before .before .before .before .if1 .left) in
-    (later .1, later .2, omega (arith, later .0, l .inv .2), goes-sibling v ps starts codes (nodesFrom (v .spared) ps (s .args .first)) (l .m) (child .result) (sibling .result) (l .inv .0) (l .inv .1) (child .ensures) (sibling .ensures) (l .changes) (l .inv .3) (seen .changes) noted (c .before .before .before .before .if1 .left) (c .before .before .before .if3 .taken) true (note-changes v ps starts _ codes _ (c .before .before .check-from .result) (c .before .before .check-from .ensures) (c .enum-told4 .given .1) (seen .changes) true refl))
+    (λ w. seen-stays p (i .0) (s .args .starts .now) (l .loop .changes) (i .1) _ (related .relation .ensures) (checked .check-at .result) (checked .check-at .ensures) (came .match .changes) (w .1 .given .1) (w .2))
+    (λ w. seen-changes p (i .0) (s .args .starts .now) (l .loop .changes) (i .1) _ (related .relation .ensures) (checked .check-at .result) (checked .check-at .ensures) (came .match .changes) (w .1 .given .1) (w .2))
+    (came .match .came) in
+    let down = from-child p (i .0) (child .first-child .result) (child .first-child .ensures) (c .before .before .before .if3 .taken) _ refl in
+    (at-sibling p (i .0) (sibling .next-sibling .result) (sibling .next-sibling .ensures) (c .before .before .before .before .if1 .left) .1, past-changes p (i .0) (s .args .starts .now) (l .loop .changes) (i .1) _ (related .relation .ensures) (checked .check-at .result) (checked .check-at .ensures) (came .match .changes) seen (child .first-child .result) (sibling .next-sibling .result) (child .first-child .ensures) (sibling .next-sibling .ensures) (c .before .before .before .before .if1 .left) (c .before .before .before .if3 .taken) (below .result) (below .ensures ps down) (c .enum-told4 .given .1))
 
 check-from-loop-less-4 : (t : ℕ) → check-from-lts.Need-loop-less-4 (
-  check-node-reads.Asked,
-  check-node-reads.Learnt,
+  relation-reads.Asked,
+  relation-reads.Learnt,
+  check-at-reads.Asked,
+  check-at-reads.Learnt,
   first-child-reads.Asked,
   first-child-reads.Learnt,
   next-sibling-reads.Asked,
@@ -485,23 +535,22 @@ check-from-loop-less-4 : (t : ℕ) → check-from-lts.Need-loop-less-4 (
   check-from-below t,
   check-from.Post,
 ) (check-from-at t) check-from.Post check-from-Inv-loop check-from-μ-loop
-check-from-loop-less-4 t c =
-    let s = c .before .before .before .before .before .before .before .before .before .before .before in
-    let l = c .before .before .before .before .before .before .loop in
-    let v = s .args .v in
-    let ps = s .args .parents .now in
-    let starts = s .args .starts .now in
-    let codes = s .args .codes .now in
-    let node = c .before .before .before .before .before .check-node in
-    let seen = c .before .before .before .before .match in
-    let child = c .before .before .before .first-child in
-    let sibling = c .before .before .next-sibling in
-    let later = sibling-later (v .spared) ps (l .m) (sibling .result) (sibling .ensures) (c .before .if1 .left) in
-    omega (arith, later .0, later .1)
+check-from-loop-less-4 t c = 
+    let sibling = c .before .before in
+    let child = sibling .before in
+    let came = child .before in
+    let checked = came .before in
+    let related = checked .before in
+    let l = related .before in
+    let s = l .before .before .before .before in
+    let q = s .pre .1 in let i₀ = l .loop .inv (q .0) (q .1) in
+    omega (arith, at-sibling (q .1) (i₀ .0) (sibling .next-sibling .result) (sibling .next-sibling .ensures) (c .before .if1 .left) .0, planned-here (q .1) (i₀ .0) .0)
 
 check-from-loop-again-4 : (t : ℕ) → check-from-lts.Need-loop-again-4 (
-  check-node-reads.Asked,
-  check-node-reads.Learnt,
+  relation-reads.Asked,
+  relation-reads.Learnt,
+  check-at-reads.Asked,
+  check-at-reads.Learnt,
   first-child-reads.Asked,
   first-child-reads.Learnt,
   next-sibling-reads.Asked,
@@ -511,29 +560,28 @@ check-from-loop-again-4 : (t : ℕ) → check-from-lts.Need-loop-again-4 (
   check-from-below t,
   check-from.Post,
 ) (check-from-at t) check-from.Post check-from-Inv-loop check-from-μ-loop
-check-from-loop-again-4 t c =
-    let s = c .before .before .before .before .before .before .before .before .before .before .before in
-    let l = c .before .before .before .before .before .before .loop in
-    let v = s .args .v in
-    let ps = s .args .parents .now in
-    let starts = s .args .starts .now in
-    let codes = s .args .codes .now in
-    let node = c .before .before .before .before .before .check-node in
-    let seen = c .before .before .before .before .match in
-    let child = c .before .before .before .first-child in
-    let sibling = c .before .before .next-sibling in
-    let noted : Noted v ps starts (nodeRefusal v ps starts codes (l .m)) codes (nodeAfter v ps starts (l .m) codes) (l .changes) (seen .changes) =
+check-from-loop-again-4 t c = 
+    let sibling = c .before .before in
+    let child = sibling .before in
+    let came = child .before in
+    let checked = came .before in
+    let related = checked .before in
+    let l = related .before in
+    let s = l .before .before .before .before in
+    λ ps p. let i = l .loop .inv ps p in
+    let seen : Seen p (i .0) (s .args .starts .now) (l .loop .changes) (i .1) _ (related .relation .ensures) (checked .check-at .result) (checked .check-at .ensures) (came .match .changes) =
     ⊎-elim
-    (λ w. note-stays v ps starts _ codes _ (node .result) (node .ensures) (w .1 .given .1) (l .changes) (seen .changes) (w .2))
-    (λ w. note-changes v ps starts _ codes _ (node .result) (node .ensures) (w .1 .given .1) (l .changes) (seen .changes) (w .2))
-    (seen .came) in
-    let later = sibling-later (v .spared) ps (l .m) (sibling .result) (sibling .ensures) (c .before .if1 .left) in
-    (later .1, later .2, omega (arith, later .0, l .inv .2), goes-leaf v ps starts codes (nodesFrom (v .spared) ps (s .args .first)) (l .m) (child .result) (sibling .result) (l .inv .0) (l .inv .1) (child .ensures) (sibling .ensures) (l .changes) (l .inv .3) (seen .changes) noted (c .before .if1 .left) (c .if3 .left))
+    (λ w. seen-stays p (i .0) (s .args .starts .now) (l .loop .changes) (i .1) _ (related .relation .ensures) (checked .check-at .result) (checked .check-at .ensures) (came .match .changes) (w .1 .given .1) (w .2))
+    (λ w. seen-changes p (i .0) (s .args .starts .now) (l .loop .changes) (i .1) _ (related .relation .ensures) (checked .check-at .result) (checked .check-at .ensures) (came .match .changes) (w .1 .given .1) (w .2))
+    (came .match .came) in
+    (at-sibling p (i .0) (sibling .next-sibling .result) (sibling .next-sibling .ensures) (c .before .if1 .left) .1, sibling-left p (i .0) (s .args .starts .now) (l .loop .changes) (i .1) _ (related .relation .ensures) (checked .check-at .result) (checked .check-at .ensures) (came .match .changes) seen (child .first-child .result) (sibling .next-sibling .result) (child .first-child .ensures) (sibling .next-sibling .ensures) (c .before .if1 .left) (c .if3 .left))
 
 pub +check-from-spec : {M : Type 1} → statement M
 +check-from-spec = close μ-check-from λ t. check-from-lts.spec (
-  check-node-reads.Asked,
-  check-node-reads.Learnt,
+  relation-reads.Asked,
+  relation-reads.Learnt,
+  check-at-reads.Asked,
+  check-at-reads.Learnt,
   first-child-reads.Asked,
   first-child-reads.Learnt,
   next-sibling-reads.Asked,
@@ -548,7 +596,8 @@ pub +check-from-spec : {M : Type 1} → statement M
     check-from-Inv-loop
     check-from-μ-loop
     (check-from-loop-holds t)
-    (check-from-check-node-requires t)
+    (check-from-relation-requires t)
+    (check-from-check-at-requires t)
     (check-from-enum-told t)
     (check-from-enum-told-2 t)
     (check-from-enum-known-n t)

@@ -111,8 +111,7 @@ returns : tie.Need-returns Inv-loop μ-loop
 returns c =
     let s = c .before .before .before .before in
     let l = c .before .loop in
-    let room : Roomy (s .args .parents .now) (l .plan) = record { size = l .inv .2 ∙ s .pre .1 .0 .size; few = s .pre .1 .0 .few } in
-    (linked (s .args .spared) (s .args .parents .now) (s .pre .0) (l .plan) room (l .m) (omega arith) (l .inv .1) (l .inv .3), l .inv .3 .unmarked)
+    (linked (s .args .spared) (s .args .parents .now) (s .pre .0) (l .plan) (l .m) (omega arith) (l .inv .1) (l .inv .3), l .inv .3 .unmarked)
 
 pub link-children-spec : {M : Type 1} → statement M
 link-children-spec =

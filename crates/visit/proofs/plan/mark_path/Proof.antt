@@ -68,7 +68,7 @@ returns c =
     let marks : Marking ps (s .args .accessed) (s .args .plan .now) (l .plan) 0 = subst (Marking ps (s .args .accessed) (s .args .plan .now) (l .plan)) root (l .inv .2) in
     let room : Roomy ps (l .plan) = record { size = l .inv .1 ∙ s .pre .1 .1 .size; few = s .pre .1 .1 .few } in
     let fits : 2 < length (l .plan) = omega (arith, l .inv .0, room .size) in
-    (marked-root ps (s .pre .0) (s .args .accessed) (s .args .plan .now) (l .plan) 0 fits marks refl room (length-set (l .plan) 2 1), marked-same ps (s .pre .0) (s .args .accessed) (s .args .plan .now) (l .plan) 0 fits marks)
+    (marked-root ps (s .pre .0) (s .args .accessed) (s .args .plan .now) (l .plan) 0 fits marks refl, marked-same ps (s .pre .0) (s .args .accessed) (s .args .plan .now) (l .plan) 0 fits marks)
 
 pub mark-path-spec : {M : Type 1} → statement M
 mark-path-spec =
