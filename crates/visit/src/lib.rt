@@ -8,9 +8,9 @@ mod row;
 
 pub use apply_pass::apply;
 pub use check_pass::check;
+use permission::AccessKind;
 pub use plan::make_plan;
 pub use plan::relation;
-use permission::AccessKind;
 ghost use mathlib.Core.Path.{_≡_};
 ghost use Rattle.visit.specs.Walk as walk;
 

@@ -61,7 +61,7 @@ apply-from-relation-requires : (t : ℕ) → apply-from-lts.Need-relation-requir
   apply-from-below t,
   apply-from.Post,
 ) (apply-from-at t) apply-from.Post apply-from-Inv-loop apply-from-μ-loop
-apply-from-relation-requires t c κs = 
+apply-from-relation-requires t c κs =
     let l = c .before in
     let s = l .before .before .before .before in
     let q = s .pre .1 in let i₀ = l .loop .inv .0 (q .0) (q .1) in
@@ -79,7 +79,7 @@ apply-from-apply-at-requires : (t : ℕ) → apply-from-lts.Need-apply-at-requir
   apply-from-below t,
   apply-from.Post,
 ) (apply-from-at t) apply-from.Post apply-from-Inv-loop apply-from-μ-loop
-apply-from-apply-at-requires t c κs = 
+apply-from-apply-at-requires t c κs =
     let l = c .before .before in
     let s = l .before .before .before .before in
     let q = s .pre .1 in let i₀ = l .loop .inv .0 (q .0) (q .1) in
@@ -97,7 +97,7 @@ apply-from-first-child-requires : (t : ℕ) → apply-from-lts.Need-first-child-
   apply-from-below t,
   apply-from.Post,
 ) (apply-from-at t) apply-from.Post apply-from-Inv-loop apply-from-μ-loop
-apply-from-first-child-requires t c κs = 
+apply-from-first-child-requires t c κs =
     let l = c .before .before .before .before .before in
     let s = l .before .before .before .before in
     let q = s .pre .1 in let i₀ = l .loop .inv .0 (q .0) (q .1) in
@@ -115,7 +115,7 @@ apply-from-next-sibling-requires : (t : ℕ) → apply-from-lts.Need-next-siblin
   apply-from-below t,
   apply-from.Post,
 ) (apply-from-at t) apply-from.Post apply-from-Inv-loop apply-from-μ-loop
-apply-from-next-sibling-requires t c κs = 
+apply-from-next-sibling-requires t c κs =
     let l = c .before .before .before .before .before .before in
     let s = l .before .before .before .before in
     let q = s .pre .1 in let i₀ = l .loop .inv .0 (q .0) (q .1) in
@@ -133,7 +133,7 @@ apply-from-same-length : (t : ℕ) → apply-from-lts.Need-same-length (
   apply-from-below t,
   apply-from.Post,
 ) (apply-from-at t) apply-from.Post apply-from-Inv-loop apply-from-μ-loop
-apply-from-same-length t c = 
+apply-from-same-length t c =
     let sibling = c .before .before in
     let child = sibling .before in
     let changed = child .before .before .before in
@@ -154,7 +154,7 @@ apply-from-returns : (t : ℕ) → apply-from-lts.Need-returns (
   apply-from-below t,
   apply-from.Post,
 ) (apply-from-at t) apply-from.Post apply-from-Inv-loop apply-from-μ-loop
-apply-from-returns t c = 
+apply-from-returns t c =
     let sibling = c .before .before in
     let child = sibling .before in
     let changed = child .before .before .before in
@@ -176,7 +176,7 @@ apply-from-loop-less : (t : ℕ) → apply-from-lts.Need-loop-less (
   apply-from-below t,
   apply-from.Post,
 ) (apply-from-at t) apply-from.Post apply-from-Inv-loop apply-from-μ-loop
-apply-from-loop-less t c = 
+apply-from-loop-less t c =
     let sibling = c .before .before in
     let child = sibling .before in
     let changed = child .before .before .before in
@@ -198,15 +198,17 @@ apply-from-loop-again : (t : ℕ) → apply-from-lts.Need-loop-again (
   apply-from-below t,
   apply-from.Post,
 ) (apply-from-at t) apply-from.Post apply-from-Inv-loop apply-from-μ-loop
-apply-from-loop-again t c = 
+apply-from-loop-again t c =
     let sibling = c .before .before in
     let child = sibling .before in
     let changed = child .before .before .before in
     let related = changed .before in
     let l = related .before .before in
-    let s = l .before .before .before .before in
-    (λ ps p. let i = l .loop .inv .0 ps p in
-    (at-child p (i .0) (child .first-child .result) (child .first-child .ensures) (c .if2 .left) .1, changed-child (still (l .loop .inv .1) p) (i .0) (s .args .starts .now) _ (related .relation .ensures) _ (changed .apply-at .ensures) (child .first-child .result) (sibling .next-sibling .result) (child .first-child .ensures) (sibling .next-sibling .ensures) (c .before .if1 .taken) (c .if2 .left) ∙ i .1), changed .apply-at .kept .0 ∙ l .loop .inv .1)
+    let s = l .before .before .before .before in (
+      λ ps p. let i = l .loop .inv .0 ps p in
+          (at-child p (i .0) (child .first-child .result) (child .first-child .ensures) (c .if2 .left) .1, changed-child (still (l .loop .inv .1) p) (i .0) (s .args .starts .now) _ (related .relation .ensures) _ (changed .apply-at .ensures) (child .first-child .result) (sibling .next-sibling .result) (child .first-child .ensures) (sibling .next-sibling .ensures) (c .before .if1 .taken) (c .if2 .left) ∙ i .1),
+      changed .apply-at .kept .0 ∙ l .loop .inv .1,
+    )
 
 apply-from-apply-from-requires : (t : ℕ) → apply-from-lts.Need-apply-from-requires (
   relation-reads.Asked,
@@ -220,7 +222,7 @@ apply-from-apply-from-requires : (t : ℕ) → apply-from-lts.Need-apply-from-re
   apply-from-below t,
   apply-from.Post,
 ) (apply-from-at t) apply-from.Post apply-from-Inv-loop apply-from-μ-loop
-apply-from-apply-from-requires t c κs = 
+apply-from-apply-from-requires t c κs =
     let sibling = c .before .before .before in
     let child = sibling .before in
     let changed = child .before .before .before in
@@ -243,7 +245,7 @@ apply-from-loop-less-2 : (t : ℕ) → apply-from-lts.Need-loop-less-2 (
   apply-from-below t,
   apply-from.Post,
 ) (apply-from-at t) apply-from.Post apply-from-Inv-loop apply-from-μ-loop
-apply-from-loop-less-2 t c = 
+apply-from-loop-less-2 t c =
     let sibling = c .before .before .before .before .before .before in
     let child = sibling .before in
     let changed = child .before .before .before in
@@ -265,17 +267,19 @@ apply-from-loop-again-2 : (t : ℕ) → apply-from-lts.Need-loop-again-2 (
   apply-from-below t,
   apply-from.Post,
 ) (apply-from-at t) apply-from.Post apply-from-Inv-loop apply-from-μ-loop
-apply-from-loop-again-2 t c = 
+apply-from-loop-again-2 t c =
     let sibling = c .before .before .before .before .before .before in
     let child = sibling .before in
     let changed = child .before .before .before in
     let related = changed .before in
     let l = related .before .before in
     let s = l .before .before .before .before in
-    let below = c .before .before .apply-from in
-    (λ ps p. let i = l .loop .inv .0 ps p in
-    let down = from-child p (i .0) (child .first-child .result) (child .first-child .ensures) (c .before .before .before .before .if3 .taken) _ (changed .apply-at .kept .0 ∙ l .loop .inv .1) in
-    (at-sibling p (i .0) (sibling .next-sibling .result) (sibling .next-sibling .ensures) (c .before .before .before .before .before .if1 .left) .1, changed-below (still (l .loop .inv .1) p) (i .0) (s .args .starts .now) _ (related .relation .ensures) _ (changed .apply-at .ensures) (child .first-child .result) (sibling .next-sibling .result) (child .first-child .ensures) (sibling .next-sibling .ensures) (c .before .before .before .before .before .if1 .left) (c .before .before .before .before .if3 .taken) _ (below .ensures ps down) ∙ i .1), below .kept .1 .0 ∙ changed .apply-at .kept .0 ∙ l .loop .inv .1)
+    let below = c .before .before .apply-from in (
+      λ ps p. let i = l .loop .inv .0 ps p in
+          let down = from-child p (i .0) (child .first-child .result) (child .first-child .ensures) (c .before .before .before .before .if3 .taken) _ (changed .apply-at .kept .0 ∙ l .loop .inv .1) in
+          (at-sibling p (i .0) (sibling .next-sibling .result) (sibling .next-sibling .ensures) (c .before .before .before .before .before .if1 .left) .1, changed-below (still (l .loop .inv .1) p) (i .0) (s .args .starts .now) _ (related .relation .ensures) _ (changed .apply-at .ensures) (child .first-child .result) (sibling .next-sibling .result) (child .first-child .ensures) (sibling .next-sibling .ensures) (c .before .before .before .before .before .if1 .left) (c .before .before .before .before .if3 .taken) _ (below .ensures ps down) ∙ i .1),
+      below .kept .1 .0 ∙ changed .apply-at .kept .0 ∙ l .loop .inv .1,
+    )
 
 apply-from-loop-less-3 : (t : ℕ) → apply-from-lts.Need-loop-less-3 (
   relation-reads.Asked,
@@ -289,7 +293,7 @@ apply-from-loop-less-3 : (t : ℕ) → apply-from-lts.Need-loop-less-3 (
   apply-from-below t,
   apply-from.Post,
 ) (apply-from-at t) apply-from.Post apply-from-Inv-loop apply-from-μ-loop
-apply-from-loop-less-3 t c = 
+apply-from-loop-less-3 t c =
     let sibling = c .before .before in
     let child = sibling .before in
     let changed = child .before .before .before in
@@ -311,15 +315,17 @@ apply-from-loop-again-3 : (t : ℕ) → apply-from-lts.Need-loop-again-3 (
   apply-from-below t,
   apply-from.Post,
 ) (apply-from-at t) apply-from.Post apply-from-Inv-loop apply-from-μ-loop
-apply-from-loop-again-3 t c = 
+apply-from-loop-again-3 t c =
     let sibling = c .before .before in
     let child = sibling .before in
     let changed = child .before .before .before in
     let related = changed .before in
     let l = related .before .before in
-    let s = l .before .before .before .before in
-    (λ ps p. let i = l .loop .inv .0 ps p in
-    (at-sibling p (i .0) (sibling .next-sibling .result) (sibling .next-sibling .ensures) (c .before .if1 .left) .1, changed-leaf (still (l .loop .inv .1) p) (i .0) (s .args .starts .now) _ (related .relation .ensures) _ (changed .apply-at .ensures) (child .first-child .result) (sibling .next-sibling .result) (child .first-child .ensures) (sibling .next-sibling .ensures) (c .before .if1 .left) (c .if3 .left) ∙ i .1), changed .apply-at .kept .0 ∙ l .loop .inv .1)
+    let s = l .before .before .before .before in (
+      λ ps p. let i = l .loop .inv .0 ps p in
+          (at-sibling p (i .0) (sibling .next-sibling .result) (sibling .next-sibling .ensures) (c .before .if1 .left) .1, changed-leaf (still (l .loop .inv .1) p) (i .0) (s .args .starts .now) _ (related .relation .ensures) _ (changed .apply-at .ensures) (child .first-child .result) (sibling .next-sibling .result) (child .first-child .ensures) (sibling .next-sibling .ensures) (c .before .if1 .left) (c .if3 .left) ∙ i .1),
+      changed .apply-at .kept .0 ∙ l .loop .inv .1,
+    )
 
 pub +apply-from-spec : {M : Type 1} → statement M
 +apply-from-spec = close μ-apply-from λ t. apply-from-lts.spec (

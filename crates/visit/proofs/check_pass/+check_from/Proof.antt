@@ -68,7 +68,7 @@ check-from-relation-requires : (t : ℕ) → check-from-lts.Need-relation-requir
   check-from-below t,
   check-from.Post,
 ) (check-from-at t) check-from.Post check-from-Inv-loop check-from-μ-loop
-check-from-relation-requires t c κs = 
+check-from-relation-requires t c κs =
     let s = c .before .before .before .before in
     let p = s .pre .1 in planned-here (p .1) (c .loop .inv (p .0) (p .1) .0)
 
@@ -86,7 +86,7 @@ check-from-check-at-requires : (t : ℕ) → check-from-lts.Need-check-at-requir
   check-from-below t,
   check-from.Post,
 ) (check-from-at t) check-from.Post check-from-Inv-loop check-from-μ-loop
-check-from-check-at-requires t c κs = 
+check-from-check-at-requires t c κs =
     let l = c .before in
     let s = l .before .before .before .before in
     let p = s .pre .1 in row-here (p .1) (l .loop .inv (p .0) (p .1) .0)
@@ -153,7 +153,7 @@ check-from-returns : (t : ℕ) → check-from-lts.Need-returns (
   check-from-below t,
   check-from.Post,
 ) (check-from-at t) check-from.Post check-from-Inv-loop check-from-μ-loop
-check-from-returns t c = 
+check-from-returns t c =
     let checked = c .before .before .before in
     let related = checked .before in
     let l = related .before in
@@ -175,7 +175,7 @@ check-from-first-child-requires : (t : ℕ) → check-from-lts.Need-first-child-
   check-from-below t,
   check-from.Post,
 ) (check-from-at t) check-from.Post check-from-Inv-loop check-from-μ-loop
-check-from-first-child-requires t c κs = 
+check-from-first-child-requires t c κs =
     let l = c .before .before .before in
     let s = l .before .before .before .before in
     let p = s .pre .1 in planned-here (p .1) (l .loop .inv (p .0) (p .1) .0)
@@ -194,7 +194,7 @@ check-from-next-sibling-requires : (t : ℕ) → check-from-lts.Need-next-siblin
   check-from-below t,
   check-from.Post,
 ) (check-from-at t) check-from.Post check-from-Inv-loop check-from-μ-loop
-check-from-next-sibling-requires t c κs = 
+check-from-next-sibling-requires t c κs =
     let l = c .before .before .before .before in
     let s = l .before .before .before .before in
     let p = s .pre .1 in planned-here (p .1) (l .loop .inv (p .0) (p .1) .0)
@@ -229,7 +229,7 @@ check-from-returns-2 : (t : ℕ) → check-from-lts.Need-returns-2 (
   check-from-below t,
   check-from.Post,
 ) (check-from-at t) check-from.Post check-from-Inv-loop check-from-μ-loop
-check-from-returns-2 t c = 
+check-from-returns-2 t c =
     let sibling = c .before .before .before in
     let child = sibling .before in
     let came = child .before in
@@ -260,7 +260,7 @@ check-from-loop-less : (t : ℕ) → check-from-lts.Need-loop-less (
   check-from-below t,
   check-from.Post,
 ) (check-from-at t) check-from.Post check-from-Inv-loop check-from-μ-loop
-check-from-loop-less t c = 
+check-from-loop-less t c =
     let sibling = c .before .before in
     let child = sibling .before in
     let came = child .before in
@@ -285,7 +285,7 @@ check-from-loop-again : (t : ℕ) → check-from-lts.Need-loop-again (
   check-from-below t,
   check-from.Post,
 ) (check-from-at t) check-from.Post check-from-Inv-loop check-from-μ-loop
-check-from-loop-again t c = 
+check-from-loop-again t c =
     let sibling = c .before .before in
     let child = sibling .before in
     let came = child .before in
@@ -315,7 +315,7 @@ check-from-check-from-requires : (t : ℕ) → check-from-lts.Need-check-from-re
   check-from-below t,
   check-from.Post,
 ) (check-from-at t) check-from.Post check-from-Inv-loop check-from-μ-loop
-check-from-check-from-requires t c κs = 
+check-from-check-from-requires t c κs =
     let sibling = c .before .before in
     let child = sibling .before in
     let came = child .before in
@@ -389,7 +389,7 @@ check-from-returns-3 : (t : ℕ) → check-from-lts.Need-returns-3 (
   check-from-below t,
   check-from.Post,
 ) (check-from-at t) check-from.Post check-from-Inv-loop check-from-μ-loop
-check-from-returns-3 t c = 
+check-from-returns-3 t c =
     let sibling = c .before .before .before .before .before .before in
     let child = sibling .before in
     let came = child .before in
@@ -421,7 +421,7 @@ check-from-loop-less-2 : (t : ℕ) → check-from-lts.Need-loop-less-2 (
   check-from-below t,
   check-from.Post,
 ) (check-from-at t) check-from.Post check-from-Inv-loop check-from-μ-loop
-check-from-loop-less-2 t c = 
+check-from-loop-less-2 t c =
     let sibling = c .before .before .before .before .before in
     let child = sibling .before in
     let came = child .before in
@@ -446,7 +446,7 @@ check-from-loop-again-2 : (t : ℕ) → check-from-lts.Need-loop-again-2 (
   check-from-below t,
   check-from.Post,
 ) (check-from-at t) check-from.Post check-from-Inv-loop check-from-μ-loop
-check-from-loop-again-2 t c = 
+check-from-loop-again-2 t c =
     let sibling = c .before .before .before .before .before in
     let child = sibling .before in
     let came = child .before in
@@ -478,7 +478,7 @@ check-from-loop-less-3 : (t : ℕ) → check-from-lts.Need-loop-less-3 (
   check-from-below t,
   check-from.Post,
 ) (check-from-at t) check-from.Post check-from-Inv-loop check-from-μ-loop
-check-from-loop-less-3 t c = 
+check-from-loop-less-3 t c =
     let sibling = c .before .before .before .before .before in
     let child = sibling .before in
     let came = child .before in
@@ -503,7 +503,7 @@ check-from-loop-again-3 : (t : ℕ) → check-from-lts.Need-loop-again-3 (
   check-from-below t,
   check-from.Post,
 ) (check-from-at t) check-from.Post check-from-Inv-loop check-from-μ-loop
-check-from-loop-again-3 t c = 
+check-from-loop-again-3 t c =
     let sibling = c .before .before .before .before .before in
     let child = sibling .before in
     let came = child .before in
@@ -535,7 +535,7 @@ check-from-loop-less-4 : (t : ℕ) → check-from-lts.Need-loop-less-4 (
   check-from-below t,
   check-from.Post,
 ) (check-from-at t) check-from.Post check-from-Inv-loop check-from-μ-loop
-check-from-loop-less-4 t c = 
+check-from-loop-less-4 t c =
     let sibling = c .before .before in
     let child = sibling .before in
     let came = child .before in
@@ -560,7 +560,7 @@ check-from-loop-again-4 : (t : ℕ) → check-from-lts.Need-loop-again-4 (
   check-from-below t,
   check-from.Post,
 ) (check-from-at t) check-from.Post check-from-Inv-loop check-from-μ-loop
-check-from-loop-again-4 t c = 
+check-from-loop-again-4 t c =
     let sibling = c .before .before in
     let child = sibling .before in
     let came = child .before in

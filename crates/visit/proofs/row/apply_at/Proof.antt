@@ -28,7 +28,7 @@ same-length : tie.Need-same-length
 same-length c = search needs
 
 returns : tie.Need-returns
-returns c = 
+returns c =
     let s = c .before .before .before .before .before .before in
     put-back (rowAfter (s .args .v) (s .args .starts .now) (nodeRelation (s .args .relation))) (s .args .v .width) (s .args .n) (s .args .codes .now) _ (c .before .before .apply-row .ensures)
 

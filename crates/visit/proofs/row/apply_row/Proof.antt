@@ -49,7 +49,7 @@ loop-less : tie.Need-loop-less Inv-loop μ-loop
 loop-less c = let e = c .before .before .before .before .before .until .ensures in omega (arith, e .0, e .1)
 
 loop-again : tie.Need-loop-again Inv-loop μ-loop
-loop-again c = 
+loop-again c =
     let given = c .before .before .apply-part in
     let found = c .before .before .before .before in
     let u = found .before in
@@ -67,7 +67,7 @@ same-length : tie.Need-same-length Inv-loop μ-loop
 same-length c = c .before .loop .inv .1
 
 returns : tie.Need-returns Inv-loop μ-loop
-returns c = 
+returns c =
     let l = c .before in
     let s = l .before .before .before in
     sym (left-done (s .args .v .what) (s .args .v .from) (s .args .v .len) (s .args .starts .now) (nodeRelation (s .args .relation)) (l .loop .k) (omega arith) (l .loop .row)) ∙ l .loop .inv .2 ∙ left-start (s .args .v .what) (s .args .v .from) (s .args .v .len) (s .args .starts .now) (nodeRelation (s .args .relation)) (s .args .row .now)

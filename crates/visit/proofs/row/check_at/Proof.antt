@@ -28,7 +28,7 @@ check-row-requires : tie.Need-check-row-requires
 check-row-requires c κs = search needs
 
 returns : tie.Need-returns
-returns c = 
+returns c =
     let s = c .before .before .before .before in
     subst (λ (row : List ℕ). ToldRow (s .args .v) (s .args .starts .now) (nodeRelation (s .args .relation)) row (c .check-row .result)) (part-row (s .args .v .width) (s .args .n) (s .args .codes .now)) (c .check-row .ensures)
 

@@ -53,7 +53,7 @@ enum-known-n : tie.Need-enum-known-n Inv-loop μ-loop
 enum-known-n c = search needs
 
 returns : tie.Need-returns Inv-loop μ-loop
-returns c = 
+returns c =
     let checked = c .before .before .before in
     let found = checked .before .before in
     let u = found .before in
@@ -67,7 +67,7 @@ loop-less : tie.Need-loop-less Inv-loop μ-loop
 loop-less c = let e = c .before .before .before .before .before .until .ensures in omega (arith, e .0, e .1)
 
 loop-again : tie.Need-loop-again Inv-loop μ-loop
-loop-again c = 
+loop-again c =
     let checked = c .before .before in
     let found = checked .before .before in
     let u = found .before in
@@ -83,7 +83,7 @@ loop-less-2 : tie.Need-loop-less-2 Inv-loop μ-loop
 loop-less-2 c = let e = c .before .before .before .before .before .until .ensures in omega (arith, e .0, e .1)
 
 loop-again-2 : tie.Need-loop-again-2 Inv-loop μ-loop
-loop-again-2 c = 
+loop-again-2 c =
     let checked = c .before .before in
     let found = checked .before .before in
     let u = found .before in
@@ -99,7 +99,7 @@ unrefused-requires : tie.Need-unrefused-requires Inv-loop μ-loop
 unrefused-requires c κs = search needs
 
 returns-2 : tie.Need-returns-2 Inv-loop μ-loop
-returns-2 c = 
+returns-2 c =
     let l = c .before .before in
     let s = l .before .before .before in
     subst⁻¹ (ToldRow (s .args .v) (s .args .starts .now) (nodeRelation (s .args .relation)) (s .args .row .now)) (c .unrefused .ensures) (row-done (s .args .v .what) (s .args .v .from) (s .args .v .len) (s .args .starts .now) (nodeRelation (s .args .relation)) (s .args .row .now) (l .loop .k) (l .loop .changes) (omega arith) (l .loop .inv .1))

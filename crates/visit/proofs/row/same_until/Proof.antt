@@ -36,14 +36,17 @@ loop-less : tie.Need-loop-less Inv-loop μ-loop
 loop-less c = search needs
 
 loop-again : tie.Need-loop-again Inv-loop μ-loop
-loop-again c = 
+loop-again c =
     let l = c .before .before .before in
     let s = l .before .before .before in
-    let first = l .before .start-at in
-    (omega (arith, l .loop .inv .0), omega arith, λ i m h. elim (ℕ-discrete i (l .loop .e)) [
-      | yes q ↦ ap (λ (j : ℕ). getD (s .args .starts .now) j 0) q ∙ sym (c .before .start-at2 .ensures) ∙ c .if1 .left ∙ first .ensures
-      | no q ↦ l .loop .inv .2 i m (omega arith)
-    ])
+    let first = l .before .start-at in (
+      omega (arith, l .loop .inv .0),
+      omega arith,
+      λ i m h. elim (ℕ-discrete i (l .loop .e)) [
+        | yes q ↦ ap (λ (j : ℕ). getD (s .args .starts .now) j 0) q ∙ sym (c .before .start-at2 .ensures) ∙ c .if1 .left ∙ first .ensures
+        | no q ↦ l .loop .inv .2 i m (omega arith)
+      ],
+    )
 
 returns-2 : tie.Need-returns-2 Inv-loop μ-loop
 returns-2 c = c .before .loop .inv

@@ -1,0 +1,34 @@
+use Rattle.visit.proofs.Plans.{zeros}
+use native.Mathlib.Omega.{arith}
+use borrow.Author.Needs.{needs}
+use Rattle.visit.proofs.check_pass.check.Statement.{statement}
+use Rattle.visit.proofs.check_pass.check.Tie as tie
+
+slice-aggregate-check-planned : tie.Need-slice-aggregate-check-planned
+slice-aggregate-check-planned c = search needs
+
+check-planned-requires : tie.Need-check-planned-requires
+check-planned-requires c κs = let s = c .before .before .before .before .before in ((zeros 48, omega arith), s .pre)
+
+returns : tie.Need-returns
+returns c = search needs
+
+slice-aggregate-check-planned-2 : tie.Need-slice-aggregate-check-planned-2
+slice-aggregate-check-planned-2 c = search needs
+
+check-planned-requires-2 : tie.Need-check-planned-requires-2
+check-planned-requires-2 c κs = let s = c .before .before .before .before .before in ((zeros 3072, omega (arith, s .pre .0 .few)), s .pre)
+
+returns-2 : tie.Need-returns-2
+returns-2 c = search needs
+
+pub check-spec : {M : Type 1} → statement M
+check-spec =
+    tie.close
+    (tie.spec
+    slice-aggregate-check-planned
+    check-planned-requires
+    returns
+    slice-aggregate-check-planned-2
+    check-planned-requires-2
+    returns-2)
