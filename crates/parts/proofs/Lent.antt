@@ -103,6 +103,9 @@ module _ {m : Memory} {n : ℕ} {P C : List ℕ} {r : Parts} (h : TreeAt m n P C
   pub words-small : r .word + r .width ≤ 4096
   words-small = omega (arith, h .part .width, lent.words-room (whole refl) made starts, length-held 4096 wordsOf m (words-fit m (h .valid)))
 
+  few : nodeCount x ≤ 1024
+  few = omega (arith, nodes-small, h .part .behind)
+
   -- ---- they hold its tree
   parents-part : take (r .behind - r .first) (drop (r .first) P) ≡ parentsOf x
   parents-part = ap (λ (k : ℕ). take k (drop (r .first) P)) node-span ∙ lent.parents-part (whole refl) made starts
@@ -111,7 +114,7 @@ module _ {m : Memory} {n : ℕ} {P C : List ℕ} {r : Parts} (h : TreeAt m n P C
   codes-part = ap (λ (k : ℕ). take k (drop (r .start) C)) code-span ∙ lent.codes-part (whole refl) made starts
 
   pub tree-held : Holds (x .nodes) (r .width) (take (r .behind - r .first) (drop (r .first) P)) (take (r .end - r .start) (drop (r .start) C))
-  tree-held = rw (parents-part, codes-part, h .part .width) (holds-tree x valid)
+  tree-held = rw (parents-part, codes-part, h .part .width) (holds-tree x valid few)
 
   pub node-in : {node : ℕ} → node < nodeCount x → node < length (take (r .behind - r .first) (drop (r .first) P))
   node-in l = omega (arith, ap length parents-part, length-parents x)
@@ -145,7 +148,7 @@ module _ {m : Memory} {n : ℕ} {P C : List ℕ} {r : Parts} (h : TreeAt m n P C
     protectors-part = ap (λ (k : ℕ). take k (drop (r .first) R)) node-span ∙ lent.protectors-part (whole marked) made starts
 
     pub all-held : HoldsAll (x .nodes) (r .width) (take (r .behind - r .first) (drop (r .first) P)) (take (r .behind - r .first) (drop (r .first) R)) (take (r .end - r .start) (drop (r .start) C))
-    all-held = rw (parents-part, protectors-part, codes-part, h .part .width) (holds-all x valid)
+    all-held = rw (parents-part, protectors-part, codes-part, h .part .width) (holds-all x valid few)
 
     pub marks-held : HoldsMarks (x .nodes) (r .width) (take (r .behind - r .first) (drop (r .first) R)) (take (r .end - r .start) (drop (r .start) C))
     marks-held = rw (protectors-part, codes-part, h .part .width) (holds-marks x valid)

@@ -1,5 +1,5 @@
 -- An allocation's tree, as the tables hold it and as `tree` asks for it.
-use Prim.Native.Nat.{ℕ, _*_}
+use Prim.Native.Nat.{ℕ, _*_, _≤_}
 use mathlib.Core.Path.{_≡_, refl, sym, ap, _∙_}
 use mathlib.Core.List.{List, [], _∷_, _++_, map}
 use native.Mathlib.Omega.{arith}
@@ -47,21 +47,22 @@ module _ (a : Allocation) (v : ValidAllocation a) where
   holds-rows : HoldsRows (a .nodes) (size a) (codesOf a)
   holds-rows = record { rows = codes-rows a; wide = rows-wide (size a) (isLive (a .state)) 0 (a .nodes) (v .nodes) }
 
-  pub holds-tree : Holds (a .nodes) (size a) (parentsOf a) (codesOf a)
+  pub holds-tree : nodeCount a ≤ 1024 → Holds (a .nodes) (size a) (parentsOf a) (codesOf a)
   unfolding parentsOf
-  holds-tree = record {
+  holds-tree few = record {
     parents = refl;
     table = holds-rows;
     earlier = valid-tree a v;
     root = omega (arith, v .root, length-parents a);
+    few = omega (arith, few, length-parents a);
   }
 
   pub holds-marks : HoldsMarks (a .nodes) (size a) (protectorsOf a) (codesOf a)
   holds-marks = record { table = holds-rows; marked = protectors-marks a }
 
-  pub holds-all : HoldsAll (a .nodes) (size a) (parentsOf a) (protectorsOf a) (codesOf a)
-  holds-all = record {
-    holds = holds-tree;
+  pub holds-all : nodeCount a ≤ 1024 → HoldsAll (a .nodes) (size a) (parentsOf a) (protectorsOf a) (codesOf a)
+  holds-all few = record {
+    holds = holds-tree few;
     marked = protectors-marks a;
     rootFree = allFrom-at (ValidNode (size a) (isLive (a .state))) noNode (a .nodes) (v .nodes) 0 (v .root) .placed .1;
   }

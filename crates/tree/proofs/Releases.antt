@@ -96,6 +96,7 @@ module _ (state : Liveness) (nodes : List Node) (width : ℕ) (codes : List ℕ)
             };
         earlier = h .earlier;
         root = h .root;
+        few = h .few;
       }
 
 -- ---- the marks afterwards

@@ -36,6 +36,7 @@ held-ready v nodes ps codes h l i =
       node = l;
       inside = i;
       rows = ap length (h .table .rows) ∙ rows-length (v .width) nodes (h .table .wide) ∙ ap (λ (k : ℕ). k * v .width) (sym (ap length (h .parents) ∙ length-map nodes (λ x. x .parent)));
+      few = h .few;
     }
 
 same-accesses : (inside : List ℕ) → map initAccess (map permission inside) ≡ map initAccessCode (take (length inside) inside)

@@ -1,5 +1,5 @@
 -- How tables hold one allocation's tree: for each node its parent, its mark, and a row of `width` codes.
-use Prim.Native.Nat.{ℕ, _<_}
+use Prim.Native.Nat.{ℕ, _≤_, _<_}
 use mathlib.Core.Path.{_≡_}
 use mathlib.Core.Bool.{false}
 use mathlib.Core.List.{List, [], _∷_, _++_, map}
@@ -30,12 +30,13 @@ pub record HoldsRows (nodes : List Node) (width : ℕ) (codes : List ℕ) : Type
   pub rows : codes ≡ rowsOf nodes
   pub wide : All (λ x. length (x .permissions) ≡ width) nodes
 
--- the tables of parents and codes hold these nodes
+-- the tables of parents and codes hold these nodes, at least one and at most 1,024
 pub record Holds (nodes : List Node) (width : ℕ) (ps codes : List ℕ) : Type 0 where
   pub parents : ps ≡ tree.parents nodes
   pub table : HoldsRows nodes width codes
   pub earlier : Parents ps
   pub root : 0 < length ps
+  pub few : length ps ≤ 1024
 
 -- the tables of marks and codes hold these nodes
 pub record HoldsMarks (nodes : List Node) (width : ℕ) (protectors codes : List ℕ) : Type 0 where

@@ -4,16 +4,19 @@ use crate::accesses::check_access;
 use permission::AccessKind;
 use permission::NodeRelation;
 use permission::Outcome;
+use visit::Accesses;
 use visit::Answer;
+use visit::Reach;
 ghost use mathlib.Core.Path.{_≡_};
 ghost use mathlib.Core.Option.{some};
-ghost use Prim.Native.Nat.{_<_};
+ghost use Prim.Native.Nat.{ℕ, _*_, _≤_, _<_};
 ghost use lib.ListN.{length};
 ghost use Rattle.definition.specs.Notation.{any};
 ghost use Rattle.definition.specs.Permission.AccessKind.{Write};
 ghost use Rattle.definition.specs.Tree.{accessVisit, visited};
 ghost use Rattle.definition.specs.Memory.{nodePreventsDeallocation};
 ghost use Rattle.permission.specs.Codes.{nodeRelation, nextCode, preventsCode};
+ghost use Rattle.visit.specs.Plan.{Marked, Zeros, Roomy};
 ghost use Rattle.tree.specs.Table.{HoldsAll, Some, Each};
 ghost use Rattle.tree.specs.Requests.{Deallocated};
 
@@ -41,7 +44,61 @@ fn row_prevents_after_write(row: &[u8], relation: NodeRelation) -> bool
     false
 }
 
-// A node under a strong protector prevents deallocation, on the codes as the write to all bytes through a node will leave them.
+// A node under a strong protector prevents deallocation, on the codes as a write to all bytes leaves them. What each node is to the written one, the
+// plan of the write says.
+fn strong_protector_in(
+    plan: &[u16],
+    parents: &[u16],
+    protectors: &[u8],
+    codes: &[u8],
+    width: usize,
+) -> bool
+    requires { ⌜ Some (λ nodes. HoldsAll nodes width (now parents) (now protectors) (now codes)) ⌝ }
+    requires { ⌜ Roomy (now parents) (now plan) ⌝ }
+    ensures { λ r. ⌜ ((node : ℕ) → Marked node (now (parents .entry)) (now (plan .entry))
+        → Each (λ nodes. HoldsAll nodes width (now (parents .entry)) (now (protectors .entry)) (now (codes .entry))) (λ nodes. r ≡ any nodePreventsDeallocation (visited (accessVisit Write node 0 width) nodes))) ⌝ }
+{
+    let mut n = 0;
+    while n < parents.len() {
+        if protectors[n] == 2 {
+            let start = n * width;
+            let end = start + width;
+            if row_prevents_after_write(&codes[start..end], visit::relation(plan, n)) {
+                return true;
+            }
+        }
+        n += 1;
+    }
+    false
+}
+
+// The same, with a plan, for which zeros are lent.
+fn strong_protector_planned(
+    scratch: &mut [u16],
+    parents: &[u16],
+    protectors: &[u8],
+    codes: &[u8],
+    width: usize,
+    node: usize,
+) -> bool
+    requires { ⌜ Zeros (now scratch) × (3 * length (now parents) ≤ length (now scratch)) ⌝ }
+    requires { ⌜ Some (λ nodes. HoldsAll nodes width (now parents) (now protectors) (now codes)) ⌝ }
+    requires { ⌜ node < length (now parents) ⌝ }
+    ensures { λ r. ⌜ Each (λ nodes. HoldsAll nodes width (now (parents .entry)) (now (protectors .entry)) (now (codes .entry))) (λ nodes. r ≡ any nodePreventsDeallocation (visited (accessVisit Write node 0 width) nodes)) ⌝ }
+{
+    let size = 3 * parents.len();
+    let v = Reach {
+        node,
+        spared: parents.len(),
+        width,
+        from: 0,
+        len: width,
+        what: Accesses::Each(AccessKind::Write),
+    };
+    visit::make_plan(parents, &mut scratch[..size], v);
+    strong_protector_in(&scratch[..size], parents, protectors, codes, width)
+}
+
 fn strong_protector_after_write(
     parents: &[u16],
     protectors: &[u8],
@@ -53,22 +110,8 @@ fn strong_protector_after_write(
     requires { ⌜ node < length (now parents) ⌝ }
     ensures { λ r. ⌜ Each (λ nodes. HoldsAll nodes width (now (parents .entry)) (now (protectors .entry)) (now (codes .entry))) (λ nodes. r ≡ any nodePreventsDeallocation (visited (accessVisit Write node 0 width) nodes)) ⌝ }
 {
-    let mut path = node;
-    let mut n = parents.len();
-    while 0 < n {
-        n -= 1;
-        if protectors[n] == 2 {
-            let start = n * width;
-            let end = start + width;
-            if row_prevents_after_write(&codes[start..end], visit::relation_on(path, n)) {
-                return true;
-            }
-        }
-        if n == path {
-            path = visit::wide(parents[n]);
-        }
-    }
-    false
+    let mut scratch = [0u16; 3072];
+    strong_protector_planned(&mut scratch, parents, protectors, codes, width, node)
 }
 
 // A deallocation's write to all bytes through a node, and 24: a refusal leaves the table as it was.

@@ -1,13 +1,14 @@
-use Rattle.visit.proofs.Plans.{zeros-taken, lent-long, planned-lent}
-use Rattle.visit.proofs.Children.{nodes-root}
-use Rattle.visit.specs.Walk.{ToldOf, walkAfter}
+-- The part of the scratch that the plan takes has three numbers for each node.
+use Prim.Native.Nat.{ℕ, _*_}
+use mathlib.Core.List.{List}
+use mathlib.Core.Path.{sym, subst, _∙_}
+use native.Mathlib.Omega.{arith}
 use lib.Seq.{length-take-le}
 use lib.ListN.{length, drop}
-use mathlib.Core.List.{List}
-use mathlib.Core.Path.{sym, subst, ap, _∙_}
-use Prim.Native.Nat.{ℕ, _*_}
-use native.Mathlib.Omega.{arith}
 use borrow.Author.Needs.{needs}
+use Rattle.visit.specs.Walk.{ToldOf}
+use Rattle.visit.proofs.Plans.{zeros-taken, lent-long, planned-lent}
+use Rattle.visit.proofs.Children.{nodes-root}
 use Rattle.visit.proofs.check_pass.check_planned.Statement.{statement}
 use Rattle.visit.proofs.check_pass.check_planned.Tie as tie
 

@@ -1,8 +1,8 @@
-use Rattle.visit.proofs.Places.{put-back}
-use Rattle.visit.specs.Walk.{rowAfter}
-use Rattle.permission.specs.Codes.{nodeRelation}
-use native.Mathlib.Omega.{arith}
+-- The part that is lent is the row, and it is given back changed.
 use borrow.Author.Needs.{needs}
+use Rattle.permission.specs.Codes.{nodeRelation}
+use Rattle.visit.specs.Walk.{rowAfter}
+use Rattle.visit.proofs.Places.{put-back}
 use Rattle.visit.proofs.row.apply_at.Statement.{statement}
 use Rattle.visit.proofs.row.apply_at.Tie as tie
 

@@ -1,7 +1,7 @@
+-- Without an access nothing changes; else by the relation.
+use borrow.Author.Needs.{needs}
 use Rattle.permission.specs.Codes.{nodeRelation}
 use Rattle.visit.proofs.Rows.{part-untouched}
-use native.Mathlib.Omega.{arith}
-use borrow.Author.Needs.{needs}
 use Rattle.visit.proofs.row.apply_part.Statement.{statement}
 use Rattle.visit.proofs.row.apply_part.Tie as tie
 

@@ -1,14 +1,15 @@
-use borrow.Rule.Slice.PartMut.{same-len-mid, midOf}
-use Rattle.definition.specs.Permission.{AccessKind}
+-- The invariant: what is left of the change makes of the row what the whole makes of it.
+use Prim.Native.Nat.{_+_, _-_, _≤_}
 use mathlib.Core.List.{map}
 use mathlib.Core.Option.{Option}
-use Rattle.visit.proofs.Rows.{leftAt, left-start, left-done, left-part}
-use Rattle.permission.specs.Codes.{nodeRelation, nextCode}
-use lib.ListN.{length}
-use mathlib.Core.Path.{_≡_, refl, sym, ap, subst, _∙_}
-use Prim.Native.Nat.{_+_, _-_, _≤_}
-use borrow.Author.Needs.{needs}
+use mathlib.Core.Path.{_≡_, refl, sym, ap, _∙_}
 use native.Mathlib.Omega.{arith}
+use lib.ListN.{length}
+use borrow.Rule.Slice.PartMut.{same-len-mid, midOf}
+use borrow.Author.Needs.{needs}
+use Rattle.definition.specs.Permission.{AccessKind}
+use Rattle.permission.specs.Codes.{nodeRelation, nextCode}
+use Rattle.visit.proofs.Rows.{leftAt, left-start, left-done, left-part}
 use Rattle.visit.proofs.row.apply_row.Statement.{statement}
 use Rattle.visit.proofs.row.apply_row.Tie as tie
 

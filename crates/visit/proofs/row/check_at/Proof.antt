@@ -1,11 +1,11 @@
-use Rattle.visit.proofs.Places.{part-row}
-use Rattle.visit.specs.Walk.{ToldRow}
-use Rattle.permission.specs.Codes.{nodeRelation}
+-- The part that is lent is the row.
+use Prim.Native.Nat.{ℕ}
 use mathlib.Core.Path.{subst}
 use mathlib.Core.List.{List}
-use Prim.Native.Nat.{ℕ}
-use native.Mathlib.Omega.{arith}
 use borrow.Author.Needs.{needs}
+use Rattle.permission.specs.Codes.{nodeRelation}
+use Rattle.visit.specs.Walk.{ToldRow}
+use Rattle.visit.proofs.Places.{part-row}
 use Rattle.visit.proofs.row.check_at.Statement.{statement}
 use Rattle.visit.proofs.row.check_at.Tie as tie
 

@@ -1,12 +1,13 @@
-use Rattle.definition.specs.Permission.{AccessKind}
-use mathlib.Core.Option.{Option}
+-- The invariant: what the check of the bytes so far told.
 use Prim.Native.Nat.{_-_, _≤_}
-use Rattle.visit.proofs.Rows.{RowAt, part, row-start, row-stays, row-changes, row-refused, row-done}
-use Rattle.visit.specs.Walk.{ToldRow, ToldPart}
-use Rattle.permission.specs.Codes.{nodeRelation}
+use mathlib.Core.Option.{Option}
 use mathlib.Core.Path.{refl, subst, subst⁻¹}
-use borrow.Author.Needs.{needs}
 use native.Mathlib.Omega.{arith}
+use borrow.Author.Needs.{needs}
+use Rattle.definition.specs.Permission.{AccessKind}
+use Rattle.permission.specs.Codes.{nodeRelation}
+use Rattle.visit.specs.Walk.{ToldRow, ToldPart}
+use Rattle.visit.proofs.Rows.{RowAt, part, row-start, row-stays, row-changes, row-refused, row-done}
 use Rattle.visit.proofs.row.check_row.Statement.{statement}
 use Rattle.visit.proofs.row.check_row.Tie as tie
 

@@ -1,8 +1,8 @@
-use Rattle.permission.specs.Codes.{endAccessCode, initAccessCode}
-use native.Mathlib.Nat.{le-refl}
+-- The same code has the same access.
 use mathlib.Core.Path.{refl, ap}
-use native.Mathlib.Omega.{arith}
+use native.Mathlib.Nat.{le-refl}
 use borrow.Author.Needs.{needs}
+use Rattle.permission.specs.Codes.{endAccessCode, initAccessCode}
 use Rattle.visit.proofs.row.until.Statement.{statement}
 use Rattle.visit.proofs.row.until.Tie as tie
 
