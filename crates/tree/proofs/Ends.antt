@@ -1,6 +1,6 @@
 -- The end of a node's protector, over the tables: its visit is the definition's, on the table before and on the one with the node's row unprotected.
 use Prim.Native.Nat.{ℕ, _<_}
-use mathlib.Core.Path.{_≡_, refl, sym, ap, _∙_}
+use mathlib.Core.Path.{_≡_, refl, sym, ap, subst⁻¹, _∙_}
 use mathlib.Core.Bool.{false}
 use mathlib.Core.List.{List, map}
 use native.Mathlib.Omega.{arith}
@@ -13,30 +13,32 @@ use Rattle.permission.specs.Codes.{unprotectedCode}
 use Rattle.visit.specs.declared.Accesses.the-variants.{AtEnd}
 use Rattle.visit.specs.declared.Answer.{Answer}
 use Rattle.visit.specs.declared.Reach.{Reach}
-use Rattle.visit.specs.Walk.{Ready, Told, ToldOf, rowAt, withRowAt, subtree, walkAfter}
+use Rattle.visit.specs.Walk.{SameVisit, Ready, Told, ToldOf, rowAt, withRowAt, subtree, walkAfter}
+use Rattle.visit.proofs.Places.{same-ready, same-width}
 use Rattle.tree.specs.Table.{rowsOf, marks, Holds}
 use Rattle.tree.specs.Requests.{releaseRefusal, Ended, Released}
 use Rattle.tree.proofs.Held.{held-count}
-use Rattle.tree.proofs.Meaning.{Means, told-same, means-told, means-after}
+use Rattle.tree.proofs.Meaning.{Means, means-same, told-same, means-told, means-after}
 use Rattle.tree.proofs.Visits.{held-ready, means-release, accepted-nodes, refused-nodes}
 use Rattle.tree.proofs.Releases.{held-row, unprotected-table, unprotected-holds, spared-unread, spared-stays, release-visits, release-accepted, release-refused}
 
 module _ (nodes : List Node) (width : ℕ) (ps codes lent : List ℕ) (held : Holds nodes width ps codes) (n : ℕ) (l : n < length ps) (z : 0 < n)
-    (copy : take width lent ≡ rowAt width n codes) where
-  abbrev pub reach : Reach
-  reach = record { node = n; spared = n; width = width; from = 0; len = width; what = AtEnd }
-
+    (copy : take width lent ≡ rowAt width n codes)
+    (reach : Reach) (same : SameVisit (record { node = n; spared = n; width = width; from = 0; len = width; what = AtEnd }) lent reach) where
   inside : n < length nodes
   inside = omega (arith, held-count held)
 
   means : Means reach lent ps (releaseVisit n nodes)
-  means = means-release ps (held .root) width (held .earlier) n z nodes lent (copy ∙ held-row nodes width codes (held .table) n inside)
+  means = means-same _ reach lent ps (releaseVisit n nodes) same (means-release ps (held .root) width (held .earlier) n z nodes lent (copy ∙ held-row nodes width codes (held .table) n inside))
+
+  as-wide : {held-nodes : List Node} {cs : List ℕ} → Holds held-nodes width ps cs → Holds held-nodes (reach .width) ps cs
+  as-wide {held-nodes} {cs} = subst⁻¹ (λ (w : ℕ). Holds held-nodes w ps cs) (same-width _ reach lent same)
 
   -- the visit does not read the node: it need not be unprotected yet
-  pub end-told : (answer : Answer) → ToldOf reach ps lent codes (subtree n 0 ps) answer → Told (releaseVisitRefusal Live n nodes) (rowsOf nodes) (rowsOf (visited (releaseVisit n nodes) nodes)) answer
+  pub end-told : (answer : Answer) → ToldOf reach ps lent codes (subtree (reach .spared) 0 ps) answer → Told (releaseVisitRefusal Live n nodes) (rowsOf nodes) (rowsOf (visited (releaseVisit n nodes) nodes)) answer
   end-told answer t =
       told-same answer (sym (spared-unread (releaseVisit n nodes) n refl (unprotectNode Live) (λ x. refl) nodes)) refl refl
-      (means-told reach lent ps (releaseVisit n nodes) means nodes codes held answer t)
+      (means-told reach lent ps (releaseVisit n nodes) means nodes codes (as-wide held) answer t)
 
   module _ (codes′ : List ℕ) (e : codes′ ≡ withRowAt width n (map unprotectedCode (rowAt width n codes)) codes) where
     table-held : codes′ ≡ rowsOf (mutateAt n (unprotectNode Live) nodes)
@@ -46,10 +48,10 @@ module _ (nodes : List Node) (width : ℕ) (ps codes lent : List ℕ) (held : Ho
     holds = unprotected-holds Live nodes width codes (held .table) n inside ps codes′ held table-held
 
     pub end-ready : Ready reach ps codes′
-    end-ready = held-ready reach (mutateAt n (unprotectNode Live) nodes) ps codes′ holds l (omega arith)
+    end-ready = same-ready _ reach lent ps codes′ same (held-ready _ (mutateAt n (unprotectNode Live) nodes) ps codes′ holds l (omega arith))
 
-    pub end-after : walkAfter reach ps lent (subtree n 0 ps) codes′ ≡ rowsOf (releasedNodes Live n nodes)
-    end-after = means-after reach lent ps (releaseVisit n nodes) means (mutateAt n (unprotectNode Live) nodes) codes′ holds
+    pub end-after : walkAfter reach ps lent (subtree (reach .spared) 0 ps) codes′ ≡ rowsOf (releasedNodes Live n nodes)
+    end-after = means-after reach lent ps (releaseVisit n nodes) means (mutateAt n (unprotectNode Live) nodes) codes′ (as-wide holds)
 
     -- where the visit leaves the table before as it is, it leaves this one
     pub end-stays : rowsOf nodes ≡ rowsOf (visited (releaseVisit n nodes) nodes) → codes′ ≡ rowsOf (releasedNodes Live n nodes)

@@ -1,7 +1,7 @@
 -- A visit over the tables is the definition's visit of the nodes that they hold: `means-refusal`, `means-after`.
 -- The rows agree byte by byte; the table changes row by row, and each visited node is changed once.
 use Prim.Native.Nat.{ℕ, zero, suc, _+_, _<_}
-use mathlib.Core.Path.{_≡_, refl, sym, ap, ap₂, subst, _∙_}
+use mathlib.Core.Path.{_≡_, refl, sym, ap, ap₂, subst, subst⁻¹, _∙_}
 use mathlib.Core.Bool.{Bool, true, false}
 use mathlib.Core.Option.{Option}
 use mathlib.Core.List.{List, [], _∷_, _++_, map}
@@ -26,7 +26,7 @@ use Rattle.visit.specs.declared.Answer.the-variants.{Stays, Changes, Refused}
 use Rattle.visit.specs.declared.Reach.{Reach}
 use Rattle.tree.specs.Table.{rowsOf, Holds}
 use Rattle.tree.specs.Requests.{Checked}
-use Rattle.visit.specs.Walk.{Told, ToldOf, planned, codesRefusal, codesAfter, rowRefusal, rowAfter, nodeRefusal, nodeAfter, subtree, walkRefusal, walkAfter, withRowAt}
+use Rattle.visit.specs.Walk.{SameVisit, Told, ToldOf, planned, codesRefusal, codesAfter, rowRefusal, rowAfter, nodeRefusal, nodeAfter, subtree, walkRefusal, walkAfter, withRowAt}
 use Rattle.tree.proofs.Held.{Wide, row-held, row-changed, wide-changed}
 
 -- what a check told, said of equal things
@@ -127,6 +127,16 @@ pub record Means (v : Reach) (starts ps : List ℕ) (w : Visit) : Type 0 where
   pub accessed : w .accessed ≡ v .node
   pub places : Places (w .accessAt) (v .from) (planned v starts)
   pub order : visitingOrder ps (w .spared) ≡ subtree (v .spared) 0 ps
+
+-- so does the same visit with its accesses said in another way
+pub means-same : (v r : Reach) (starts ps : List ℕ) (w : Visit) → SameVisit v starts r → Means v starts ps w → Means r starts ps w
+means-same v r starts ps w s means =
+    subst⁻¹ (λ (q : Reach). Means q starts ps w) (s .same)
+    (record {
+      accessed = means .accessed;
+      places = subst⁻¹ (λ (xs : List (Option AccessKind)). Places (w .accessAt) (v .from) xs) (s .accesses) (means .places);
+      order = means .order;
+    })
 
 module _ (v : Reach) (starts ps : List ℕ) (w : Visit) (means : Means v starts ps w) where
   -- ---- the first refusal

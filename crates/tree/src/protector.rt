@@ -88,6 +88,7 @@ fn end_protector(parents: &[u16], codes: &mut [u8], lent: &[u8], width: usize, n
         len: width,
         what: Accesses::AtEnd,
     };
+    let v = visit::settled(lent, v);
     match visit::check(parents, codes, lent, v) {
         Answer::Stays => {
             unprotect_node(codes, width, node);

@@ -67,6 +67,7 @@ pub fn make_reads(
         len: inside.len(),
         what: Accesses::AtInit,
     };
+    let v = visit::settled(inside, v);
     match visit::check(parents, codes, inside, v) {
         Answer::Stays => 0,
         Answer::Changes => {

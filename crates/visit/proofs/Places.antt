@@ -1,6 +1,6 @@
 -- Where the rows of a table stand.
 use Prim.Native.Nat.{ℕ, _+_, _-_, _*_, _≤_, _<_}
-use mathlib.Core.Path.{_≡_, sym, ap, ap₂, _∙_}
+use mathlib.Core.Path.{_≡_, sym, ap, ap₂, subst⁻¹, _∙_}
 use mathlib.Core.List.{List, _++_}
 use native.Mathlib.Omega.{arith}
 use lib.ListN.{length, take, drop, length-drop, take-append-drop}
@@ -10,7 +10,7 @@ use Rattle.definition.proofs.Parts.{row-fits}
 use Rattle.visit.specs.declared.Answer.{Answer}
 use Rattle.visit.specs.declared.Answer.the-variants.{Stays, Changes, Refused}
 use Rattle.visit.specs.declared.Reach.{Reach}
-use Rattle.visit.specs.Walk.{Ready, Told, ToldRow, rowAt, withRowAt, nodeRefusal, nodeAfter}
+use Rattle.visit.specs.Walk.{SameVisit, Ready, Told, ToldRow, rowAt, withRowAt, nodeRefusal, nodeAfter}
 
 -- row n ends within the table
 pub row-in : (v : Reach) (ps codes : List ℕ) (n : ℕ) → Ready v ps codes → n < length ps → n * v .width + v .width ≤ length codes
@@ -58,3 +58,14 @@ module _ (w n : ℕ) (codes lent out : List ℕ) (fits : n * w + w ≤ length co
 -- a table of the same length is as ready
 pub ready-again : (v : Reach) (ps codes codes′ : List ℕ) → length codes′ ≡ length codes → Ready v ps codes → Ready v ps codes′
 ready-again v ps codes codes′ e r = record { tree = r .tree; node = r .node; inside = r .inside; rows = e ∙ r .rows; few = r .few }
+
+-- the same visit is as ready
+pub same-ready : (v r : Reach) (starts ps codes : List ℕ) → SameVisit v starts r → Ready v ps codes → Ready r ps codes
+same-ready v r starts ps codes s h =
+    subst⁻¹ (λ (q : Reach). Ready q ps codes) (s .same) (record { tree = h .tree; node = h .node; inside = h .inside; rows = h .rows; few = h .few })
+
+pub same-spared : (v r : Reach) (starts : List ℕ) → SameVisit v starts r → r .spared ≡ v .spared
+same-spared v r starts s = ap (λ (q : Reach). q .spared) (s .same)
+
+pub same-width : (v r : Reach) (starts : List ℕ) → SameVisit v starts r → r .width ≡ v .width
+same-width v r starts s = ap (λ (q : Reach). q .width) (s .same)

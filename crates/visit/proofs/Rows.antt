@@ -8,14 +8,17 @@ use mathlib.Core.List.{List, [], _∷_, _++_, map, append-assoc}
 use native.Mathlib.Numerals.{add-one}
 use native.Mathlib.Nat.{add-zero, min-le-left}
 use native.Mathlib.Omega.{arith}
-use lib.ListN.{length, getD, take, drop, set, getD-replicate, length-replicate, length-map, length-take, length-drop, take-append-drop, List·getD-map, drop-of-length-le}
+use lib.ListN.{length, getD, take, drop, set, replicate, getD-replicate, length-replicate, length-map, length-take, length-drop, take-append-drop, List·getD-map, drop-of-length-le}
 use lib.Seq.{getD-take, drop-drop, drop-cons, length-take-le, take-at, drop-at, take-append-add, drop-append-add, set-getD}
 use Rattle.definition.specs.Notation.{_or_, firstRefusal}
 use Rattle.definition.specs.Permission.{AccessKind, NodeRelation}
+use Rattle.definition.specs.Permission.Permission.{Unprot}
+use Rattle.definition.specs.Permission.PermissionUnprot.{Cell}
 use Rattle.definition.proofs.Booleans.{or-assoc}
 use Rattle.definition.proofs.Lists.{loop-get, loop-set}
-use Rattle.permission.proofs.Codes.{stays-told, becomes-told, refused-told, refused-next, refused-some}
+use Rattle.permission.proofs.Codes.{end-access-code, init-access-code, stays-told, becomes-told, refused-told, refused-next, refused-some}
 use Rattle.permission.specs.Codes.{accessKind, transitionCode, refusalCode, nextCode, endAccessCode, initAccessCode}
+use Rattle.permission.specs.declared.AccessKind as declared
 use Rattle.permission.specs.declared.Outcome.{Outcome}
 use Rattle.permission.specs.declared.Outcome.the-variants.{Stays, Becomes, Refused}
 use Rattle.visit.specs.declared.Accesses.{Accesses}
@@ -28,6 +31,10 @@ use Rattle.visit.proofs.Steps.{no-refusal, no-change}
 abbrev isTrue : Bool → Type 0
 isTrue true = Unit {0}
 isTrue false = ⊥
+
+abbrev isNone : Option AccessKind → Type 0
+isNone none = Unit {0}
+isNone (some a) = ⊥
 
 pub true-not-false : true ≡ false → ⊥
 true-not-false e = subst isTrue e tt
@@ -113,6 +120,20 @@ planned-length : (what : Accesses) (n : ℕ) (starts : List ℕ) → length (acc
 planned-length (Each a) n starts = omega (arith, length-replicate n (some (accessKind a)))
 planned-length AtEnd n starts = omega (arith, length-map (take n starts) endAccessCode, length-take n starts, min-le-left n (length starts))
 planned-length AtInit n starts = omega (arith, length-map (take n starts) initAccessCode, length-take n starts, min-le-left n (length starts))
+
+-- one access at all bytes: where there is no code there is none, so there is one for each byte
+same-each : (f : ℕ → Option AccessKind) → f 0 ≡ none → (a : AccessKind) (n : ℕ) (starts : List ℕ) → ((i : ℕ) → i < n → f (getD starts i 0) ≡ some a)
+    → replicate n (some a) ≡ map f (take n starts)
+same-each f z a zero starts h = refl
+same-each f z a (suc n) [] h = absurd (subst isNone (sym z ∙ h 0 (omega arith)) tt)
+same-each f z a (suc n) (c ∷ starts) h =
+    ap₂ (λ (x : Option AccessKind) (xs : List (Option AccessKind)). x ∷ xs) (sym (h 0 (omega arith))) (same-each f z a n starts (λ i l. h (suc i) (omega arith)))
+
+pub all-alike : (what : Accesses) (n : ℕ) (starts : List ℕ) (kind : declared.AccessKind)
+    → ((i : ℕ) → i < n → accessAt what starts i ≡ some (accessKind kind)) → 0 < n → accessesAt (Each kind) n starts ≡ accessesAt what n starts
+all-alike (Each a) n starts kind h z = ap (replicate n) (sym (h 0 z))
+all-alike AtEnd n starts kind h z = same-each endAccessCode (end-access-code (Unprot Cell)) (accessKind kind) n starts h
+all-alike AtInit n starts kind h z = same-each initAccessCode (init-access-code (Unprot Cell)) (accessKind kind) n starts h
 
 -- ---- codes under accesses
 module _ (r : NodeRelation) where

@@ -41,6 +41,11 @@ accessesAt AtInit n starts = map initAccessCode (take n starts)
 abbrev pub planned : Reach → List ℕ → List (Option AccessKind)
 planned v starts = accessesAt (v .what) (v .len) starts
 
+-- the same visit with its accesses said in another way
+pub record SameVisit (v : Reach) (starts : List ℕ) (r : Reach) : Type 0 where
+  pub same : r ≡ record { node = v .node; spared = v .spared; width = v .width; from = v .from; len = v .len; what = r .what }
+  pub accesses : accessesAt (r .what) (v .len) starts ≡ planned v starts
+
 -- ---- what a check tells: of what is refused, and of the codes before and after
 abbrev pub Told : ℕ → List ℕ → List ℕ → Answer → Type 0
 Told refused before after Stays = (refused ≡ 0) × (before ≡ after)

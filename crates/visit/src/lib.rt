@@ -11,6 +11,7 @@ pub use check_pass::check;
 use permission::AccessKind;
 pub use plan::make_plan;
 pub use plan::relation;
+pub use row::settled;
 ghost use mathlib.Core.Path.{_≡_};
 ghost use Rattle.visit.specs.Walk as walk;
 

@@ -15,7 +15,7 @@ ghost use Prim.Native.Nat.{ℕ, _+_, _*_, _≤_, _<_};
 ghost use lib.ListN.{length, getD};
 ghost use Rattle.definition.specs.Permission.NodeRelation.{Local, Foreign};
 ghost use Rattle.permission.specs.Codes.{accessKind, maybeAccess, nodeRelation, nextCode};
-ghost use Rattle.visit.specs.Walk.{ToldPart, ToldRow, accessAt, rowAfter, rowAt, withRowAt};
+ghost use Rattle.visit.specs.Walk.{SameVisit, ToldPart, ToldRow, accessAt, rowAfter, rowAt, withRowAt};
 
 // ---- the accesses at the visited bytes
 // The lent code at the k-th of them, 0 where there is none.
@@ -60,6 +60,31 @@ fn until(what: Accesses, starts: &[u8], k: usize, len: usize) -> usize
         Accesses::Each(_) => len,
         Accesses::AtEnd => same_until(starts, k, len),
         Accesses::AtInit => same_until(starts, k, len),
+    }
+}
+
+// A visit by lent codes, as one of the same access at each byte where all of them have the same: it is then worked out once, and not at each node.
+pub fn settled(starts: &[u8], v: Reach) -> Reach
+    ensures { λ r. ⌜ SameVisit v (now (starts .entry)) r ⌝ }
+{
+    let what = v.what;
+    let len = v.len;
+    if len == 0 {
+        return v;
+    }
+    if until(what, starts, 0, len) < len {
+        return v;
+    }
+    match access_at(what, starts, 0) {
+        MaybeAccess::Nothing => v,
+        MaybeAccess::Access(kind) => Reach {
+            node: v.node,
+            spared: v.spared,
+            width: v.width,
+            from: v.from,
+            len,
+            what: Accesses::Each(kind),
+        },
     }
 }
 
