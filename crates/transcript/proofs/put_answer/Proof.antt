@@ -32,13 +32,17 @@ same-length c = search needs
 
 returns : tie.Need-returns
 returns c =
-    let s = c .before .before .before .before .before .before .before .before .before .before .before .before .before in
-    let words = s .args .words .now in
-    let loaded = c .before .before .before .before .before .before .before .before .before .before .loaded-words in
-    let head = c .before .before .before .before .before .before .before .before .before .heading-of in
+    let end = c .before .before in
+    let begun = end .before .before .before .before in
+    let headed = begun .before .before .before in
+    let read = headed .before in
+    let a = read .before .before .before .args in
+    let words = a .words .now in
+    let loaded = read .loaded-words in
+    let head = headed .heading-of in
     λ text before h.
-    rw (answer-behind text (answerOf (s .args .answer) words) (loaded .result .now) (head .result) (loaded .ensures) (head .ensures words)) at
-    (c .before .before .put-each2 .ensures (text ++ head .result) before (c .before .before .before .before .before .before .put-each .ensures text before h))
+    rw (answer-behind text (answerOf (a .answer) words) (loaded .result .now) (head .result) (loaded .ensures) (head .ensures words)) at
+    (end .put-each2 .ensures (text ++ head .result) before (begun .put-each .ensures text before h))
 
 pub put-answer-spec : {M : Type 1} → statement M
 put-answer-spec =
