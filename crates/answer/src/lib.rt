@@ -5,7 +5,7 @@ ghost use mathlib.Core.List.{List};
 ghost use Prim.Native.Nat.{ℕ, min};
 ghost use lib.ListN.{take, drop};
 ghost use Rattle.definition.specs.Memory.{refusedWith};
-ghost use Rattle.answer.specs.Answer.{answerOf, Within};
+ghost use Rattle.answer.specs.Answer.{answerOf};
 
 pub enum Answer {
     // with document 01's number
@@ -71,22 +71,5 @@ pub fn loaded_words<'d>(answer: Answer, words: &'d [u32]) -> &'d [u32]
         Answer::Leak(_) => words_at(words, 0, 0),
         Answer::Accepted => words_at(words, 0, 0),
         Answer::Pointer(_) => words_at(words, 0, 0),
-    }
-}
-
-// The same where they all lie in the data: no end has to be looked for.
-pub fn words_within<'d>(answer: Answer, words: &'d [u32]) -> &'d [u32]
-    requires { ⌜ Within answer (now words) ⌝ }
-    ensures { λ r. ⌜ now r ≡ answerOf answer (now (words .entry)) .words ⌝ }
-{
-    match answer {
-        Answer::Words { start, len } => {
-            let end = start + len;
-            &words[start..end]
-        }
-        Answer::Refused(_) => &words[..0],
-        Answer::Leak(_) => &words[..0],
-        Answer::Accepted => &words[..0],
-        Answer::Pointer(_) => &words[..0],
     }
 }

@@ -1,4 +1,4 @@
--- What a caller learns from the answer of `freeze_mask_within`, and of `freeze_mask`, if it lends a buffer of 4,096 bytes.
+-- What a caller learns from the answer of `freeze_mask`, if it lends a buffer of 4,096 bytes.
 use Prim.Native.Nat.{ℕ, _≤_}
 use mathlib.Core.Path.{_≡_, refl, sym, ap, _∙_}
 use mathlib.Core.Option.{Option, none, some}
@@ -21,7 +21,7 @@ pub record HasMask (ws before after : List ℕ) (n : ℕ) : Type 0 where
   pub front : take n after ≡ maskBytes mask
 
 module _ {ws before after : List ℕ} {n : ℕ} (f : Fills (freezeMask ws) before (Of n) after) where
-  pub fills-of : HasMask ws before after n
+  fills-of : HasMask ws before after n
   fills-of = go (fitting (length before) (freezeMask ws)) refl
     where
       go : (x : Option FreezeMask) → fitting (length before) (freezeMask ws) ≡ x → HasMask ws before after n

@@ -6,15 +6,14 @@ use mathlib.Core.Option.{Option, none, some}
 use mathlib.Core.List.{List, [], _∷_, map}
 use native.Mathlib.Omega.{arith}
 use lib.Dec.{eqb, leb}
-use lib.ListN.{length, getD, take, drop, replicate, length-drop, length-replicate, getD-replicate, drop-of-length-le}
+use lib.ListN.{length, getD, take, drop, length-drop, drop-of-length-le}
 use lib.Seq.{take-all}
-use borrow.Author.Tests.{leb-true, le-leb}
-use Rattle.definition.specs.Notation.{if_then_else_, table, any}
-use Rattle.definition.specs.Layout.{FreezeMask, UnsafeCell, LayoutStrategy, Header, PointerMeta, unsafeCell, cellsFit, isFreeze, header, pointerMeta, sizedMask, tupleMask, layoutMask, headerMask, nestedMask, freezeMask}
+use borrow.Author.Tests.{leb-true}
+use Rattle.definition.specs.Notation.{if_then_else_}
+use Rattle.definition.specs.Layout.{FreezeMask, UnsafeCell, LayoutStrategy, Header, PointerMeta, unsafeCell, cellsFit, header, pointerMeta, sizedMask, tupleMask, layoutMask, headerMask, nestedMask, freezeMask}
 use Rattle.definition.specs.Layout.LayoutStrategy.{Sized, Slice, TraitObject, Tuple}
 use Rattle.definition.specs.Request.{badMetadata, nonzero}
 use Rattle.definition.proofs.Booleans.{and-left, ltb-leb}
-use Rattle.definition.proofs.Lists.{is-table}
 use Rattle.definition.proofs.Parts.{part-rest}
 use Rattle.layout.specs.declared.Header as code
 use Rattle.layout.specs.declared.LayoutStrategy as layout
@@ -111,30 +110,6 @@ module _ (tuples : ℕ) (meta : PointerMeta) where
         go Slice t = refl
         go TraitObject t = refl
         go Tuple t = absurd (false≢true (sym t))
-
--- a small header is a sized type's without cells
-small-header : (w : ℕ) → w ≤ 64 → record { layout = Sized; cells = 0; size = w } ≡ header w
-small-header w h =
-    let l : w / 2 ^ 30 ≡ 0 = omega arith in
-    let c : w / 2 ^ 22 ≡ 0 = omega arith in
-    let s : w % 2 ^ 22 ≡ w = omega arith in
-    rw (l, c, s)
-
--- without cells each byte is a freeze byte
-all-freeze : (n : ℕ) → table n (isFreeze []) ≡ replicate n true
-unfolding isFreeze any
-all-freeze n = sym (is-table (isFreeze []) n (replicate n true) true (length-replicate n true) (λ b h. getD-replicate n b true true h))
-
--- any metadata word, and a small header
-pub plain-words : (ws : List ℕ) → length ws ≡ 2 → getD ws 1 0 ≤ 64 → freezeMask ws ≡ some (replicate (getD ws 1 0) true)
-unfolding cellsFit
-plain-words [] e h = absurd (omega arith)
-plain-words (m ∷ []) e h = absurd (omega arith)
-plain-words (m ∷ w ∷ []) e h =
-    some-words (m ∷ w ∷ []) (λ z. absurd (omega arith))
-    ∙ with-header 8 (pointerMeta m) (w ∷ []) (record { layout = Sized; cells = 0; size = w }) (λ z. absurd (omega arith)) (small-header w h)
-    ∙ rw (le-leb 0 w (omega arith), le-leb w 4096 (omega arith)) (ap some (all-freeze w))
-plain-words (m ∷ w ∷ v ∷ ws) e h = absurd (omega arith)
 
 -- a tuple's tail, where a tuple may still stand
 pub tail-mask : (tuples : ℕ) (meta : PointerMeta) (ws : List ℕ) → (tuples ≡ 0 → ⊥) → tailMask tuples meta ws ≡ nestedMask (tuples - 1) meta ws

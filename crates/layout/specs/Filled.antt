@@ -1,11 +1,11 @@
 -- What the code's values are in the definition, and how a lent buffer holds a mask.
-use Prim.Native.Nat.{ℕ, zero, suc, _≤_}
+use Prim.Native.Nat.{ℕ, zero, suc}
 use mathlib.Core.Path.{_≡_}
 use mathlib.Core.Bool.{Bool, true, false, _&&_}
 use mathlib.Core.Option.{Option, none, some}
 use mathlib.Core.List.{List, map}
 use lib.Dec.{eqb, leb}
-use lib.ListN.{length, take, drop, replicate}
+use lib.ListN.{length, take, drop}
 use Rattle.definition.specs.Notation.{if_then_else_, writeAt}
 use Rattle.definition.specs.Layout as definition
 use Rattle.definition.specs.Layout.{FreezeMask, UnsafeCell, unsafeCell, cellsFit, sliceMask, layoutMask, nestedMask, freezeMask, maskBound}
@@ -57,12 +57,6 @@ filled (some mask) buffer = writeAt 0 (maskBytes mask) buffer
 pub record Fills (wanted : Option FreezeMask) (before : List ℕ) (r : Mask) (after : List ℕ) : Type 0 where
   pub answer : r ≡ lengthOf (fitting (length before) wanted)
   pub contents : after ≡ filled (fitting (length before) wanted) before
-
--- a short mask of freeze bytes alone, where a length is answered; else nothing is said
-abbrev pub PlainMask : List ℕ → Mask → Type 0
-PlainMask ws (Of len) = (len ≤ 64) × (freezeMask ws ≡ some (replicate len true))
-PlainMask ws None = Unit
-PlainMask ws WrongLength = Unit
 
 -- ---- masks by their layout
 abbrev pub isTuple : definition.LayoutStrategy → Bool

@@ -5,9 +5,9 @@ ghost use mathlib.Core.List.{map};
 ghost use Prim.Native.Nat.{_-_, _%_, _≤_, _<_};
 ghost use lib.ListN.{length, getD, replicate};
 ghost use Rattle.definition.specs.Notation.{table, writeAt};
-ghost use Rattle.definition.specs.Layout.{unsafeCell, cellsFit, isFreeze, header, pointerMeta, sizedMask, sliceMask, traitObjectMask, tupleMask, nestedMask, freezeMask};
+ghost use Rattle.definition.specs.Layout.{unsafeCell, cellsFit, isFreeze, header, pointerMeta, sizedMask, sliceMask, traitObjectMask, tupleMask, nestedMask};
 ghost use Rattle.definition.specs.Request.{badMetadata};
-ghost use Rattle.layout.specs.Filled.{headerOf, metaOf, layoutOf, isTuple, hasCells, maskBytes, Fills, PlainMask, elementsMask, lastMask, tailMask, answered, afterwards};
+ghost use Rattle.layout.specs.Filled.{headerOf, metaOf, layoutOf, isTuple, hasCells, maskBytes, Fills, elementsMask, lastMask, tailMask, answered, afterwards};
 
 // Whether words have a mask.
 pub enum Mask {
@@ -317,39 +317,17 @@ fn fill_layout(words: &[u32], metadata: PointerMeta, tuples: usize, mask: &mut [
     fill_last(head, metadata, rest, mask)
 }
 
-// Most layouts are a sized type's without cells, and short: its mask is as many freeze bytes. `None` says nothing.
-pub fn plain_mask(words: &[u32]) -> Mask
-    ensures { λ r. ⌜ PlainMask (now (words .entry)) r ⌝ }
-{
-    if words.len() != 2 {
-        return Mask::None;
-    }
-    let word = words[1];
-    if word > 64 {
-        return Mask::None;
-    }
-    Mask::Of(wide(word))
-}
-
-// The mask of all the layout words, the metadata word first, if `mask` has room for it. It stands at the buffer's start; behind it, and
+// The mask of all the layout words, the metadata word first, in a buffer that has room for every mask. It stands at the buffer's start; behind it, and
 // without a mask, the buffer is as before.
-pub fn freeze_mask_within(words: &[u32], mask: &mut [u8]) -> Mask
-    requires { ⌜ length (now mask) ≤ 4096 ⌝ }
-    ensures { λ r. ⌜ Fills (freezeMask (now (words .entry))) (now (mask .entry)) r (now (mask .exit)) ⌝ }
-{
-    if words.len() == 0 {
-        return Mask::None;
-    }
-    let metadata = pointer_meta(words[0]);
-    fill_layout(&words[1..], metadata, 8, mask)
-}
-
-// In a buffer that has room for every mask.
 pub fn freeze_mask(words: &[u32], mask: &mut [u8]) -> Mask
     ensures { λ r. ⌜ (r ≡ answered (now (words .entry)) (now (mask .entry))) × (now (mask .exit) ≡ afterwards (now (words .entry)) (now (mask .entry))) ⌝ }
 {
     if mask.len() != 4096 {
         return Mask::WrongLength;
     }
-    freeze_mask_within(words, mask)
+    if words.len() == 0 {
+        return Mask::None;
+    }
+    let metadata = pointer_meta(words[0]);
+    fill_layout(&words[1..], metadata, 8, mask)
 }

@@ -32,9 +32,7 @@ use Rattle.tables.specs.declared.Allocation as record-of
 use Rattle.bounds.proofs.Points.{recordAt, read-address}
 use Rattle.parts.specs.Trees.{HoldsTrees, afterVisit, TreeVisited}
 use Rattle.memory.specs.Buffers.{HoldsWords}
-use Rattle.memory.specs.Access.{accessOf, loadOf, storeOf, boundsRefusal, Checked, Reached, visitAt, wordsStart, Accessed, QuietInTree, QuietAccess, Loaded, Stored}
-use Rattle.memory.specs.declared.access.Quiet.{Quiet}
-use Rattle.memory.specs.declared.access.Quiet.the-variants.{No, At}
+use Rattle.memory.specs.Access.{accessOf, loadOf, storeOf, boundsRefusal, Checked, Reached, visitAt, wordsStart, Accessed, Loaded, Stored}
 use Rattle.memory.proofs.OneTree.{same-parts, focus-load, visited-part}
 
 -- ---- what the tests leave
@@ -234,15 +232,6 @@ module _ (p : code.ThinPointer) {n node : ℕ} (e : p .provenance ≡ Of n node)
   start-through h k q s =
       rw (e, s .words, read-address h (reached-through k .made) q)
       (sym (start-some (record { address = p .addr; provenance = some (record { allocation = n; node = node }) }) len m z))
-
-  pub quiet-through : (kind : AccessKind) (exponent : ℕ) (bytes : List ℕ) {A P C : List ℕ} → HoldsTrees m A P C
-      → (passed : ℕ) → passed ≡ boundsRefusal (thinPointerOf p) len exponent m → passed ≡ 0
-      → (q : Quiet) → QuietInTree kind m n node (p .addr) len C q → QuietAccess (accessOf kind (thinPointerOf p) len exponent bytes) m C q
-  quiet-through kind exponent bytes h passed b f No t = tt
-  quiet-through kind exponent bytes h passed b f (At start) t = (
-    accessed-through kind exponent bytes h passed b f (t .0),
-    t .1 ∙ rw e (sym (start-some (record { address = p .addr; provenance = some (record { allocation = n; node = node }) }) len m z)),
-  )
 
 -- ---- a load's answer
 loaded-words : (p : ThinPointer) (len exponent : ℕ) (a : Allocation) → loadedWords (loadOf p len exponent) a ≡ take len (drop (offset a p) (a .words))

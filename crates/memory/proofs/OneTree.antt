@@ -3,7 +3,7 @@ use Prim.Native.Nat.{ℕ, _+_, _-_, _≤_, _<_}
 use mathlib.Core.Path.{_≡_, refl, sym, ap, subst, _∙_}
 use mathlib.Core.List.{List, _++_}
 use native.Mathlib.Omega.{arith}
-use borrow.Rule.Slice.PartMut.{putMid, put-same}
+use borrow.Rule.Slice.PartMut.{putMid}
 use lib.ListN.{length, take, drop, length-drop, take-append-drop}
 use lib.Seq.{drop-drop, take-append-le, drop-append-le}
 use Rattle.definition.specs.Notation.{mutateAt}
@@ -40,13 +40,6 @@ module _ {m : Memory} {n : ℕ} {P C : List ℕ} {r : Parts} (h : TreeAt m n P C
     access-visited last k =
         subst (λ (z : ℕ). let v = accessVisit kind node (address - z) len in TreeVisited m n (visitRefusal v (x .nodes)) v answer (givenBack last)) e
         (tree-visited h k)
-
-    -- where the part stays, so do all codes
-    pub quiet-visited : Visited (accessVisit kind node (address - base) len) (x .nodes) answer (take (r .end - r .start) (drop (r .start) C))
-        → TreeVisited m n (visitRefusal (visitAt kind m n node address len) (x .nodes)) (visitAt kind m n node address len) answer C
-    quiet-visited k =
-        subst (TreeVisited m n (visitRefusal (visitAt kind m n node address len) (x .nodes)) (visitAt kind m n node address len) answer)
-        (put-same (r .start) (r .end - r .start) C) (access-visited (take (r .end - r .start) (drop (r .start) C)) k)
 
   -- of a deallocation
   pub deallocate-visited : (node : ℕ) {answer : ℕ} (last : List ℕ) → Deallocated node (r .width) (x .nodes) answer last → WrittenAll m n node answer (givenBack last)

@@ -9,15 +9,12 @@ use Rattle.definition.specs.Notation.{if_then_else_, _when_, _or_}
 use Rattle.definition.specs.Refusal.{neverMade, misaligned}
 use Rattle.definition.specs.Permission.{AccessKind}
 use Rattle.definition.specs.Permission.AccessKind.{Read, Write}
-use Rattle.definition.specs.Tree.{Visit, accessVisit, visitRefusal}
+use Rattle.definition.specs.Tree.{Visit, accessVisit}
 use Rattle.definition.specs.Memory.{ThinPointer, Memory, MemoryAccess, allocationOf, allocationAt, target, offset, size, nodeCount, namesNeverMade, isMisaligned, checkPtr, accessRefusal, performAccess}
 use Rattle.answer.specs.Answer.{answerOf}
 use Rattle.answer.specs.declared.Answer.{Answer}
 use Rattle.tables.specs.Encoding.{wordsOf, codesOf, held}
 use Rattle.tables.specs.Held.{startOf}
-use Rattle.parts.specs.Trees.{TreeVisited}
-use Rattle.memory.specs.declared.access.Quiet.{Quiet}
-use Rattle.memory.specs.declared.access.Quiet.the-variants.{No, At}
 
 -- ---- the definition's accesses
 abbrev pub accessOf : AccessKind → ThinPointer → ℕ → ℕ → List ℕ → MemoryAccess
@@ -63,17 +60,6 @@ wordsStart p len m =
 pub record Accessed (x : MemoryAccess) (m : Memory) (answer : ℕ) (C : List ℕ) : Type 0 where
   pub refusal : answer ≡ accessRefusal x m
   pub codes : C ≡ held 32768 codesOf (performAccess x m .1)
-
--- where an access is quiet it is accepted, no code changes, and the bytes start there
-abbrev pub QuietInTree : AccessKind → Memory → ℕ → ℕ → ℕ → ℕ → List ℕ → Quiet → Type 0
-QuietInTree kind m n node address len C No = Unit
-QuietInTree kind m n node address len C (At start) =
-    TreeVisited m n (visitRefusal (visitAt kind m n node address len) (allocationAt m n .nodes)) (visitAt kind m n node address len) 0 C
-    × (start ≡ startOf wordsOf m n + (address - allocationAt m n .address))
-
-abbrev pub QuietAccess : MemoryAccess → Memory → List ℕ → Quiet → Type 0
-QuietAccess x m C No = Unit
-QuietAccess x m C (At start) = Accessed x m 0 C × (start ≡ wordsStart (x .pointer) (x .len) m)
 
 pub record Loaded (x : MemoryAccess) (m : Memory) (answer : Answer) (C : List ℕ) : Type 0 where
   pub answers : answerOf answer (held 4096 wordsOf m) ≡ performAccess x m .0

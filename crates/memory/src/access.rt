@@ -15,7 +15,7 @@ ghost use Rattle.permission.specs.Codes.{accessKind};
 ghost use Rattle.tables.specs.Held.{Records};
 ghost use Rattle.parts.specs.Trees.{HoldsTrees, TreeVisited};
 ghost use Rattle.memory.specs.Buffers.{HoldsWords};
-ghost use Rattle.memory.specs.Access.{accessOf, loadOf, storeOf, boundsRefusal, Checked, Reached, visitAt, wordsStart, Accessed, QuietInTree, QuietAccess, Loaded, Stored};
+ghost use Rattle.memory.specs.Access.{accessOf, loadOf, storeOf, boundsRefusal, Checked, Reached, visitAt, wordsStart, Accessed, Loaded, Stored};
 
 // 4, 6 and 7 to 9.
 fn bounds_refusal(allocs: &[u64], p: ThinPointer, len: u64, exponent: u64) -> u8
@@ -110,90 +110,6 @@ fn access(
     }
 }
 
-// Where the bytes start that a quiet access reaches: one that is accepted and changes no permission. `No` says nothing.
-pub enum Quiet {
-    No,
-    At(usize),
-}
-
-// Of `len` bytes at an address, through a node of allocation n.
-fn quiet_in_tree(
-    allocs: &[u64],
-    parents: &[u16],
-    codes: &[u8],
-    kind: AccessKind,
-    n: usize,
-    node: usize,
-    addr: u64,
-    len: usize,
-) -> Quiet
-    requires { ⌜ ((m : Memory) × (HoldsTrees m (now allocs) (now parents) (now codes) × Reached m n node addr len)) ⌝ }
-    ensures { λ r. ⌜ ((m : Memory) → HoldsTrees m (now (allocs .entry)) (now (parents .entry)) (now (codes .entry)) → Reached m n node addr len
-        → QuietInTree (accessKind kind) m n node addr len (now (codes .entry)) r) ⌝ }
-{
-    let a = tables::allocation_at(allocs, n);
-    let address = a.address;
-    let t = parts::parts_at(allocs, n);
-    let first = t.first;
-    let behind = t.behind;
-    let start = t.start;
-    let end = t.end;
-    let word = t.word;
-    let from = (addr - address) as usize;
-    if tree::stays(
-        &parents[first..behind],
-        &codes[start..end],
-        t.width,
-        node,
-        kind,
-        from,
-        len,
-    ) {
-        return Quiet::At(word + from);
-    }
-    Quiet::No
-}
-
-// Most accesses are quiet, and then this is all there is to do but for the words.
-pub fn quiet_access(
-    allocs: &[u64],
-    parents: &[u16],
-    codes: &[u8],
-    kind: AccessKind,
-    p: ThinPointer,
-    len: u64,
-    exponent: u64,
-) -> Quiet
-    requires { ⌜ ((m : Memory) × HoldsTrees m (now allocs) (now parents) (now codes)) ⌝ }
-    requires { ⌜ exponent < 64 ⌝ }
-    ensures { λ r. ⌜ ((m : Memory) (bytes : List ℕ) → HoldsTrees m (now (allocs .entry)) (now (parents .entry)) (now (codes .entry))
-        → QuietAccess (accessOf (accessKind kind) (thinPointerOf p) len exponent bytes) m (now (codes .entry)) r) ⌝ }
-{
-    let addr = p.addr;
-    let provenance = p.provenance;
-    match provenance {
-        Provenance::None => Quiet::No,
-        Provenance::Of { allocation, node } => {
-            if len == 0 {
-                return Quiet::No;
-            }
-            if bounds_refusal(allocs, p, len, exponent) != 0 {
-                return Quiet::No;
-            }
-            quiet_in_tree(
-                allocs,
-                parents,
-                codes,
-                kind,
-                allocation as usize,
-                node as usize,
-                addr,
-                len as usize,
-            )
-        }
-    }
-}
-
 // Where the bytes at a pointer start in the data; 0 where there are none.
 fn words_start(allocs: &[u64], p: ThinPointer, len: u64) -> usize
     requires { ⌜ ((m : Memory) × (Records m (now allocs) × Checked m (thinPointerOf p) len)) ⌝ }
@@ -259,7 +175,7 @@ pub fn copy_words(dst: &mut [u32], src: &[u32])
 }
 
 // Writes bytes from a place in the data on.
-pub fn put_words(words: &mut [u32], start: usize, bytes: &[u32])
+fn put_words(words: &mut [u32], start: usize, bytes: &[u32])
     requires { ⌜ start + length (now bytes) ≤ length (now words) ⌝ }
     ensures { λ _. ⌜ now (words .exit) ≡ paste (now (words .entry)) start (now (bytes .entry)) (length (now (bytes .entry))) ⌝ }
 {

@@ -1,11 +1,11 @@
 -- A retag in a run: its settings, the frame's room for the entry of an accepted one, its mask, and what is left in each case.
-use Prim.Native.Nat.{ℕ, zero, suc, _≤_, _<_}
+use Prim.Native.Nat.{ℕ, _<_}
 use mathlib.Core.Path.{_≡_, refl, sym, ap, subst, _∙_}
 use mathlib.Core.Bool.{Bool, true, false}
 use mathlib.Core.Option.{Option, none, some}
 use mathlib.Core.List.{List, [], _∷_, _++_}
 use native.Mathlib.Omega.{arith}
-use lib.ListN.{length, getD, take, set, replicate, length-append}
+use lib.ListN.{length, getD, take, set, length-append}
 use lib.Seq.{getD-set-same}
 use Rattle.definition.specs.Notation.{if_then_else_}
 use Rattle.definition.specs.Permission.{Protected, isYes}
@@ -101,12 +101,6 @@ pub mask-read : {ws before after : List ℕ} {n : ℕ} (has : HasMask ws before 
 unfolding maskBytes
 mask-read has = ap maskOf (has .front) ∙ mask-back maskByte refl (λ e. omega (arith, e)) (has .mask)
 
--- ones in the front of a buffer of ones
-freeze-bytes : (len n : ℕ) → len ≤ n → maskOf (take len (replicate n 1)) ≡ replicate len true
-freeze-bytes zero n h = refl
-freeze-bytes (suc len) zero h = absurd (omega arith)
-freeze-bytes (suc len) (suc n) h = ap (λ (l : FreezeMask). true ∷ l) (freeze-bytes len n (omega arith))
-
 -- ---- the cases
 module _ {s : State} {A P R C F : List ℕ} (h : HoldsTrees s A P R C F) where
   -- nothing changes
@@ -136,13 +130,3 @@ pub left-with-mask : (s : State) (q : Request) (mask m : FreezeMask) → freezeM
 unfolding retagWithMask
 left-with-mask s q mask m e same {r} {A} {P} {R} {C} {F} k =
     rw e (subst (λ (x : FreezeMask). LeftTrees (retag (requests.settingsOf q x) (frameNumber q) (pointer q) s) r A P R C F) same k)
-
-module _ (s : State) (q : Request) (len : ℕ) {r : Answer} {A P R C F : List ℕ} where
-  pub left-with-freeze-bytes : len ≤ 64 → LeftTrees (retag (requests.settingsOf q (maskOf (take len (replicate 64 1)))) (frameNumber q) (pointer q) s) r A P R C F
-      → LeftTrees (retagWithMask (some (replicate len true)) s q) r A P R C F
-  unfolding retagWithMask
-  left-with-freeze-bytes h k = subst (λ (x : FreezeMask). LeftTrees (retag (requests.settingsOf q x) (frameNumber q) (pointer q) s) r A P R C F) (freeze-bytes len 64 h) k
-
-  pub left-plain : addsNoNode q ≡ false → freezeMask (q .following) ≡ some (replicate len true) → LeftTrees (retagWithMask (some (replicate len true)) s q) r A P R C F
-      → LeftTrees (performRetag s q) r A P R C F
-  left-plain e f k = left-with-node s q e (rw f k)

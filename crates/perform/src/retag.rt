@@ -8,10 +8,9 @@ use reborrow::ReborrowSettings;
 use request::Request;
 ghost use Prim.Native.Nat.{ℕ, _<_, _≤_};
 ghost use mathlib.Core.Path.{_≡_};
-ghost use mathlib.Core.Bool.{true};
 ghost use mathlib.Core.Option.{some};
 ghost use mathlib.Core.List.{List, []};
-ghost use lib.ListN.{length, take, replicate};
+ghost use lib.ListN.{length, take};
 ghost use Rattle.definition.specs.Layout.{FreezeMask, freezeMask};
 ghost use Rattle.definition.specs.Frame.{Frame, State};
 ghost use Rattle.definition.specs.Request.{pointer, frameNumber};
@@ -111,8 +110,8 @@ fn reborrow_entered(
     answer
 }
 
-// A retag that adds a node, if its layout has a mask, of whatever length.
-fn retag_with_any_mask(
+// A retag that adds a node, if its layout has a mask.
+fn retag_with_mask(
     allocs: &mut [u64],
     parents: &mut [u16],
     protectors: &mut [u8],
@@ -144,76 +143,6 @@ fn retag_with_any_mask(
     }
 }
 
-// The same; a short mask, as most are, does without the long buffer.
-fn retag_with_mask(
-    allocs: &mut [u64],
-    parents: &mut [u16],
-    protectors: &mut [u8],
-    codes: &mut [u8],
-    frames: &mut [u32],
-    q: Request,
-    following: &[u32],
-) -> Answer
-    requires { ⌜ ((s : State) × HoldsTrees s (now allocs) (now parents) (now protectors) (now codes) (now frames)) ⌝ }
-    ensures { λ r. ⌜ ((s : State) → HoldsTrees s (now (allocs .entry)) (now (parents .entry)) (now (protectors .entry)) (now (codes .entry)) (now (frames .entry))
-        → LeftTrees (retagWithMask (freezeMask (now (following .entry))) s (requestOf q (now (following .entry))))
-        r (now (allocs .exit)) (now (parents .exit)) (now (protectors .exit)) (now (codes .exit)) (now (frames .exit))) ⌝ }
-{
-    let mut mask = [0u8; 64];
-    let made = layout::freeze_mask_within(following, &mut mask);
-    match made {
-        Mask::Of(len) => reborrow_entered(
-            allocs,
-            parents,
-            protectors,
-            codes,
-            frames,
-            &mut mask,
-            len,
-            q,
-        ),
-        Mask::None => retag_with_any_mask(allocs, parents, protectors, codes, frames, q, following),
-        Mask::WrongLength => retag_with_any_mask(
-            allocs,
-            parents,
-            protectors,
-            codes,
-            frames,
-            q,
-            following,
-        ),
-    }
-}
-
-// A retag that adds a node, with a short mask of freeze bytes alone.
-fn retag_with_freeze_bytes(
-    allocs: &mut [u64],
-    parents: &mut [u16],
-    protectors: &mut [u8],
-    codes: &mut [u8],
-    frames: &mut [u32],
-    q: Request,
-    len: usize,
-) -> Answer
-    requires { ⌜ ((s : State) × HoldsTrees s (now allocs) (now parents) (now protectors) (now codes) (now frames)) ⌝ }
-    requires { ⌜ len ≤ 64 ⌝ }
-    ensures { λ r. ⌜ ((s : State) (ws : List ℕ) → HoldsTrees s (now (allocs .entry)) (now (parents .entry)) (now (protectors .entry)) (now (codes .entry)) (now (frames .entry))
-        → LeftTrees (retagWithMask (some (replicate len true)) s (requestOf q ws))
-        r (now (allocs .exit)) (now (parents .exit)) (now (protectors .exit)) (now (codes .exit)) (now (frames .exit))) ⌝ }
-{
-    let mut mask = [1u8; 64];
-    reborrow_entered(
-        allocs,
-        parents,
-        protectors,
-        codes,
-        frames,
-        &mut mask,
-        len,
-        q,
-    )
-}
-
 pub fn retag(
     allocs: &mut [u64],
     parents: &mut [u16],
@@ -231,26 +160,5 @@ pub fn retag(
     if q.adds_no_node() {
         return reborrow::retag_without_node(allocs, q.pointer());
     }
-    let plain = layout::plain_mask(following);
-    match plain {
-        Mask::Of(len) => retag_with_freeze_bytes(
-            allocs,
-            parents,
-            protectors,
-            codes,
-            frames,
-            q,
-            len,
-        ),
-        Mask::None => retag_with_mask(allocs, parents, protectors, codes, frames, q, following),
-        Mask::WrongLength => retag_with_mask(
-            allocs,
-            parents,
-            protectors,
-            codes,
-            frames,
-            q,
-            following,
-        ),
-    }
+    retag_with_mask(allocs, parents, protectors, codes, frames, q, following)
 }

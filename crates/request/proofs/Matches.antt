@@ -48,12 +48,6 @@ notStoreOrRetag = 0 ∷ 1 ∷ 2 ∷ 5 ∷ 6 ∷ 7 ∷ 8 ∷ 9 ∷ 10 ∷ []
 abbrev notRetag : List ℕ
 notRetag = 0 ∷ 1 ∷ 2 ∷ 3 ∷ 5 ∷ 6 ∷ 7 ∷ 8 ∷ 9 ∷ 10 ∷ []
 
-abbrev notStore : List ℕ
-notStore = 0 ∷ 1 ∷ 2 ∷ 4 ∷ 5 ∷ 6 ∷ 7 ∷ 8 ∷ 9 ∷ 10 ∷ []
-
-pub no-store : {k : Kind} → Among notStore k → k ≡ Store → ⊥
-no-store h e = miss notStore 3 tt (subst (Among notStore) e h)
-
 pub nothing-follows : (q : Request) (ws : List ℕ) (k : Kind) → q .kind ≡ k → Among notStoreOrRetag k → followingLength (requestOf q ws) ≡ 0
 unfolding followingLength
 nothing-follows q ws Allocate e h = rw e

@@ -14,7 +14,6 @@ ghost use Rattle.definition.specs.Request.Kind.{Allocate, Deallocate, Load, Sto
 ghost use Rattle.pointer.specs.Pointer.{thinPointerOf, back, ahead};
 ghost use Rattle.permission.specs.Codes as permission;
 ghost use Rattle.request.specs.Fields.{kindOf, requestOf, fieldsOf, anyField, openIn, frameUsed};
-ghost use Rattle.request.specs.Plain.{WholeAccess, PlainAccess};
 use permission::Protected;
 use permission::SafePointer;
 use pointer::Provenance;
@@ -427,38 +426,4 @@ pub fn is_malformed(q: Request, following: &[u32], opened: bool) -> bool
         Kind::LeakCheck => malformed_leak_check(q),
         Kind::Unused => true,
     }
-}
-
-// ---- a load or a store in good order, told in few steps
-// As many words as it asks for, and those of a store are bytes: then it is tested as a load is.
-fn is_whole_access(q: Request, words: &[u32]) -> bool
-    ensures { λ r. ⌜ (requestOf q (drop 4 (now (words .entry))) ≡ request (now (words .entry)) → r ≡ true → WholeAccess q (now (words .entry))) ⌝ }
-{
-    let kind = q.kind;
-    match kind {
-        Kind::Load => !is_miscounted(q, words.len()),
-        Kind::Store => {
-            if is_miscounted(q, words.len()) {
-                return false;
-            }
-            !pointer::any_bad_byte(following(words))
-        }
-        _ => false,
-    }
-}
-
-// Nothing of 2 applies to it, and it has provenance.
-pub fn is_plain_access(q: Request, words: &[u32]) -> bool
-    ensures { λ r. ⌜ (requestOf q (drop 4 (now (words .entry))) ≡ request (now (words .entry)) → r ≡ true → PlainAccess q (now (words .entry))) ⌝ }
-{
-    if q.extra != 0 {
-        return false;
-    }
-    if !q.has_provenance {
-        return false;
-    }
-    if q.exponent > 29 {
-        return false;
-    }
-    is_whole_access(q, words)
 }

@@ -4,7 +4,6 @@ ghost use Prim.Native.Nat.{_-_};
 ghost use lib.ListN.{take, drop};
 
 pub mod list;
-mod quick;
 
 // What a list comes to: a refusal with document 01's number, or its answers, as far as the lent buffer has room.
 pub enum ListRun {

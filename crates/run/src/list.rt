@@ -1,8 +1,6 @@
 // A list of requests from the empty memory. It goes on after a refusal. specs/Lists.antt says what it comes to, with demand 3.
 use crate::ListRun;
 use crate::part;
-use crate::quick::Progress;
-use crate::quick::quick_turns;
 use crate::wide;
 use transcript::Written;
 ghost use Rattle.definition.specs.Frame.{State, empty};
@@ -11,7 +9,7 @@ ghost use Rattle.perform.specs.Performed.{HoldsState};
 ghost use Rattle.run.specs.Lists.{requestsIn, Ran, ListRan};
 ghost use Rattle.run.specs.Turns.{Turned};
 
-// One request in full; its answer is written behind the others.
+// One request; its answer is written behind the others.
 fn turn(
     allocs: &mut [u64],
     parents: &mut [u16],
@@ -27,12 +25,11 @@ fn turn(
     ensures { λ r. ⌜ ((s : State) → HoldsState s (buffers (now (allocs .entry)) (now (parents .entry)) (now (protectors .entry)) (now (words .entry)) (now (codes .entry))) (now (frames .entry))
         → Turned s (now (request .entry)) w (now (answers .entry)) r (buffers (now (allocs .exit)) (now (parents .exit)) (now (protectors .exit)) (now (words .exit)) (now (codes .exit))) (now (frames .exit)) (now (answers .exit))) ⌝ }
 {
-    let answer = step::in_full(allocs, parents, protectors, words, codes, frames, request);
+    let answer = step::step(allocs, parents, protectors, words, codes, frames, request);
     transcript::put_answer(answers, w, answer, words)
 }
 
-// The whole list, on buffers that hold the empty state: one request in full, and then all that follow and take few steps. The parts of `Written`
-// are carried apart: a struct of both has bytes that belong to neither, and to carry those around the loop costs more than the rest of it.
+// The whole list, on buffers that hold the empty state.
 fn run_cleared(
     allocs: &mut [u64],
     parents: &mut [u16],
@@ -48,15 +45,13 @@ fn run_cleared(
     ensures { λ r. ⌜ Ran (requestsIn (now (requests .entry)) (now (ends .entry))) (now (answers .entry)) r
         (buffers (now (allocs .exit)) (now (parents .exit)) (now (protectors .exit)) (now (words .exit)) (now (codes .exit))) (now (frames .exit)) (now (answers .exit)) ⌝ }
 {
-    let start = transcript::nothing_written();
-    let mut at = start.at;
-    let mut whole = start.whole;
+    let mut w = transcript::nothing_written();
     let mut from = 0;
     let mut i = 0;
     while i < ends.len() {
         let end = wide(ends[i]);
         let request = part(requests, from, end);
-        let w = turn(
+        w = turn(
             allocs,
             parents,
             protectors,
@@ -65,29 +60,12 @@ fn run_cleared(
             frames,
             request,
             answers,
-            Written { at, whole },
+            w,
         );
-        whole = w.whole;
-        let p = quick_turns(
-            allocs,
-            parents,
-            words,
-            codes,
-            frames,
-            requests,
-            ends,
-            answers,
-            Progress {
-                done: i + 1,
-                from: end,
-                at: w.at,
-            },
-        );
-        i = p.done;
-        from = p.from;
-        at = p.at;
+        from = end;
+        i += 1;
     }
-    Written { at, whole }
+    w
 }
 
 // The requests' words, and where each ends. Memory and frames are emptied first; each answer is written to the lent buffer.

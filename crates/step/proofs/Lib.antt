@@ -1,4 +1,2 @@
 pub mod Steps
 pub mod Zeros
-pub mod QuietAccesses
-pub mod BareCalls

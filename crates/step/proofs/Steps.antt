@@ -25,9 +25,7 @@ use Rattle.entries.specs.Buffer.{HoldsFrames, framesHeld}
 use Rattle.entries.proofs.FromValid.{valid-holds}
 use Rattle.request.specs.declared.Request as code
 use Rattle.request.specs.Fields.{kindOf, requestOf}
-use Rattle.tables.specs.Held.{buffers}
-use Rattle.perform.specs.Performed.{HoldsState, Formed, Asked, isInMemory, outcomeOf, Left, LeftMemory}
-use Rattle.perform.proofs.Requests.{asked, left-memory}
+use Rattle.perform.specs.Performed.{HoldsState, Formed, outcomeOf, Left}
 use Rattle.step.specs.Steps.{isRefused, Stepped}
 
 -- numbers that are each below 2^32
@@ -85,12 +83,3 @@ module _ {s : State} {b : Buffers} {F : List ℕ} (h : HoldsState s b F) where
 
       pub stepped : {r : Answer} {b′ : Buffers} {F′ : List ℕ} → Left (outcomeOf s q following) r b′ F′ → Stepped s ws r b′ F′
       stepped k = stepped-by (by-test false passed ∙ ap (λ (x : Request). perform (x .kind) s x) (sym as-request)) k (valid-step s ws words (h .valid))
-
--- ---- a request to the memory alone that was not refused
-module _ {s : State} {A P R W C F : List ℕ} (h : HoldsState s (buffers A P R W C) F) (ws : List ℕ) (words : All IsWord ws) (passed : isRefused s ws ≡ false)
-    (q : code.Request) (same : requestOf q (drop 4 ws) ≡ request ws) {following : List ℕ} (is : following ≡ drop 4 ws) (alone : isInMemory (q .kind) ≡ true) where
-  pub asked-alone : Asked s q following (buffers A P R W C)
-  asked-alone = asked h (formed h ws words passed q same is) alone
-
-  pub stepped-alone : {r : Answer} {b : Buffers} → LeftMemory (outcomeOf s q following) r b → Stepped s ws r b F
-  stepped-alone k = stepped h ws words passed q same is (left-memory h (formed h ws words passed q same is) alone k)

@@ -1,3 +1,2 @@
 pub mod Lengths
 pub mod Steps
-pub mod Calls

@@ -1,9 +1,5 @@
 // One request: 2, and then its kind. The buffers are not tested again: they hold a state, and hold the next one afterwards.
-// Most requests of a run are loads and stores that are accepted and change no permission: these are looked for first (`quiet`).
-use crate::quiet::find_quiet;
-use crate::quiet::finish_quiet;
 use answer::Answer;
-use memory::access::Quiet;
 use request::Request;
 ghost use mathlib.Core.Path.{_≡_};
 ghost use lib.ListN.{drop};
@@ -15,15 +11,7 @@ ghost use Rattle.request.specs.Fields.{requestOf};
 ghost use Rattle.perform.specs.Performed.{HoldsState};
 ghost use Rattle.step.specs.Steps.{isRefused, Stepped};
 
-pub mod calls;
 pub mod clear;
-pub mod quiet;
-
-pub(crate) fn wide(x: u32) -> usize
-    ensures { λ r. ⌜ r ≡ x ⌝ }
-{
-    x as usize
-}
 
 // The request, of these fields, falls under 2.
 fn is_refused(frames: &[u32], q: Request, request: &[u32]) -> bool
@@ -37,8 +25,7 @@ fn is_refused(frames: &[u32], q: Request, request: &[u32]) -> bool
     request::is_miscounted(q, request.len()) | request::is_malformed(q, following, opened)
 }
 
-// A request of any kind, with all that it may refuse and change.
-pub fn in_full(
+pub fn step(
     allocs: &mut [u64],
     parents: &mut [u16],
     protectors: &mut [u8],
@@ -70,27 +57,4 @@ pub fn in_full(
         q,
         following,
     )
-}
-
-pub fn step(
-    allocs: &mut [u64],
-    parents: &mut [u16],
-    protectors: &mut [u8],
-    words: &mut [u32],
-    codes: &mut [u8],
-    frames: &mut [u32],
-    request: &[u32],
-) -> Answer
-    requires { ⌜ ((s : State) × HoldsState s (buffers (now allocs) (now parents) (now protectors) (now words) (now codes)) (now frames)) ⌝ }
-    ensures { λ r. ⌜ ((s : State) → HoldsState s (buffers (now (allocs .entry)) (now (parents .entry)) (now (protectors .entry)) (now (words .entry)) (now (codes .entry))) (now (frames .entry))
-        → Stepped s (now (request .entry)) r (buffers (now (allocs .exit)) (now (parents .exit)) (now (protectors .exit)) (now (words .exit)) (now (codes .exit))) (now (frames .exit))) ⌝ }
-{
-    if request.len() < 4 {
-        return Answer::Refused(2);
-    }
-    let q = Request::of(request);
-    match find_quiet(allocs, parents, codes, q, request) {
-        Quiet::At(start) => finish_quiet(words, q, request, start),
-        Quiet::No => in_full(allocs, parents, protectors, words, codes, frames, request),
-    }
 }

@@ -2,8 +2,8 @@
 use Prim.Native.Nat.{ℕ, _+_, _<_, _≤_}
 use native.Mathlib.Numerals.{add-one}
 use native.Mathlib.Omega.{arith}
-use mathlib.Core.Bool.{Bool, true, false}
-use mathlib.Core.Path.{_≡_, sym, ap, subst, _∙_}
+use mathlib.Core.Bool.{true, false}
+use mathlib.Core.Path.{_≡_, sym, ap, _∙_}
 use mathlib.Core.List.{List, [], _∷_, _++_, append-assoc}
 use borrow.Author.Tests.{le-leb, lt-leb, leb-true}
 use lib.Dec.{leb·zero}
@@ -59,10 +59,6 @@ module _ (text before out : List ℕ) (w : Written) (h : WrittenTo text before o
       }
 
 -- ---- words more
--- the place of the next word, in other words
-pub written-at : {text before out : List ℕ} {at at′ : ℕ} {whole : Bool} → at ≡ at′ → WrittenTo text before out (record { at = at; whole = whole }) → WrittenTo text before out (record { at = at′; whole = whole })
-written-at {text} {before} {out} {whole = whole} e h = subst (λ (at : ℕ). WrittenTo text before out (record { at = at; whole = whole })) e h
-
 pub taken-more : (text words : List ℕ) (i : ℕ) → i < length words → (text ++ take i words) ++ (getD words i 0 ∷ []) ≡ text ++ take (i + 1) words
 taken-more text words i h = rw (append-assoc, add-one, take-suc words i 0 h)
 

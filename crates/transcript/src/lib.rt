@@ -2,10 +2,8 @@
 use answer::Answer;
 use pointer::Provenance;
 ghost use mathlib.Core.Path.{_≡_};
-ghost use mathlib.Core.Bool.{Bool};
 ghost use mathlib.Core.List.{List, [], _∷_, _++_};
-ghost use Prim.Native.Nat.{ℕ, _+_, _≤_, _<_, _^_};
-ghost use lib.Dec.{leb};
+ghost use Prim.Native.Nat.{ℕ, _<_, _^_};
 ghost use lib.ListN.{length};
 ghost use Rattle.pointer.specs.Pointer.{provenanceOf};
 ghost use Rattle.answer.specs.Answer.{answerOf};
@@ -37,22 +35,7 @@ fn put(out: &mut [u32], w: Written, word: u32) -> Written
     Written { at, whole: false }
 }
 
-// The words of a text for which there is room; where the next one goes.
-fn put_all(out: &mut [u32], at: usize, words: &[u32]) -> usize
-    requires { ⌜ at + length (now words) ≤ length (now out) ⌝ }
-    ensures end { λ r. ⌜ r ≡ at + length (now (words .entry)) ⌝ }
-    ensures written { λ r. ⌜ ((text before : List ℕ) (whole : Bool) → WrittenTo text before (now (out .entry)) (record { at = at; whole = whole })
-        → WrittenTo (text ++ now (words .entry)) before (now (out .exit)) (record { at = r; whole = whole })) ⌝ }
-{
-    let mut i: usize = 0;
-    while i < words.len() {
-        out[at + i] = words[i];
-        i += 1;
-    }
-    at + words.len()
-}
-
-// The words of a text that may be too long, each by itself.
+// The words of a text, each by itself.
 fn put_each(out: &mut [u32], w: Written, words: &[u32]) -> Written
     ensures { λ r. ⌜ ((text before : List ℕ) → WrittenTo text before (now (out .entry)) w
         → WrittenTo (text ++ now (words .entry)) before (now (out .exit)) r) ⌝ }
@@ -94,36 +77,8 @@ fn heading_of(answer: Answer, count: u32) -> [u32; 5]
     heading(answer.refusal(), given_provenance(answer), count)
 }
 
-// There is room for an answer with `count` loaded words.
-pub fn has_room(out: &[u32], at: usize, count: usize) -> bool
-    ensures { λ r. ⌜ r ≡ leb (at + (5 + count)) (length (now (out .entry))) ⌝ }
-{
-    let total = out.len();
-    if total < at {
-        return false;
-    }
-    let rest = total - at;
-    if rest < 5 {
-        return false;
-    }
-    count <= rest - 5
-}
-
-// An answer for which there is room, with its loaded words, behind the others; where the next one goes.
-pub fn put_fitting(out: &mut [u32], at: usize, answer: Answer, loaded: &[u32]) -> usize
-    requires { ⌜ length (now loaded) < 2 ^ 32 ⌝ }
-    requires { ⌜ at + (5 + length (now loaded)) ≤ length (now out) ⌝ }
-    ensures { λ r. ⌜ ((words text before : List ℕ) (whole : Bool) → now (loaded .entry) ≡ answerOf answer words .words
-        → WrittenTo text before (now (out .entry)) (record { at = at; whole = whole })
-        → WrittenTo (text ++ answerWords (answerOf answer words)) before (now (out .exit)) (record { at = r; whole = whole })) ⌝ }
-{
-    let head = heading_of(answer, loaded.len() as u32);
-    let behind_head = put_all(out, at, &head);
-    put_all(out, behind_head, loaded)
-}
-
-// An answer that may be too long.
-fn put_cut(out: &mut [u32], w: Written, answer: Answer, words: &[u32]) -> Written
+// Writes an answer behind the others. The number of its loaded words has to fit a word; there are at most as many as `words` has.
+pub fn put_answer(out: &mut [u32], w: Written, answer: Answer, words: &[u32]) -> Written
     requires { ⌜ length (answerOf answer (now words) .words) < 2 ^ 32 ⌝ }
     ensures { λ r. ⌜ ((text before : List ℕ) → WrittenTo text before (now (out .entry)) w
         → WrittenTo (text ++ answerWords (answerOf answer (now (words .entry)))) before (now (out .exit)) r) ⌝ }
@@ -132,20 +87,4 @@ fn put_cut(out: &mut [u32], w: Written, answer: Answer, words: &[u32]) -> Writte
     let head = heading_of(answer, loaded.len() as u32);
     let behind_head = put_each(out, w, &head);
     put_each(out, behind_head, loaded)
-}
-
-// Writes an answer behind the others. The number of its loaded words has to fit a word; there are at most as many as `words` has.
-pub fn put_answer(out: &mut [u32], w: Written, answer: Answer, words: &[u32]) -> Written
-    requires { ⌜ length (answerOf answer (now words) .words) < 2 ^ 32 ⌝ }
-    ensures { λ r. ⌜ ((text before : List ℕ) → WrittenTo text before (now (out .entry)) w
-        → WrittenTo (text ++ answerWords (answerOf answer (now (words .entry)))) before (now (out .exit)) r) ⌝ }
-{
-    let at = w.at;
-    let whole = w.whole;
-    let loaded = answer::loaded_words(answer, words);
-    if has_room(out, at, loaded.len()) {
-        let next = put_fitting(out, at, answer, loaded);
-        return Written { at: next, whole };
-    }
-    put_cut(out, w, answer, words)
 }

@@ -24,9 +24,10 @@ is-malformed-requires c κs = search needs
 
 returns : tie.Need-returns
 returns c = λ s h same.
-    let a = c .before .before .before .before .before .before .before in
+    let used = c .before .before .before .before in
+    let a = used .before .before .before in
     let ws = a .args .request .now in
-    let opened = ap (λ (n : ℕ). isOpen (frameAt s n)) (sym (c .before .before .before .before .frame-used .ensures .0)) ∙ sym (c .before .before .before .is-open .ensures (s .frames) h) in
+    let opened = ap (λ (n : ℕ). isOpen (frameAt s n)) (sym (used .frame-used .ensures .0)) ∙ sym (c .before .before .before .is-open .ensures (s .frames) h) in
     refused-by s ws (c .before .is-miscounted .ensures ws same refl) (a .args .q) same (c .before .before .following .ensures) (c .is-malformed .ensures s opened)
 
 pub is-refused-spec : {M : Type 1} → statement M

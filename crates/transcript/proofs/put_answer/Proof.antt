@@ -1,50 +1,58 @@
--- All of it where there is room, and else as much as there is room for.
+-- As many words as there is room for: the heading's behind the text, and the loaded ones behind the heading.
 use native.Mathlib.Omega.{arith}
-use Prim.Native.Nat.{_+_}
-use mathlib.Core.Path.{sym, ap, _∙_}
+use mathlib.Core.List.{_++_}
+use mathlib.Core.Path.{ap}
 use borrow.Author.Needs.{needs}
-use borrow.Author.Tests.{leb-true}
 use lib.ListN.{length}
+use Rattle.answer.specs.Answer.{answerOf}
+use Rattle.transcript.proofs.Answers.{answer-behind}
 use Rattle.transcript.proofs.put_answer.Statement.{statement}
 use Rattle.transcript.proofs.put_answer.Tie as tie
 
 loaded-words-requires : tie.Need-loaded-words-requires
 loaded-words-requires c κs = search needs
 
-has-room-requires : tie.Need-has-room-requires
-has-room-requires c κs = search needs
+cast-heading-of : tie.Need-cast-heading-of
+cast-heading-of c = omega (arith, ap length (c .loaded-words .ensures))
 
-put-fitting-requires : tie.Need-put-fitting-requires
-put-fitting-requires c κs =
-    let s = c .before .before .before .before .before .before .before in
-    let loaded = c .before .before .before .before .loaded-words in
-    let room = c .before .before .has-room in
-    (omega (arith, ap length (loaded .ensures)), leb-true (s .args .w .at + (5 + length (loaded .result .now))) (length (s .args .out .now)) (sym (room .ensures) ∙ c .before .if1 .taken))
+heading-of-requires : tie.Need-heading-of-requires
+heading-of-requires c κs = search needs
+
+slice-aggregate-put-each : tie.Need-slice-aggregate-put-each
+slice-aggregate-put-each c = search needs
+
+put-each-requires : tie.Need-put-each-requires
+put-each-requires c κs = search needs
+
+put-each-requires-2 : tie.Need-put-each-requires-2
+put-each-requires-2 c κs = search needs
 
 same-length : tie.Need-same-length
 same-length c = search needs
 
 returns : tie.Need-returns
-returns c = λ text before h. c .before .before .put-fitting .ensures (c .before .before .before .before .before .before .before .before .before .before .args .words .now) text before (c .before .before .before .before .before .before .before .before .before .before .args .w .whole) (c .before .before .before .before .before .before .before .loaded-words .ensures) h
-
-put-cut-requires : tie.Need-put-cut-requires
-put-cut-requires c κs = search needs
-
-same-length-2 : tie.Need-same-length-2
-same-length-2 c = search needs
-
-returns-2 : tie.Need-returns-2
-returns-2 c = search needs
+returns c =
+    let end = c .before .before in
+    let begun = end .before .before .before .before in
+    let headed = begun .before .before .before in
+    let read = headed .before in
+    let a = read .before .before .before .args in
+    let words = a .words .now in
+    let loaded = read .loaded-words in
+    let head = headed .heading-of in
+    λ text before h.
+    rw (answer-behind text (answerOf (a .answer) words) (loaded .result .now) (head .result) (loaded .ensures) (head .ensures words)) at
+    (end .put-each2 .ensures (text ++ head .result) before (begun .put-each .ensures text before h))
 
 pub put-answer-spec : {M : Type 1} → statement M
 put-answer-spec =
     tie.close
     (tie.spec
     loaded-words-requires
-    has-room-requires
-    put-fitting-requires
+    cast-heading-of
+    heading-of-requires
+    slice-aggregate-put-each
+    put-each-requires
+    put-each-requires-2
     same-length
-    returns
-    put-cut-requires
-    same-length-2
-    returns-2)
+    returns)

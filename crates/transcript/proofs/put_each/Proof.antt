@@ -40,8 +40,8 @@ loop-less c = search needs
 
 loop-again : tie.Need-loop-again Inv-loop μ-loop
 loop-again c =
-    let s = c .before .before .before .before .before .before .before .before .before in
     let at = c .before .before .before .before .before .before in
+    let s = at .before .before .before in
     let i = at .loop .i in
     let words = s .args .words .now in
     let more : i < length words = omega arith in (

@@ -31,7 +31,9 @@ returns : tie.Need-returns
 returns c = not-lent (sym (c .before .have-lengths .ensures) ∙ not-true _ (c .if1 .taken))
 
 clear-requires : tie.Need-clear-requires
-clear-requires c κs = sym (c .before .before .before .before .before .before .before .have-lengths .ensures) ∙ not-false _ (c .before .before .before .before .before .before .if1 .left)
+clear-requires c κs =
+    let tested = c .before .before .before .before .before .before in
+    sym (tested .before .have-lengths .ensures) ∙ not-false _ (tested .if1 .left)
 
 run-cleared-requires : tie.Need-run-cleared-requires
 run-cleared-requires c κs = search needs
@@ -58,7 +60,16 @@ same-length-13 : tie.Need-same-length-13
 same-length-13 c = search needs
 
 returns-2 : tie.Need-returns-2
-returns-2 c = list-ran (sym (c .before .before .before .before .before .before .before .before .before .before .before .before .before .before .before .before .before .before .before .before .before .before .before .before .before .before .before .before .before .before .before .before .before .before .before .before .before .before .before .before .before .before .have-lengths .ensures) ∙ not-false _ (c .before .before .before .before .before .before .before .before .before .before .before .before .before .before .before .before .before .before .before .before .before .before .before .before .before .before .before .before .before .before .before .before .before .before .before .before .before .before .before .before .before .if1 .left)) (c .before .before .before .before .before .before .before .before .before .before .before .before .before .before .run-cleared .ensures)
+returns-2 c =
+    let kept = c .before .before .before .before .before .before in
+    let ended = kept .before .before .before .before .before .before in
+    let ran = ended .before .before in
+    let cleared = ran .before .before .before .before .before .before in
+    let emptied = cleared .before .before .before .before .before .before in
+    let lent = emptied .before .before .before .before .before .before in
+    let given = lent .before .before .before .before .before .before in
+    let tested = given .before .before .before in
+    list-ran (sym (tested .before .have-lengths .ensures) ∙ not-false _ (tested .if1 .left)) (ran .run-cleared .ensures)
 
 pub run-list-spec : {M : Type 1} → statement M
 run-list-spec =

@@ -5,11 +5,18 @@ use borrow.Author.Needs.{needs}
 use Rattle.run.proofs.list.turn.Statement.{statement}
 use Rattle.run.proofs.list.turn.Tie as tie
 
-in-full-requires : tie.Need-in-full-requires
-in-full-requires c κs = search needs
+step-requires : tie.Need-step-requires
+step-requires c κs = search needs
 
 put-answer-requires : tie.Need-put-answer-requires
-put-answer-requires c κs = let s = c .before .before .before .before .before .before .before .before .before .before .before .before .before .before .before .before .before .before .before .before .before .before .before .before .before .before .before .before .before in omega (arith, few-words (c .before .before .before .before .before .before .before .before .before .before .before .before .before .before .in-full .ensures (s .pre .0) (s .pre .1)))
+put-answer-requires c κs =
+    let kept = c .before .before .before .before .before .before in
+    let ended = kept .before .before .before .before .before .before in
+    let stepped = ended .before .before in
+    let lent = stepped .before .before .before .before .before .before in
+    let asked = lent .before .before .before .before .before .before in
+    let s = asked .before .before .before in
+    omega (arith, few-words (stepped .step .ensures (s .pre .0) (s .pre .1)))
 
 same-length : tie.Need-same-length
 same-length c = search needs
@@ -33,13 +40,18 @@ same-length-7 : tie.Need-same-length-7
 same-length-7 c = search needs
 
 returns : tie.Need-returns
-returns c = λ s h. turned (c .before .before .before .before .before .before .before .before .before .before .before .before .before .before .before .before .before .in-full .ensures s h) (c .before .before .put-answer .ensures)
+returns c =
+    let put = c .before .before in
+    let kept = put .before .before .before .before .before .before in
+    let ended = kept .before .before .before .before .before .before in
+    let stepped = ended .before .before .before in
+    λ s h. turned (stepped .step .ensures s h) (put .put-answer .ensures)
 
 pub turn-spec : {M : Type 1} → statement M
 turn-spec =
     tie.close
     (tie.spec
-    in-full-requires
+    step-requires
     put-answer-requires
     same-length
     same-length-2

@@ -13,13 +13,25 @@ zero-parents-requires : tie.Need-zero-parents-requires
 zero-parents-requires c κs = search needs
 
 fill-requires : tie.Need-fill-requires
-fill-requires c κs = let s = c .before .before .before .before .before .before .before .before .before .before .before .before .before .before .before in omega (arith, lengths (buffers (s .args .allocs .now) (s .args .parents .now) (s .args .protectors .now) (s .args .words .now) (s .args .codes .now)) (s .args .frames .now) (s .pre) .protectors)
+fill-requires c κs =
+    let parents = c .before .before .before in
+    let records = parents .before .before .before .before in
+    let asked = records .before .before .before .before in
+    let s = asked .before .before .before .before in
+    omega (arith, lengths (buffers (s .args .allocs .now) (s .args .parents .now) (s .args .protectors .now) (s .args .words .now) (s .args .codes .now)) (s .args .frames .now) (s .pre) .protectors)
 
 fill-zero-requires : tie.Need-fill-zero-requires
 fill-zero-requires c κs = search needs
 
 fill-requires-2 : tie.Need-fill-requires-2
-fill-requires-2 c κs = let s = c .before .before .before .before .before .before .before .before .before .before .before .before .before .before .before .before .before .before .before .before .before .before .before in omega (arith, lengths (buffers (s .args .allocs .now) (s .args .parents .now) (s .args .protectors .now) (s .args .words .now) (s .args .codes .now)) (s .args .frames .now) (s .pre) .codes)
+fill-requires-2 c κs =
+    let words = c .before .before .before in
+    let protectors = words .before .before .before .before in
+    let parents = protectors .before .before .before .before in
+    let records = parents .before .before .before .before in
+    let asked = records .before .before .before .before in
+    let s = asked .before .before .before .before in
+    omega (arith, lengths (buffers (s .args .allocs .now) (s .args .parents .now) (s .args .protectors .now) (s .args .words .now) (s .args .codes .now)) (s .args .frames .now) (s .pre) .codes)
 
 fill-zero-requires-2 : tie.Need-fill-zero-requires-2
 fill-zero-requires-2 c κs = search needs
@@ -43,9 +55,19 @@ same-length-6 : tie.Need-same-length-6
 same-length-6 c = search needs
 
 returns : tie.Need-returns
-returns c = let s = c .before .before .before .before .before .before .before .before .before .before .before .before .before .before .before .before .before .before .before .before .before .before .before .before .before .before .before .before .before .before in let l = lengths (buffers (s .args .allocs .now) (s .args .parents .now) (s .args .protectors .now) (s .args .words .now) (s .args .codes .now)) (s .args .frames .now) (s .pre) in
-    empty-held (zeros (s .args .allocs .now) (l .allocs) (c .before .before .before .before .before .before .before .before .before .before .before .before .before .before .before .before .before .before .before .before .before .before .zero-records .ensures)) (zeros (s .args .parents .now) (l .parents) (c .before .before .before .before .before .before .before .before .before .before .before .before .before .before .before .before .before .before .zero-parents .ensures)) (zeros-front (s .args .protectors .now) (l .protectors) (c .before .before .before .before .before .before .before .before .before .before .before .before .before .before .fill .ensures))
-    (zeros (s .args .words .now) (l .words) (c .before .before .before .before .before .before .before .before .before .before .fill-zero .ensures)) (zeros-front (s .args .codes .now) (l .codes) (c .before .before .before .before .before .before .fill2 .ensures)) (zeros (s .args .frames .now) (l .frames) (c .before .before .fill-zero2 .ensures))
+returns c =
+    let frames = c .before .before in
+    let codes = frames .before .before .before .before in
+    let words = codes .before .before .before .before in
+    let protectors = words .before .before .before .before in
+    let parents = protectors .before .before .before .before in
+    let records = parents .before .before .before .before in
+    let asked = records .before .before .before .before in
+    let s = asked .before .before .before .before in
+    let l = lengths (buffers (s .args .allocs .now) (s .args .parents .now) (s .args .protectors .now) (s .args .words .now) (s .args .codes .now)) (s .args .frames .now) (s .pre) in
+    empty-held (zeros (s .args .allocs .now) (l .allocs) (records .zero-records .ensures)) (zeros (s .args .parents .now) (l .parents) (parents .zero-parents .ensures))
+    (zeros-front (s .args .protectors .now) (l .protectors) (protectors .fill .ensures)) (zeros (s .args .words .now) (l .words) (words .fill-zero .ensures))
+    (zeros-front (s .args .codes .now) (l .codes) (codes .fill2 .ensures)) (zeros (s .args .frames .now) (l .frames) (frames .fill-zero2 .ensures))
 
 pub clear-spec : {M : Type 1} → statement M
 clear-spec =
