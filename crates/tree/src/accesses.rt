@@ -4,7 +4,6 @@ use visit::Accesses;
 use visit::Answer;
 use visit::Reach;
 ghost use mathlib.Core.Path.{_≡_};
-ghost use mathlib.Core.Bool.{true};
 ghost use Prim.Native.Nat.{_+_, _≤_, _<_};
 ghost use lib.ListN.{length};
 ghost use Rattle.definition.specs.Tree.{accessVisit, visitRefusal, visited};
@@ -84,26 +83,5 @@ pub fn access(
             0
         }
         Answer::Refused(n) => n,
-    }
-}
-
-// The access passes and leaves every code as it is. Where this says no, `access` tells what it comes to.
-pub fn stays(
-    parents: &[u16],
-    codes: &[u8],
-    width: usize,
-    node: usize,
-    kind: AccessKind,
-    from: usize,
-    len: usize,
-) -> bool
-    requires { ⌜ Some (λ nodes. Holds nodes width (now parents) (now codes)) ⌝ }
-    requires { ⌜ (node < length (now parents)) × (from + len ≤ width) ⌝ }
-    ensures { λ r. ⌜ (r ≡ true → Each (λ nodes. Holds nodes width (now (parents .entry)) (now (codes .entry))) (λ nodes. Visited (accessVisit (accessKind kind) node from len) nodes 0 (now (codes .entry)))) ⌝ }
-{
-    match check_access(parents, codes, width, node, kind, from, len) {
-        Answer::Stays => true,
-        Answer::Changes => false,
-        Answer::Refused(_) => false,
     }
 }

@@ -6,7 +6,6 @@ mod protector;
 mod retag;
 
 pub use accesses::access;
-pub use accesses::stays;
 pub use deallocation::deallocate;
 pub use protector::release;
 pub use protector::release_dead;
