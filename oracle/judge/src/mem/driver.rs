@@ -1,5 +1,6 @@
 //! The program: runs in, outputs out.
 
+use super::itself;
 use super::print;
 use super::refusals::{last_message, Failure};
 use super::request::cut;
@@ -10,6 +11,7 @@ use std::panic::{catch_unwind, AssertUnwindSafe};
 
 const USAGE: &str =
     "usage: oracle [--list] [--start] [--batch] [--whole-counts] [--confirm-panics] [--messages] [--time N]
+       oracle --itself
   A run on standard input, document 01's output on standard output.
   --list            go on after a refusal, and print the open frames last (f)
   --start           before the run stand a 32-bit length and a text of that length: memory and frames to start
@@ -20,7 +22,9 @@ const USAGE: &str =
   --confirm-panics  check that the Rust panics where the port refuses instead (3, 14)
   --messages        print what the Rust said to refused requests to standard error
   --time N          make the run, its last request N times from the same memory, and print the nanoseconds
-                    that one of them takes, without the reading and printing";
+                    that one of them takes, without the reading and printing
+  --itself          a text on standard input, a request's words on each line: every call as it stands, and what the
+                    Rust says to it, in its own words, up to the first that it does not accept";
 
 #[derive(Clone, Copy, Default)]
 struct Mode {
@@ -31,7 +35,7 @@ struct Mode {
 
 pub fn main() -> i32 {
     let mut mode = Mode::default();
-    let mut batch = false;
+    let (mut batch, mut by_itself) = (false, false);
     let mut times = None;
     let mut arguments = std::env::args().skip(1);
     while let Some(argument) = arguments.next() {
@@ -39,6 +43,7 @@ pub fn main() -> i32 {
             "--list" => mode.list = true,
             "--start" => mode.start = true,
             "--batch" => batch = true,
+            "--itself" => by_itself = true,
             "--whole-counts" => mode.options.whole_counts = true,
             "--confirm-panics" => mode.options.confirm_panics = true,
             "--time" => times = arguments.next().and_then(|n| n.parse().ok()),
@@ -53,6 +58,7 @@ pub fn main() -> i32 {
     std::panic::set_hook(Box::new(|_| {}));
     let ended = match times {
         Some(times) => time(times, mode),
+        None if by_itself => alone(),
         None if batch => all_runs(mode),
         None => one_run(mode),
     };
@@ -69,6 +75,11 @@ fn one_run(mode: Mode) -> std::io::Result<()> {
     let mut input = Vec::new();
     std::io::stdin().lock().read_to_end(&mut input)?;
     std::io::stdout().lock().write_all(run(&input, mode).as_bytes())
+}
+
+fn alone() -> std::io::Result<()> {
+    let input = std::io::read_to_string(std::io::stdin().lock())?;
+    std::io::stdout().lock().write_all(itself::run(&input).as_bytes())
 }
 
 fn all_runs(mode: Mode) -> std::io::Result<()> {

@@ -285,11 +285,11 @@ impl State {
     }
 }
 
-fn align(exponent: u32) -> Align {
+pub fn align(exponent: u32) -> Align {
     Align::from_bytes(1u64 << exponent).unwrap()
 }
 
-fn allocation_kind(extra: u32) -> AllocationKind {
+pub fn allocation_kind(extra: u32) -> AllocationKind {
     use AllocationKind::*;
     [Stack, Heap, Global, Function, VTable][extra as usize]
 }
