@@ -61,16 +61,21 @@ impl State {
     fn ask(&mut self, line: &str) -> Said {
         let parts: Vec<&str> = line.split_whitespace().collect();
         match parts[..] {
-            ["allocate", kind, exponent, address, size] => {
-                self.ask_allocate(integer(kind) as u32, integer(exponent) as u32, integer(address), integer(size))
-            }
+            ["allocate", kind, exponent, address, size] => self.ask_allocate(
+                integer(kind) as u32,
+                integer(exponent) as u32,
+                integer(address),
+                integer(size),
+            ),
             ["signed_dereferenceable", name, address, len] => {
                 let pointer = self.ask_pointer(integer(address), Some(named(name)));
-                said(self.held.memory.signed_dereferenceable(pointer, Int::new(integer(len))), |()| Text::new())
+                let tested = self.held.memory.signed_dereferenceable(pointer, Int::new(integer(len)));
+                said(tested, |()| Text::new())
             }
             ["wrapping_offset", address, offset] => {
                 let pointer = self.ask_pointer(integer(address), None);
-                Accepted(std::format!("{}", pointer.wrapping_offset::<x86_64>(Int::new(integer(offset))).addr))
+                let moved = pointer.wrapping_offset::<x86_64>(Int::new(integer(offset)));
+                Accepted(std::format!("{}", moved.addr))
             }
             ["entry", frame, name] => {
                 let entry = self.ask_name(named(name));
@@ -104,13 +109,13 @@ impl State {
                 self.ask_allocate(kind, exponent, address as i128, size as i128)
             }
             Request::Deallocate { pointer, kind, exponent, size } => {
-                let pointer = self.ask_pointer(pointer.address as i128, pointer.provenance);
+                let pointer = self.ask_named(pointer);
                 let size = Size::from_bytes(size).unwrap();
                 let done = self.held.memory.deallocate(pointer, allocation_kind(kind), size, align(exponent));
                 said(done, |()| Text::new())
             }
             Request::Load { pointer, exponent, len } => {
-                let pointer = self.ask_pointer(pointer.address as i128, pointer.provenance);
+                let pointer = self.ask_named(pointer);
                 let len = Size::from_bytes(len).unwrap();
                 let loaded = self.held.memory.load(pointer, len, align(exponent));
                 said(loaded, |bytes| {
@@ -119,7 +124,7 @@ impl State {
                 })
             }
             Request::Store { pointer, exponent, words } => {
-                let pointer = self.ask_pointer(pointer.address as i128, pointer.provenance);
+                let pointer = self.ask_named(pointer);
                 let bytes: Vec<_> = words.iter().map(|&word| self.byte(word)).collect();
                 let stored = self.held.memory.store(pointer, List::from_slice(&bytes), align(exponent));
                 said(stored, |()| Text::new())
@@ -133,16 +138,18 @@ impl State {
                 Accepted(Text::new())
             }
             Request::EndCall { frame } => {
-                let Some(extra) = self.held.frames[frame].take() else { return NoCall("the frame is not there") };
+                let Some(extra) = self.held.frames[frame].take() else {
+                    return NoCall("the frame is not there");
+                };
                 said(self.held.memory.end_call(extra), |()| Text::new())
             }
             Request::Dereferenceable { pointer, len } => {
-                let pointer = self.ask_pointer(pointer.address as i128, pointer.provenance);
+                let pointer = self.ask_named(pointer);
                 let tested = self.held.memory.dereferenceable(pointer, Size::from_bytes(len).unwrap());
                 said(tested, |()| Text::new())
             }
             Request::SignedDereferenceable { pointer, len } => {
-                let pointer = self.ask_pointer(pointer.address as i128, pointer.provenance);
+                let pointer = self.ask_named(pointer);
                 said(self.held.memory.signed_dereferenceable(pointer, Int::from(len)), |()| Text::new())
             }
             Request::LeakCheck => said(self.held.memory.leak_check(), |()| Text::new()),
@@ -186,7 +193,7 @@ impl State {
             }
             _ => None,
         };
-        let thin = self.ask_pointer(pointer.address as i128, pointer.provenance);
+        let thin = self.ask_named(pointer);
         let mut extra = frame.map_or(RustMemory::new_call(), |frame| self.held.frames[frame].unwrap());
         let retagged = call(thin, retag, described).make(&mut self.held.memory, &mut extra);
         if let (Ok(_), Some(frame)) = (&retagged, frame) {
@@ -201,11 +208,11 @@ impl State {
         })
     }
 
-    fn ask_pointer(
-        &self,
-        address: i128,
-        name: Option<(usize, usize)>,
-    ) -> ThinPointer<TreeBorrowsProvenance> {
+    fn ask_named(&self, pointer: request::Pointer) -> ThinPointer<TreeBorrowsProvenance> {
+        self.ask_pointer(pointer.address as i128, pointer.provenance)
+    }
+
+    fn ask_pointer(&self, address: i128, name: Option<(usize, usize)>) -> ThinPointer<TreeBorrowsProvenance> {
         ThinPointer { addr: Int::new(address), provenance: name.map(|name| self.ask_name(name)) }
     }
 

@@ -56,7 +56,8 @@ fn main() -> std::io::Result<()> {
         *origins.entry(origin).or_default() += 1;
         if arguments.has("--counts") {
             let goes_on = lists || starts;
-            let (_, mut covered) = coverage::during(|| reference::output_from(memory.clone(), &bytes, goes_on));
+            let (_, mut covered) =
+                coverage::during(|| reference::output_from(memory.clone(), &bytes, goes_on));
             covered.runs = 1;
             reached.add(&covered);
         }
