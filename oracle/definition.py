@@ -3,7 +3,7 @@
 
     oracle/definition.py [--seed S] [--count N] [--bytes B] [--lists L]
 
-Takes the runs of docs/DIFFERENCES.md, which reach each bound by itself. Draws N lists that start from an empty memory, and N that start from a memory and frames drawn by chance, which reach what no run does (an end
+Takes the runs and calls of docs/DIFFERENCES.md, which reach each bound by itself. Draws N lists that start from an empty memory, and N that start from a memory and frames drawn by chance, which reach what no run does (an end
 call that is refused). It takes the first L of each that have at most B bytes, and for whatever those do not reach the list of all that does
 with the fewest bytes and codes. It asks the oracle what each comes to (its answers, and the memory and frames that it leaves), and states for each list that the
 definition comes to the same, as a closed equation which the checker computes. The equations stand in a copy of the crate `definition` under
@@ -79,7 +79,12 @@ def answer(line):
 
 
 def state(lines):
-    """The memory and the frames that the last lines of the output describe."""
+    """The state that the last lines of the output describe."""
+    memory, frames = memory_and_frames(lines)
+    return f"record {{ memory = {memory}; frames = {frames} }}"
+
+
+def memory_and_frames(lines):
     allocations, frames = [], {}
     for line in lines:
         what, *fields = line.split(" ")
@@ -98,7 +103,7 @@ def state(lines):
             entries = [] if fields[1] == "-" else fields[1:]
             frames[int(fields[0])] = "Open " + listed(provenance(entry) for entry in entries)
     memory = listed(f"record {{ {a['head']}; words = {a['words']}; nodes = {listed(a['nodes'])} }}" for a in allocations)
-    return f"record {{ memory = {memory}; frames = {listed(frames.get(f, 'Closed') for f in range(32))} }}"
+    return memory, listed(frames.get(f, "Closed") for f in range(32))
 
 
 class Case:
@@ -162,7 +167,7 @@ def header(names):
     lines = [
         "use Prim.Native.Nat.{ℕ}",
         "use mathlib.Core.Path.{_≡_, refl}",
-        "use mathlib.Core.Option.{some}",
+        "use mathlib.Core.Option.{none, some}",
         "use mathlib.Core.List.{List, [], _∷_, map}",
         "use Rattle.definition.specs.Permission.Protected.{No, Weak, Strong}",
         "use Rattle.definition.specs.Memory.Liveness.{Live, Dead}",
@@ -185,12 +190,77 @@ def asked(data, *options):
     return parts(subprocess.run([TOOLS / "oracle", "--list", "--batch", *options], input=data, stdout=subprocess.PIPE, check=True).stdout)
 
 
+def framed(data):
+    return struct.pack(">I", len(data)) + data
+
+
+def bytes_of(requests):
+    return bytes.fromhex("".join(requests).replace(" ", ""))
+
+
+def lines_after(requests):
+    """The memory and frames that a run leaves, as lines."""
+    (output,) = asked(framed(bytes_of(requests)))
+    return [line for line in output.decode().splitlines() if not line[0].isdigit()]
+
+
+class Call:
+    """A call of the library that no run has words for: its equation says what the definition answers to it."""
+
+    def __init__(self, run):
+        *before, last = run.requests
+        self.name = f"page-{run.name}"
+        self.run, self.answers, self.left, self.features = b"", [], [], set()
+        self.claim = f"{claimed(last.split(), memory_and_frames(lines_after(before))[0])} ≡ {run.said['library'][0]}"
+
+    def unanswered(self):
+        return []
+
+    def counted(self):
+        return []
+
+    def equation(self, opened):
+        return f"{self.name} : {self.claim}\nunfolding {opened}\n{self.name} = refl\n"
+
+
+def claimed(call, memory):
+    """A call in the definition's terms: its refusal, or the address that it gives."""
+    back_and_ahead = f"{max(-int(call[-1]), 0)} {max(int(call[-1]), 0)}"
+    if call[0] == "allocate":
+        _, _, exponent, address, size = call
+        return f"allocateRefusal {memory} {size} {exponent} {address}"
+    if call[0] == "signed_dereferenceable":
+        pointer = f"record {{ address = {call[2]}; provenance = some ({provenance(call[1])}) }}"
+        return f"dereferenceable ({pointer}) {back_and_ahead} {memory} .0 .refusal"
+    return f"wrappingOffset (record {{ address = {call[1]}; provenance = none }}) {back_and_ahead} .address"
+
+
+def with_entry(run):
+    """A run that is given an entry in between: what comes before it is the memory to start from."""
+    at = next(n for n, request in enumerate(run.requests) if request.startswith("entry "))
+    _, frame, entry = run.requests[at].split()
+    lines = [f"{line.removesuffix(' -')} {entry}" if line.startswith(f"f {frame} ") else line for line in lines_after(run.requests[:at])]
+    drawn = framed("".join(line + "\n" for line in lines).encode()) + bytes_of(run.requests[at + 1 :])
+    (output,) = asked(framed(drawn), "--start")
+    return Case(f"page-{run.name}", drawn, set(), output, True)
+
+
+def page_case(run):
+    if run.is_run():
+        data = bytes_of(run.requests)
+        (output,) = asked(framed(data))
+        return Case(f"page-{run.name}", data, set(), output)
+    return with_entry(run) if any(request.startswith("entry ") for request in run.requests) else Call(run)
+
+
 def page_cases():
-    """The runs of the page on differences."""
-    runs = [run for run in differences.blocks(differences.PAGE.read_text()) if run.is_run()]
-    inputs = [bytes.fromhex("".join(run.requests).replace(" ", "")) for run in runs]
-    outputs = asked(b"".join(struct.pack(">I", len(data)) + data for data in inputs))
-    return [Case(f"page-{run.name}", data, set(), output) for run, data, output in zip(runs, inputs, outputs)]
+    """The runs and calls of the page on differences. Those that only the library has must come to what the page says that it answers."""
+    runs = list(differences.blocks(differences.PAGE.read_text()))
+    cases = [page_case(run) for run in runs]
+    for run, case in zip(runs, cases):
+        if case.answers and not run.is_run() and case.answers[-1].split(" ")[1] != run.said["library"][0]:
+            sys.exit(f"{case.name}: the page says {run.said['library'][0]}, the answer is {case.answers[-1]}")
+    return cases
 
 
 def drawn_cases(seed, count, from_start):
@@ -224,6 +294,8 @@ def chosen_of(cases, most_bytes, most_lists):
 def check(cases):
     """The names of the equations that do not hold, and of those at which the checker ran out of steps."""
     proofs = WORK / "crates/definition/proofs"
+    for old in proofs.iterdir():
+        old.unlink()
     names = unfolded()
     modules = []
     for first in range(0, len(cases), EACH_FILE):
@@ -274,7 +346,7 @@ def main():
 
     cases = page_cases()
     unanswered = [case for case in cases if case.unanswered()]
-    print(f"docs/DIFFERENCES.md: {len(cases)} runs taken")
+    print(f"docs/DIFFERENCES.md: {len(cases)} runs and calls taken")
     for from_start, what in [(False, "from an empty memory"), (True, "from a memory drawn by chance")]:
         drawn = drawn_cases(chosen.seed, chosen.count, from_start)
         without = [case for case in drawn if case.unanswered()]
