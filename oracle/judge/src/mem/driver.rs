@@ -11,7 +11,7 @@ use std::panic::{catch_unwind, AssertUnwindSafe};
 
 const USAGE: &str =
     "usage: oracle [--list] [--start] [--batch] [--whole-counts] [--confirm-panics] [--messages] [--time N]
-       oracle --itself
+       oracle --itself [--batch] [--whole-counts] [--no-memory]
   A run on standard input, document 01's output on standard output.
   --list            go on after a refusal, and print the open frames last (f)
   --start           before the run stand a 32-bit length and a text of that length: memory and frames to start
@@ -24,18 +24,20 @@ const USAGE: &str =
   --time N          make the run, its last request N times from the same memory, and print the nanoseconds
                     that one of them takes, without the reading and printing
   --itself          a text on standard input, a request's words on each line: every call as it stands, and what the
-                    Rust says to it, in its own words, up to the first that it does not accept";
+                    Rust says to it, in its own words, up to the first that it does not accept
+  --no-memory       with --itself: not the memory that is left";
 
 #[derive(Clone, Copy, Default)]
 struct Mode {
     list: bool,
     start: bool,
+    itself: bool,
     options: Options,
 }
 
 pub fn main() -> i32 {
     let mut mode = Mode::default();
-    let (mut batch, mut by_itself) = (false, false);
+    let mut batch = false;
     let mut times = None;
     let mut arguments = std::env::args().skip(1);
     while let Some(argument) = arguments.next() {
@@ -43,7 +45,8 @@ pub fn main() -> i32 {
             "--list" => mode.list = true,
             "--start" => mode.start = true,
             "--batch" => batch = true,
-            "--itself" => by_itself = true,
+            "--itself" => mode.itself = true,
+            "--no-memory" => mode.options.no_memory = true,
             "--whole-counts" => mode.options.whole_counts = true,
             "--confirm-panics" => mode.options.confirm_panics = true,
             "--time" => times = arguments.next().and_then(|n| n.parse().ok()),
@@ -58,7 +61,6 @@ pub fn main() -> i32 {
     std::panic::set_hook(Box::new(|_| {}));
     let ended = match times {
         Some(times) => time(times, mode),
-        None if by_itself => alone(),
         None if batch => all_runs(mode),
         None => one_run(mode),
     };
@@ -75,11 +77,6 @@ fn one_run(mode: Mode) -> std::io::Result<()> {
     let mut input = Vec::new();
     std::io::stdin().lock().read_to_end(&mut input)?;
     std::io::stdout().lock().write_all(run(&input, mode).as_bytes())
-}
-
-fn alone() -> std::io::Result<()> {
-    let input = std::io::read_to_string(std::io::stdin().lock())?;
-    std::io::stdout().lock().write_all(itself::run(&input).as_bytes())
 }
 
 fn all_runs(mode: Mode) -> std::io::Result<()> {
@@ -125,6 +122,9 @@ fn time(times: u32, mode: Mode) -> std::io::Result<()> {
 /// The whole output of one run.
 fn run(input: &[u8], mode: Mode) -> String {
     libspecr::hidden::reset();
+    if mode.itself {
+        return itself::run(std::str::from_utf8(input).expect("a text"), mode.options);
+    }
     let (mut state, input) = if mode.start {
         let (length, after) = input.split_at(4);
         let length = u32::from_be_bytes(length.try_into().expect("four bytes")) as usize;

@@ -12,7 +12,7 @@ use super::request::{self, Request, Retag};
 use super::retag::call;
 use super::state::{align, allocation_kind, Options, RustMemory, State};
 use super::*;
-use libspecr::hidden::{propose, reset};
+use libspecr::hidden::propose;
 use std::fmt::Write;
 use std::panic::{catch_unwind, AssertUnwindSafe};
 
@@ -29,9 +29,11 @@ enum Said {
 
 use Said::{Accepted, Ended, NoCall};
 
-pub fn run(input: &str) -> Text {
-    reset();
-    let mut state = State::new(Options { whole_counts: true, ..Options::default() });
+/// The Rust writes a mask down byte by byte; longer ones are not asked for.
+const LONGEST_MASK: u64 = 1 << 20;
+
+pub fn run(input: &str, options: Options) -> Text {
+    let mut state = State::new(options);
     let mut out = Text::new();
     let lines = input.lines().map(|line| line.split('#').next().unwrap_or("").trim());
     for (index, line) in lines.filter(|line| !line.is_empty()).enumerate() {
@@ -47,8 +49,10 @@ pub fn run(input: &str) -> Text {
             break;
         }
     }
-    print::allocations(&mut out, &state, |out, number, root| paths(out, number, root, "/"));
-    frames(&mut out, &state);
+    if !options.no_memory {
+        print::allocations(&mut out, &state, |out, number, root| paths(out, number, root, "/"));
+        frames(&mut out, &state);
+    }
     out
 }
 
@@ -90,7 +94,8 @@ impl State {
     }
 
     fn ask_words(&mut self, parts: &[&str]) -> Said {
-        let words: Option<Vec<u32>> = parts.iter().map(|part| u32::from_str_radix(part, 16).ok()).collect();
+        let word = |part: &&str| u32::from_str_radix(part, 16).ok().filter(|_| part.len() == 8);
+        let words: Option<Vec<u32>> = parts.iter().map(word).collect();
         let Some(words) = words else { return NoCall("not words") };
         let bytes: Vec<u8> = words.iter().flat_map(|word| word.to_be_bytes()).collect();
         match request::cut(&bytes, 0) {
@@ -186,9 +191,12 @@ impl State {
         }
         let described = match retag {
             Retag::Safe { words, .. } if !retag.is_pinned() => {
-                let Some(given) = layout::given(words, true) else {
+                let Some(given) = layout::given(words, self.options.whole_counts) else {
                     return NoCall("layout words are missing or left over");
                 };
+                if given.described.mask_len > LONGEST_MASK {
+                    return NoCall("the mask is too long to be written down");
+                }
                 Some(given.described)
             }
             _ => None,

@@ -41,6 +41,8 @@ pub struct Options {
     pub messages: bool,
     /// Where the port refuses with 3 or 14 and the Rust panics, see to it that it does.
     pub confirm_panics: bool,
+    /// Of the Rust by itself, print the answers alone.
+    pub no_memory: bool,
 }
 
 pub struct State {
