@@ -49,7 +49,7 @@ MESSAGES = {
 TREE = [17, 18, 19, 20, 21, 22, 23, 24]
 # Section 1: a refusal here, and what the Rust may say instead: its words, or the number of its message.
 NAMED = {
-    2: ["no call", "accepted", 6, 7, 8, 9, 10, 11, 12, 13],
+    2: ["no call", "accepted", "this address is not picked", 6, 7, 8, 9, 10, 11, 12, 13],
     3: ["no call", "accepted", "panic", 7, 8, 9, 17, 21],
     4: ["accepted", "panic", 6, 8, 9, 10, 11, 12, 13, *TREE],
     5: ["this address is not picked"],
