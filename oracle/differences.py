@@ -191,6 +191,7 @@ def search(seed, count):
     for (requests, answers), output in zip(made, parts(outputs)):
         said = [line.split(" ", 1)[1] for line in output.decode().splitlines()]
         if not answers:
+            found["no request"] += 1
             continue
         refusal = int(answers[-1][1])
         agrees = len(said) == len(answers) and (said[-1].startswith("accepted") if refusal == 0 else is_same(refusal, said[-1]))
