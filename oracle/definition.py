@@ -18,11 +18,11 @@ import collections
 import pathlib
 import re
 import shutil
-import struct
 import subprocess
 import sys
 
 import differences
+from differences import following, framed, parts, requests_of
 
 HERE = pathlib.Path(__file__).resolve().parent
 ROOT = HERE.parent
@@ -48,15 +48,6 @@ ANSWERS = {
     "cut short": [2],
 }
 KIND_NAMES = list(ANSWERS)
-
-
-def parts(data):
-    """The byte strings of a file in which each stands behind its 32-bit length."""
-    at = 0
-    while at < len(data):
-        (length,) = struct.unpack(">I", data[at : at + 4])
-        yield data[at + 4 : at + 4 + length]
-        at += 4 + length
 
 
 def listed(items):
@@ -138,19 +129,17 @@ class Case:
 
     def counted(self):
         """Kind and refusal of each request."""
-        for kind, line in zip(kinds(self.run), self.answers):
-            yield kind, int(line.split(" ")[1])
+        for request, line in zip(requests_of(self.run), self.answers):
+            yield kind_of(request), int(line.split(" ")[1])
 
 
-def kinds(run):
-    """The kind of each request of a run's bytes, in words."""
-    at = 0
-    while at < len(run):
-        first, fourth = (int.from_bytes(run[at + n : at + n + 4], "big") for n in (0, 12))
-        follow = {3: fourth, 4: fourth % 2**23 if first % 8 < 3 else 0}.get(first >> 28, 0)
-        end = at + 16 + 4 * follow
-        yield "cut short" if len(run) - at < 16 or end > len(run) else KIND_NAMES[min(first >> 28, 10)]
-        at = end if len(run) - at >= 16 else len(run)
+def kind_of(request):
+    """The kind of a request, given by its words, in words."""
+    words = request.split(" ")
+    if len(words) < 4 or len(words[-1]) < 8:
+        return "cut short"
+    first, fourth = int(words[0], 16), int(words[3], 16)
+    return KIND_NAMES[min(first >> 28, 10)] if len(words) == 4 + following(first, fourth) else "cut short"
 
 
 def unfolded():
@@ -188,10 +177,6 @@ def equations(cases, names):
 def asked(data, *options):
     """What the Rust says to each list of the data."""
     return parts(subprocess.run([TOOLS / "oracle", "--list", "--batch", *options], input=data, stdout=subprocess.PIPE, check=True).stdout)
-
-
-def framed(data):
-    return struct.pack(">I", len(data)) + data
 
 
 def bytes_of(requests):

@@ -136,13 +136,17 @@ def judged(run):
     return wrong
 
 
+def following(first, fourth):
+    """How many words follow the fourth: a store's bytes, a retag's layout."""
+    return {3: fourth, 4: fourth % 2**23 if first % 8 < 3 else 0}.get(first >> 28, 0)
+
+
 def requests_of(data):
     """A run's requests, each as its words in hexadecimal; the last may be cut short."""
     at = 0
     while at < len(data):
         first, fourth = (int.from_bytes(data[at + n : at + n + 4], "big") for n in (0, 12))
-        follow = {3: fourth, 4: fourth % 2**23 if first % 8 < 3 else 0}.get(first >> 28, 0)
-        end = min(at + 16 + 4 * follow, len(data)) if len(data) - at >= 16 else len(data)
+        end = min(at + 16 + 4 * following(first, fourth), len(data)) if len(data) - at >= 16 else len(data)
         yield " ".join(data[n : min(n + 4, end)].hex() for n in range(at, end, 4))
         at = end
 
