@@ -1,19 +1,28 @@
 #!/usr/bin/env python3
 """Evaluates the definition on generated lists of requests and compares it with the Rust.
 
-    oracle/definition.py [--seed S] [--count N] [--bytes B]
+    oracle/definition.py [--seed S] [--count N] [--bytes B] [--lists L]
 
-Takes the lists of the seed that have at most B bytes, asks the oracle what each comes to (its answers, and the memory and frames that it
-leaves), and states for each list that the definition comes to the same, as a closed equation which the checker computes. The equations stand in a
-copy of the crate `definition` under target/, which is then checked. Nothing is assumed: an equation that does not hold is an error that names it.
+Takes the runs and calls of docs/DIFFERENCES.md, which reach each bound by itself. Draws N lists that start from an empty memory, and N that start from a memory and frames drawn by chance, which reach what no run does (an end
+call that is refused). It takes the first L of each that have at most B bytes, and for whatever those do not reach the list of all that does
+with the fewest bytes and codes. It asks the oracle what each comes to (its answers, and the memory and frames that it leaves), and states for each list that the
+definition comes to the same, as a closed equation which the checker computes. The equations stand in a copy of the crate `definition` under
+target/, which is then checked. Nothing is assumed: an equation that does not hold is an error that names it.
+
+It says how many lists it passed over and why (too long, or too large a memory for the checker's steps), and what the others reached: answers by kind of request, the 60 combinations of code, access and
+relation, kinds of retags and layouts. The exit status is 1 if an equation does not hold, if the Rust has no answer to a list, or if an answer
+or combination that there is was not reached. Refusal 1 is not among them: it is about lent buffers, which the definition's requests do not have.
 """
 import argparse
+import collections
 import pathlib
 import re
 import shutil
-import struct
 import subprocess
 import sys
+
+import differences
+from differences import following, framed, parts, requests_of
 
 HERE = pathlib.Path(__file__).resolve().parent
 ROOT = HERE.parent
@@ -22,15 +31,23 @@ WORK = ROOT / "target" / "definition-on-runs"
 EACH_FILE = 50
 KINDS = {"stack": "Stack", "heap": "Heap", "global": "Global", "function": "Function", "vtable": "VTable"}
 MARKS = {"no": "No", "weak": "Weak", "strong": "Strong"}
-
-
-def parts(data):
-    """The byte strings of a file in which each stands behind its 32-bit length."""
-    at = 0
-    while at < len(data):
-        (length,) = struct.unpack(">I", data[at : at + 4])
-        yield data[at + 4 : at + 4 + length]
-        at += 4 + length
+# The answers that each kind of request can get. An end call's 4 and 16 to 23 need a memory and frames that no run makes.
+ACCESS = [0, 2, 4, 6, 7, 8, 9]
+ANSWERS = {
+    "allocate": [0, 2, 5, 15],
+    "deallocate": [0, 2, 4, 7, 8, 10, 11, 12, 13, 18, 19, 20, 22, 23, 24],
+    "load": ACCESS + [17, 21],
+    "store": ACCESS + [18, 19, 20, 22, 23],
+    "retag": [0, 2, 3, 4, 7, 8, 9, 14, 15, 17, 21],
+    "new call": [0, 2],
+    "end call": [0, 2, 4, 16, 17, 18, 19, 20, 21, 22, 23],
+    "dereferenceable": [0, 2, 4, 7, 8, 9],
+    "signed dereferenceable": [0, 2, 4, 7, 8, 9],
+    "leak check": [0, 2, 25],
+    "kinds 10 to 15": [2],
+    "cut short": [2],
+}
+KIND_NAMES = list(ANSWERS)
 
 
 def listed(items):
@@ -53,7 +70,12 @@ def answer(line):
 
 
 def state(lines):
-    """The memory and the frames that the last lines of the output describe."""
+    """The state that the last lines of the output describe."""
+    memory, frames = memory_and_frames(lines)
+    return f"record {{ memory = {memory}; frames = {frames} }}"
+
+
+def memory_and_frames(lines):
     allocations, frames = [], {}
     for line in lines:
         what, *fields = line.split(" ")
@@ -72,13 +94,52 @@ def state(lines):
             entries = [] if fields[1] == "-" else fields[1:]
             frames[int(fields[0])] = "Open " + listed(provenance(entry) for entry in entries)
     memory = listed(f"record {{ {a['head']}; words = {a['words']}; nodes = {listed(a['nodes'])} }}" for a in allocations)
-    return f"record {{ memory = {memory}; frames = {listed(frames.get(f, 'Closed') for f in range(32))} }}"
+    return memory, listed(frames.get(f, "Closed") for f in range(32))
 
 
-def expected(output):
-    lines = output.decode().splitlines()
-    answers = [line for line in lines if line[0].isdigit()]
-    return listed(map(answer, answers)), state([line for line in lines if not line[0].isdigit()])
+class Case:
+    """A list of requests: the text of the memory that it starts from, if any, its bytes, what it reaches, and what the Rust says to it."""
+
+    def __init__(self, name, drawn, features, output, from_start=False):
+        length = 4 + int.from_bytes(drawn[:4], "big") if from_start else 0
+        self.name = name
+        self.start = drawn[4:length].decode().splitlines() if from_start else None
+        self.run = drawn[length:]
+        self.size = len(drawn)
+        self.features = features
+        lines = output.decode().splitlines()
+        self.answers = [line for line in lines if line[0].isdigit()]
+        self.left = [line for line in lines if not line[0].isdigit()]
+
+    def cost(self):
+        """How much there is to compute, roughly: bytes, and codes in the end."""
+        return self.size + 4 * sum(len(line.split(" ")[5]) for line in self.left if line[0] == "n")
+
+    def unanswered(self):
+        """What stands where the Rust had no answer."""
+        return [line for line in self.answers if line.split(" ")[1] == "!"]
+
+    def equation(self, opened):
+        start = "empty" if self.start is None else f"({state(self.start)})"
+        requests = listed(map(str, self.run))
+        return (
+            f"{self.name} : run {start} (requestsOf {requests}) ≡ ({listed(map(answer, self.answers))}, {state(self.left)})\n"
+            f"unfolding {opened}\n{self.name} = refl\n"
+        )
+
+    def counted(self):
+        """Kind and refusal of each request."""
+        for request, line in zip(requests_of(self.run), self.answers):
+            yield kind_of(request), int(line.split(" ")[1])
+
+
+def kind_of(request):
+    """The kind of a request, given by its words, in words."""
+    words = request.split(" ")
+    if len(words) < 4 or len(words[-1]) < 8:
+        return "cut short"
+    first, fourth = int(words[0], 16), int(words[3], 16)
+    return KIND_NAMES[min(first >> 28, 10)] if len(words) == 4 + following(first, fourth) else "cut short"
 
 
 def unfolded():
@@ -95,7 +156,7 @@ def header(names):
     lines = [
         "use Prim.Native.Nat.{ℕ}",
         "use mathlib.Core.Path.{_≡_, refl}",
-        "use mathlib.Core.Option.{some}",
+        "use mathlib.Core.Option.{none, some}",
         "use mathlib.Core.List.{List, [], _∷_, map}",
         "use Rattle.definition.specs.Permission.Protected.{No, Weak, Strong}",
         "use Rattle.definition.specs.Memory.Liveness.{Live, Dead}",
@@ -110,30 +171,116 @@ def header(names):
 def equations(cases, names):
     """A file of closed equations, one for each list."""
     opened = " ".join(name for own in names.values() for name in own)
-    text = [header(names)]
-    for number, (run, output) in cases:
-        answers, left = expected(output)
-        text.append(f"list-{number} : run empty (requestsOf {listed(map(str, run))}) ≡ ({answers}, {left})\nunfolding {opened}\nlist-{number} = refl\n")
-    return "\n".join(text)
+    return "\n".join([header(names)] + [case.equation(opened) for case in cases])
 
 
-def main():
-    options = argparse.ArgumentParser(description=__doc__, formatter_class=argparse.RawDescriptionHelpFormatter)
-    options.add_argument("--seed", type=int, default=1)
-    options.add_argument("--count", type=int, default=400, help="how many lists are drawn")
-    options.add_argument("--bytes", type=int, default=300, help="longer ones are passed over")
-    chosen = options.parse_args()
+def asked(data, *options):
+    """What the Rust says to each list of the data."""
+    return parts(subprocess.run([TOOLS / "oracle", "--list", "--batch", *options], input=data, stdout=subprocess.PIPE, check=True).stdout)
 
-    shutil.rmtree(WORK, ignore_errors=True)
-    shutil.copytree(ROOT / "crates/definition", WORK / "crates/definition", ignore=shutil.ignore_patterns("proofs", "must-fail"))
-    (WORK / "crates.txt").write_text("definition:\n")
+
+def bytes_of(requests):
+    return bytes.fromhex("".join(requests).replace(" ", ""))
+
+
+def lines_after(requests):
+    """The memory and frames that a run leaves, as lines."""
+    (output,) = asked(framed(bytes_of(requests)))
+    return [line for line in output.decode().splitlines() if not line[0].isdigit()]
+
+
+class Call:
+    """A call of the library that no run has words for: its equation says what the definition answers to it."""
+
+    def __init__(self, run):
+        *before, last = run.requests
+        self.name = f"page-{run.name}"
+        self.run, self.answers, self.left, self.features = b"", [], [], set()
+        self.claim = f"{claimed(last.split(), memory_and_frames(lines_after(before))[0])} ≡ {run.said['library'][0]}"
+
+    def unanswered(self):
+        return []
+
+    def counted(self):
+        return []
+
+    def equation(self, opened):
+        return f"{self.name} : {self.claim}\nunfolding {opened}\n{self.name} = refl\n"
+
+
+def claimed(call, memory):
+    """A call in the definition's terms: its refusal, or the address that it gives."""
+    back_and_ahead = f"{max(-int(call[-1]), 0)} {max(int(call[-1]), 0)}"
+    if call[0] == "allocate":
+        _, _, exponent, address, size = call
+        return f"allocateRefusal {memory} {size} {exponent} {address}"
+    if call[0] == "signed_dereferenceable":
+        pointer = f"record {{ address = {call[2]}; provenance = some ({provenance(call[1])}) }}"
+        return f"dereferenceable ({pointer}) {back_and_ahead} {memory} .0 .refusal"
+    return f"wrappingOffset (record {{ address = {call[1]}; provenance = none }}) {back_and_ahead} .address"
+
+
+def with_entry(run):
+    """A run that is given an entry in between: what comes before it is the memory to start from."""
+    at = next(n for n, request in enumerate(run.requests) if request.startswith("entry "))
+    _, frame, entry = run.requests[at].split()
+    lines = [f"{line.removesuffix(' -')} {entry}" if line.startswith(f"f {frame} ") else line for line in lines_after(run.requests[:at])]
+    drawn = framed("".join(line + "\n" for line in lines).encode()) + bytes_of(run.requests[at + 1 :])
+    (output,) = asked(framed(drawn), "--start")
+    return Case(f"page-{run.name}", drawn, set(), output, True)
+
+
+def page_case(run):
+    if run.is_run():
+        data = bytes_of(run.requests)
+        (output,) = asked(framed(data))
+        return Case(f"page-{run.name}", data, set(), output)
+    return with_entry(run) if any(request.startswith("entry ") for request in run.requests) else Call(run)
+
+
+def page_cases():
+    """The runs and calls of the page on differences. Those that only the library has must come to what the page says that it answers."""
+    runs = list(differences.blocks(differences.PAGE.read_text()))
+    cases = [page_case(run) for run in runs]
+    for run, case in zip(runs, cases):
+        if case.answers and not run.is_run() and case.answers[-1].split(" ")[1] != run.said["library"][0]:
+            sys.exit(f"{case.name}: the page says {run.said['library'][0]}, the answer is {case.answers[-1]}")
+    return cases
+
+
+def drawn_cases(seed, count, from_start):
+    """The lists of a seed, with what each reaches and what the Rust says to it."""
+    lists, reached = WORK / "lists", WORK / "reached"
+    options = ["--starts"] if from_start else []
+    command = [TOOLS / "generate", *options, "--seed", str(seed), "--count", str(count), "--out", lists, "--reached", reached]
+    subprocess.run(command, check=True, stdout=subprocess.DEVNULL)
+    data = lists.read_bytes()
+    options = ["--start"] if from_start else []
+    outputs = asked(data, *options)
+    features = [set(filter(None, line.split("; "))) for line in reached.read_text().splitlines()]
+    name = "start" if from_start else "list"
+    parted = zip(parts(data), features, outputs)
+    return [Case(f"{name}-{n}", drawn, own, output, from_start) for n, (drawn, own, output) in enumerate(parted)]
+
+
+def chosen_of(cases, most_bytes, most_lists):
+    """The first short ones, and for what they do not reach the smallest that does."""
+    short = [case for case in cases if case.cost() <= most_bytes]
+    chosen = short[:most_lists]
+    reached = set().union(*(case.features for case in chosen))
+    added = []
+    for case in sorted(cases, key=Case.cost):
+        if not case.features <= reached:
+            added.append(case)
+            reached |= case.features
+    return chosen, added, len(cases) - len(short)
+
+
+def check(cases):
+    """The names of the equations that do not hold, and of those at which the checker ran out of steps."""
     proofs = WORK / "crates/definition/proofs"
-    proofs.mkdir()
-    drawn = WORK / "lists"
-    subprocess.run([TOOLS / "generate", "--seed", str(chosen.seed), "--count", str(chosen.count), "--out", drawn], check=True, stdout=subprocess.DEVNULL, stderr=subprocess.DEVNULL)
-    data = drawn.read_bytes()
-    outputs = subprocess.run([TOOLS / "oracle", "--list", "--batch"], input=data, stdout=subprocess.PIPE, check=True).stdout
-    cases = [(n, case) for n, case in enumerate(zip(parts(data), parts(outputs))) if len(case[0]) <= chosen.bytes and b" ! " not in case[1]]
+    for old in proofs.iterdir():
+        old.unlink()
     names = unfolded()
     modules = []
     for first in range(0, len(cases), EACH_FILE):
@@ -141,12 +288,74 @@ def main():
         (proofs / f"{modules[-1]}.antt").write_text(equations(cases[first : first + EACH_FILE], names))
     (proofs / "Lib.antt").write_text("".join(f"mod {module}\n" for module in modules))
     checked = subprocess.run(["rt", "dev", "definition"], cwd=WORK, stdout=subprocess.PIPE, stderr=subprocess.STDOUT, text=True)
-    wrong = sorted(set(re.findall(r"error: `(list-\d+)`", checked.stdout)))
-    requests = sum(sum(line[0].isdigit() for line in output.decode().splitlines()) for _, (_, output) in cases)
-    if wrong or "logic=proved" not in checked.stdout:
-        print(checked.stdout[-3000:])
-        sys.exit(f"seed {chosen.seed}: the definition differs from the Rust at {wrong or 'a list that is not named'}")
+    errors = re.findall(r"error: `((?:list|start|page)-\w+)`(.*)", checked.stdout)
+    if not errors and "logic=proved" not in checked.stdout:
+        sys.exit(checked.stdout[-3000:] + "\nthe equations were not checked")
+    too_large = {name for name, why in errors if "step limit" in why}
+    return sorted({name for name, _ in errors} - too_large), sorted(too_large)
+
+
+def report(cases):
+    """What was reached; gives back what is missing."""
+    counts = collections.Counter(pair for case in cases for pair in case.counted())
+    missing = []
+    print("answers, by kind of request:")
+    for kind, answers in ANSWERS.items():
+        others = {refusal for of, refusal in counts if of == kind and refusal not in answers}
+        missing += [f"{kind} {refusal}" for refusal in answers if not counts[kind, refusal]] + [f"{kind} {refusal}, which is not expected" for refusal in others]
+        print(f"  {kind}: " + ", ".join(f"{refusal} {counts[kind, refusal]} times" for refusal in answers))
+    features = set().union(*(case.features for case in cases))
+    pairs = {tuple(map(int, feature.split(" ")[1:])) for feature in features if feature.startswith("pair ")}
+    all_pairs = {(code, access, relation) for code in range(15) for access in (0, 1) for relation in (0, 1)}
+    missing += [f"code {code:x}, {['read', 'write'][access]}, {['local', 'foreign'][relation]}" for code, access, relation in sorted(all_pairs - pairs)]
+    layouts = sum(not feature.startswith(("pair ", "kind ")) for feature in features)
+    refusals = sorted({refusal for _, refusal in counts if refusal})
+    print(f"refusals: {', '.join(map(str, refusals))}")
+    print(f"combinations of code, access and relation: {len(pairs & all_pairs)} of 60; kinds of retags and layouts: {layouts}")
+    print(f"missing: {', '.join(missing) or 'none'}")
+    return missing
+
+
+def main():
+    options = argparse.ArgumentParser(description=__doc__, formatter_class=argparse.RawDescriptionHelpFormatter)
+    options.add_argument("--seed", type=int, default=1)
+    options.add_argument("--count", type=int, default=20000, help="how many lists of each sort are drawn")
+    options.add_argument("--bytes", type=int, default=300, help="larger ones (bytes, and four for each code) are taken only for what the others do not reach")
+    options.add_argument("--lists", type=int, default=1000, help="how many of the short ones of each sort are taken")
+    chosen = options.parse_args()
+
+    shutil.rmtree(WORK, ignore_errors=True)
+    shutil.copytree(ROOT / "crates/definition", WORK / "crates/definition", ignore=shutil.ignore_patterns("proofs", "must-fail"))
+    (WORK / "crates.txt").write_text("definition:\n")
+    (WORK / "crates/definition/proofs").mkdir()
+
+    cases = page_cases()
+    unanswered = [case for case in cases if case.unanswered()]
+    print(f"docs/DIFFERENCES.md: {len(cases)} runs and calls taken")
+    for from_start, what in [(False, "from an empty memory"), (True, "from a memory drawn by chance")]:
+        drawn = drawn_cases(chosen.seed, chosen.count, from_start)
+        without = [case for case in drawn if case.unanswered()]
+        unanswered += without
+        short, added, longer = chosen_of([case for case in drawn if case not in without], chosen.bytes, chosen.lists)
+        cases += short + added
+        rest = len(drawn) - len(without) - len(short) - len(added)
+        print(f"seed {chosen.seed}, {what}: {len(drawn)} lists drawn, {len(short)} short ones taken and {len(added)} for what those do not reach")
+        print(f"  passed over: {len(without)} without an answer of the Rust, {rest} others, as {longer} are larger than {chosen.bytes} or the number was full")
+    for case in unanswered:
+        print(f"  {case.name}: {case.unanswered()[0]}")
+    cases = [case for case in cases if not case.unanswered()]
+    wrong, too_large = check(cases)
+    if too_large and not wrong:
+        # The others have no verdict before the checker comes to an end.
+        cases = [case for case in cases if case.name not in too_large]
+        wrong, _ = check(cases)
+    print(f"  passed over: {len(too_large)} that take the checker too many steps {too_large or ''}")
+    missing = report(cases)
+    if wrong:
+        sys.exit(f"seed {chosen.seed}: the definition differs from the Rust at {wrong}")
+    requests = sum(len(case.answers) for case in cases)
     print(f"seed {chosen.seed}: {len(cases)} lists with {requests} requests, the definition and the Rust agree on all")
+    sys.exit(1 if missing or unanswered else 0)
 
 
 if __name__ == "__main__":

@@ -50,7 +50,8 @@ inMemory s outcome = (outcome .0, record { memory = outcome .1; frames = s .fram
 unfoldable pub newCall : ℕ → State → Answer × State
 newCall f s = (accepted, record { memory = s .memory; frames = set (s .frames) f (Open []) })
 
--- ---- the release of one entry
+-- ---- the release of one entry: the end of its protector (Permission, `protectorEnd`). The paper: the access at its end is made through the protected node
+-- and reaches the nodes that are no descendants of it; these were used through it, and a write of their parent, foreign to them, would disable them
 -- 16: the node is not marked protected, or holds an unprotected permission
 abbrev pub lacksProtector : Node → Bool
 lacksProtector x = not (isYes (x .protected)) || any (λ p. not (isProtected p)) (x .permissions)
@@ -64,7 +65,8 @@ abbrev pub unprotectNode : Liveness → Node → Node
 unprotectNode state x =
     record { parent = x .parent; protected = markAfter state (x .protected); permissions = map unprotected (x .permissions) }
 
--- "its accesses reach every node but it and its descendants": at each byte, the access that the node's permission there makes
+-- "its accesses reach every node but it and its descendants": local to its ancestors, foreign to the rest;
+-- at each byte, the access that the node's permission there makes
 abbrev pub releaseVisit : ℕ → List Node → Visit
 releaseVisit n nodes =
     record {

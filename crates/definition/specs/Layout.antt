@@ -72,13 +72,15 @@ sliceMask NoMetadata size cells = none
 sliceMask (ElementCount count) size cells = boundedMask (count * size) (λ b. isFreeze cells (b % size))
 sliceMask VTablePointer size cells = none
 
--- none for "a trait object without vtable metadata"
+-- none for "a trait object without vtable metadata". "For a trait object the caller supplies the size and cells that the Rust looks up in `VTable`": the
+-- header and its cells
 abbrev pub traitObjectMask : PointerMeta → ℕ → List UnsafeCell → Option FreezeMask
 traitObjectMask NoMetadata size cells = none
 traitObjectMask (ElementCount count) size cells = none
 traitObjectMask VTablePointer size cells = sizedMask size cells
 
--- "a tuple's mask is its head's, and the tail's part directly after it"; the bound is of the whole (decision 19)
+-- "a tuple's mask is its head's, and the tail's part directly after it"; the bound is of the whole (decision 19). As mem.rs:
+-- lang.rs aligns the tail (docs/DIFFERENCES.md, section 3)
 abbrev pub tupleMask : Option FreezeMask → Option FreezeMask → Option FreezeMask
 tupleMask none tail = none
 tupleMask (some head) none = none

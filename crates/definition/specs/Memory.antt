@@ -109,6 +109,7 @@ pub record Answer : Type 0 where
   pub pointer : Option Provenance
   pub words : List ℕ
 
+-- with 0, which is no refusal, it is `accepted`
 abbrev pub refusedWith : ℕ → Answer
 refusedWith n = record { refusal = n; pointer = none; words = [] }
 
@@ -147,7 +148,8 @@ checkPtr a p back ahead =
     or deadAllocation when not (isLive (a .state))
     or outOfBounds when isOutside a p back ahead
 
--- ---- load and store: one access each. A load has no bytes to store; a store's length is that of its bytes
+-- ---- load and store: one access each, a read or a write through the pointer's node (the paper).
+-- A load has no bytes to store; a store's length is that of its bytes
 pub record MemoryAccess : Type 0 where
   pub kind : AccessKind
   pub pointer : ThinPointer
@@ -227,7 +229,8 @@ nodeCount a = length (a .nodes)
 abbrev pub codeCount : Allocation → ℕ
 codeCount a = nodeCount a * size a
 
--- 15: the memory with so much more would exceed a bound
+-- 15: the memory with so much more would exceed a bound. "The Rust's first test, for a too large allocation, has its place here.": a size that it turns
+-- down, from 2^63 on, exceeds the words
 unfoldable pub exceedsBounds : Memory → Sizes → Bool
 exceedsBounds m more =
     ltb (bounds .allocations) (length m + more .allocations)
@@ -239,7 +242,7 @@ exceedsBounds m more =
 abbrev pub ofAllocation : ℕ → Sizes
 ofAllocation len = record { allocations = 1; words = len; nodes = 1; codes = len }
 
--- the root is Unique, the bytes are uninitialised
+-- the root is Unique (the paper: whoever made the allocation has it for itself), the bytes are uninitialised
 unfoldable pub newAllocation : AllocationKind → ℕ → ℕ → ℕ → Allocation
 newAllocation kind len exponent address =
     record {
@@ -265,7 +268,9 @@ unfoldable pub allocate : AllocationKind → ℕ → ℕ → ℕ → Memory → 
 allocate kind len exponent address m =
     unlessRefused (allocateRefusal m len exponent address) m (acceptAllocate kind len exponent address m)
 
--- ---- deallocate: a write to all bytes, then 24 on the permissions as written (decision 31)
+-- ---- deallocate: a write to all bytes, then 24 on the permissions as written (decision 31). The paper: a deallocation is a write of the whole allocation,
+-- and undefined behaviour under a protector. "Deallocation under a strong protector that prevents it.": one that protects a byte which was accessed, the
+-- write itself included, so that a node on the pointer's path prevents it too; a weak one never does
 -- `contains_strong_protector_preventing_deallocation`, at one node
 abbrev pub nodePreventsDeallocation : Node → Bool
 nodePreventsDeallocation x = isStrong (x .protected) && any preventsDeallocation (x .permissions)
@@ -297,7 +302,7 @@ unfoldable pub deallocate : ThinPointer → AllocationKind → ℕ → ℕ → M
 deallocate p kind len exponent m =
     unlessRefused (deallocateRefusal m p kind len exponent) m (acceptDeallocate p m)
 
--- ---- `dereferenceable` and `signed_dereferenceable`: they change nothing.
+-- ---- `dereferenceable` and `signed_dereferenceable`, which stands above it: a length is so many bytes back or ahead. They change nothing.
 -- "A negative signed length reaches back from the pointer; no address wraps there."
 unfoldable pub dereferenceable : ThinPointer → ℕ → ℕ → Memory → Answer × Memory
 dereferenceable p back ahead m = (

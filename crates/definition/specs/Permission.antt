@@ -1,4 +1,16 @@
 -- One permission, one access. mem.rs: `PermissionUnprot`, `PermissionProt`, `Permission`, `Protected`; document 01: "One access, one permission".
+--
+-- The paper is "Tree Borrows" (Villani, Hostert, Dreyer, Jung, PLDI 2025): a state machine for each node and byte, whose states are
+--   Reserved             a mutable reference that has not been written through: a two-phase borrow before its activation, others may still read
+--   Reserved, conflicted the same, under a protector and after a foreign read: it can no longer be activated (here `hadForeignRead`)
+--   Reserved with interior mutability (`ReservedIm`)   the same for bytes in a cell, which others may write as well
+--   Unique               a mutable reference that has been written through (Active in the paper's first version)
+--   Frozen               a shared reference, or a mutable one whose bytes others have read since: it may only be read
+--   Disabled             a reference that is dead, as others have written
+--   Cell                 a shared reference to bytes in a cell: it claims nothing, and everybody may read and write
+-- and a bit, accessed, which says that a byte was used through the node. It matters under a protector alone, so the protected Reserved and Frozen have
+-- it here (`hadLocalRead`), while a Unique byte was written and has been accessed. The comments below say each rule in these words, beside document 01's
+-- sentence. They were written without a copy of the paper, so they cite none of its figures; docs/DIFFERENCES.md, section 4, names what may differ.
 use Prim.Native.Nat.{ℕ}
 use mathlib.Core.Bool.{Bool, true, false}
 use mathlib.Core.Option.{Option, none, some}
@@ -9,7 +21,8 @@ use Rattle.definition.specs.Refusal.{localReadOfDisabled, localWriteOfFr
 pub data AccessKind : Type 0 where
   Read Write : AccessKind
 
--- of a node to the accessed one: "On the pointer's path a node is local, else foreign."
+-- of a node to the accessed one: "On the pointer's path a node is local, else foreign.". The paper: an access is local to the accessed node and its
+-- ancestors, foreign to all others
 pub data NodeRelation : Type 0 where
   Local Foreign : NodeRelation
 
@@ -18,11 +31,11 @@ pub data NodeRelation : Type 0 where
 pub data PermissionUnprot : Type 0 where
   Cell Reserved ReservedIm Unique Frozen Disabled : PermissionUnprot
 
--- `had_local_read`
+-- `had_local_read`: accessed
 pub data LocalRead : Type 0 where
   noLocalRead hadLocalRead : LocalRead
 
--- `had_foreign_read`
+-- `had_foreign_read`: conflicted
 pub data ForeignRead : Type 0 where
   noForeignRead hadForeignRead : ForeignRead
 
@@ -44,7 +57,8 @@ pub data Outcome (P : Type 0) : Type 0 where
   refused : ℕ → Outcome P
 
 -- ---- the rules without a protector
--- "Local read of Disabled." is refused; nothing else changes
+-- "Local read of Disabled." is refused; nothing else changes.
+-- The paper, local read: undefined behaviour for Disabled; every other state allows it and stays
 abbrev pub localRead : PermissionUnprot → Outcome PermissionUnprot
 localRead Cell = becomes Cell
 localRead Reserved = becomes Reserved
@@ -53,7 +67,8 @@ localRead Unique = becomes Unique
 localRead Frozen = becomes Frozen
 localRead Disabled = refused localReadOfDisabled
 
--- "Local write makes 0 to 3 Cell or Unique"
+-- "Local write makes 0 to 3 Cell or Unique".
+-- The paper, local write: it activates Reserved, with and without interior mutability, to Unique; undefined behaviour for Frozen and Disabled
 abbrev pub localWrite : PermissionUnprot → Outcome PermissionUnprot
 localWrite Cell = becomes Cell
 localWrite Reserved = becomes Unique
@@ -62,7 +77,8 @@ localWrite Unique = becomes Unique
 localWrite Frozen = refused localWriteOfFrozen
 localWrite Disabled = refused localWriteOfDisabled
 
--- "foreign read makes 3 into 4"
+-- "foreign read makes 3 into 4".
+-- The paper, foreign read: Unique is no longer alone and becomes Frozen; Reserved stays, as a two-phase borrow lets others read before its activation
 abbrev pub foreignRead : PermissionUnprot → Outcome PermissionUnprot
 foreignRead Cell = becomes Cell
 foreignRead Reserved = becomes Reserved
@@ -71,7 +87,8 @@ foreignRead Unique = becomes Frozen
 foreignRead Frozen = becomes Frozen
 foreignRead Disabled = becomes Disabled
 
--- "foreign write leaves 0 and 2, else Disabled"
+-- "foreign write leaves 0 and 2, else Disabled".
+-- The paper, foreign write: Disabled, but for interior mutability, where others may write: Cell, and Reserved before its activation
 abbrev pub foreignWrite : PermissionUnprot → Outcome PermissionUnprot
 foreignWrite Cell = becomes Cell
 foreignWrite Reserved = becomes Disabled
@@ -80,8 +97,10 @@ foreignWrite Unique = becomes Disabled
 foreignWrite Frozen = becomes Disabled
 foreignWrite Disabled = becomes Disabled
 
--- ---- the rules under a protector: "Protected ones as 000."
--- a local read is remembered
+-- ---- the rules under a protector: "Protected ones as 000." The paper: while a call lasts, its reference arguments may be relied on. So where a byte has
+-- been accessed through the node, a foreign access that would take its permission away is undefined behaviour; where it has not, it may still become
+-- Disabled, and a foreign read makes Reserved conflicted. There is no ReservedIm: a protector overrides interior mutability
+-- The paper, local read: the byte is accessed now; undefined behaviour for Disabled. "8 with local read", "d with local read"
 abbrev pub localReadProt : PermissionProt → Outcome PermissionProt
 localReadProt Cell = becomes Cell
 localReadProt (Reserved l f) = becomes (Reserved hadLocalRead f)
@@ -89,7 +108,8 @@ localReadProt Unique = becomes Unique
 localReadProt (Frozen l) = becomes (Frozen hadLocalRead)
 localReadProt Disabled = refused localReadOfDisabled
 
--- Reserved becomes Unique, unless it had a foreign read
+-- "Local write of protected Reserved that had a foreign read." is refused, and so are Frozen and Disabled.
+-- The paper, local write: Reserved is activated to Unique, unless it is conflicted, for others have read what this call was to have for itself
 abbrev pub localWriteProt : PermissionProt → Outcome PermissionProt
 localWriteProt Cell = becomes Cell
 localWriteProt (Reserved l noForeignRead) = becomes Unique
@@ -98,7 +118,8 @@ localWriteProt Unique = becomes Unique
 localWriteProt (Frozen l) = refused localWriteOfFrozen
 localWriteProt Disabled = refused localWriteOfDisabled
 
--- a foreign read of Reserved is remembered
+-- "Foreign read of protected Unique." is refused. "9 with foreign read".
+-- The paper, foreign read: Reserved becomes conflicted; undefined behaviour for Unique, which would have to become Frozen
 abbrev pub foreignReadProt : PermissionProt → Outcome PermissionProt
 foreignReadProt Cell = becomes Cell
 foreignReadProt (Reserved l f) = becomes (Reserved l hadForeignRead)
@@ -106,7 +127,8 @@ foreignReadProt Unique = refused foreignReadOfUnique
 foreignReadProt (Frozen l) = becomes (Frozen l)
 foreignReadProt Disabled = becomes Disabled
 
--- what was used locally is protected from a foreign write; the rest is Disabled by it
+-- "Foreign write of protected Frozen or Reserved that had a local read." and "Foreign write of protected Unique .." are refused.
+-- The paper, foreign write: undefined behaviour for a byte that was accessed; any other becomes Disabled, and Cell stays
 abbrev pub foreignWriteProt : PermissionProt → Outcome PermissionProt
 foreignWriteProt Cell = becomes Cell
 foreignWriteProt (Reserved noLocalRead f) = becomes Disabled
@@ -163,12 +185,13 @@ abbrev pub nextBy : Option AccessKind → NodeRelation → Permission → Permis
 nextBy none r p = p
 nextBy (some a) r p = next a r p
 
--- ---- the end of a protector (`unprotect`)
+-- ---- the end of a protector (`unprotect`). The paper: when the call returns, the node goes on without its protector, and every byte that was accessed is
+-- accessed once more, as if it had been used up to the end: a write where it is Unique, else a read. So it may be assumed that nobody touched it meanwhile
 abbrev pub isProtected : Permission → Bool
 isProtected (Unprot u) = false
 isProtected (Prot p) = true
 
--- the permission without the protector
+-- the permission without the protector: conflicted and accessed are forgotten, as nothing asks for them without one
 abbrev pub unprotect : PermissionProt → PermissionUnprot
 unprotect Cell = Cell
 unprotect (Reserved l f) = Reserved
@@ -180,7 +203,7 @@ abbrev pub unprotected : Permission → Permission
 unprotected (Unprot u) = Unprot u
 unprotected (Prot p) = Unprot (unprotect p)
 
--- the access that the protector's end makes: "b gives a write; 8, a, d a read; the rest none"
+-- the access that the protector's end makes: "b gives a write; 8, a, d a read; the rest none". Cell claims nothing and gives none; Disabled was not accessed
 abbrev pub protectorEnd : PermissionProt → Option AccessKind
 protectorEnd Cell = none
 protectorEnd (Reserved noLocalRead f) = none
@@ -194,7 +217,8 @@ abbrev pub endAccess : Permission → Option AccessKind
 endAccess (Unprot u) = none
 endAccess (Prot p) = protectorEnd p
 
--- ---- `prevents_deallocation`: what was used locally under a protector, but for Cell
+-- ---- `prevents_deallocation`: what was used locally under a protector, but for Cell. In the paper's words: the byte was accessed, so that a foreign write
+-- of it is undefined behaviour
 abbrev pub isLocallyUsed : PermissionProt → Bool
 isLocallyUsed Cell = false
 isLocallyUsed (Reserved noLocalRead f) = false
@@ -209,7 +233,7 @@ preventsDeallocation (Unprot u) = false
 preventsDeallocation (Prot p) = isLocallyUsed p
 
 -- ---- what a retag's bytes start with
--- a node's protector
+-- a node's protector. A strong one forbids deallocation while the call lasts, a weak one, which a box has, does not
 pub data Protected : Type 0 where
   No Weak Strong : Protected
 
@@ -234,19 +258,20 @@ mkPerm No u p = Unprot u
 mkPerm Weak u p = Prot p
 mkPerm Strong u p = Prot p
 
--- `no_cell_perm`: "Freeze bytes start Frozen (shared) or Reserved"
+-- `no_cell_perm`: "Freeze bytes start Frozen (shared) or Reserved". The paper: a shared reference is Frozen, a mutable one Reserved, from the start on
 abbrev pub noCellPerm : SafePointer → Protected → Permission
 noCellPerm SharedRef protected = mkPerm protected Frozen (Frozen noLocalRead)
 noCellPerm MutableRef protected = mkPerm protected Reserved (Reserved noLocalRead noForeignRead)
 noCellPerm Box protected = mkPerm protected Reserved (Reserved noLocalRead noForeignRead)
 
--- `cell_perm`: "cell bytes Cell (shared), else ReservedIm, or Reserved when protected"
+-- `cell_perm`: "cell bytes Cell (shared), else ReservedIm, or Reserved when protected". The paper: interior mutability weakens both, but a protector
+-- overrides that of a mutable reference
 abbrev pub cellPerm : SafePointer → Protected → Permission
 cellPerm SharedRef protected = mkPerm protected Cell Cell
 cellPerm MutableRef protected = mkPerm protected ReservedIm (Reserved noLocalRead noForeignRead)
 cellPerm Box protected = mkPerm protected ReservedIm (Reserved noLocalRead noForeignRead)
 
--- `init_access`: "each inside byte but Cell is read"
+-- `init_access`: "each inside byte but Cell is read". The paper: a retag reads what the new reference points to; Cell claims nothing of its bytes
 abbrev pub initAccess : Permission → Option AccessKind
 initAccess (Unprot Cell) = none
 initAccess (Unprot Reserved) = some Read

@@ -57,7 +57,8 @@ anotherAlignment = 13
 abbrev pub belowStart : ℕ
 belowStart = 14
 
--- "A size in the closing list would be exceeded; dead allocations count, as the Rust keeps them."
+-- "A size in the closing list would be exceeded; dead allocations count, as the Rust keeps them. The Rust's first test, for a too large allocation, has its
+-- place here."
 abbrev pub sizeExceeded : ℕ
 sizeExceeded = 15
 

@@ -33,7 +33,7 @@ reborrowSettings pointer protected mask freeze =
       protected = protected;
     }
 
--- ---- "The child is made"
+-- ---- "The child is made". The paper: a retag gives the new reference a node of its own, a child of the one it is derived from
 unfoldable pub childNode : ReborrowSettings → ThinPointer → Allocation → Node
 childNode w p a =
     record {
@@ -45,7 +45,9 @@ childNode w p a =
 unfoldable pub withChild : ReborrowSettings → ThinPointer → Allocation → List Node
 withChild w p a = a .nodes ++ (childNode w p a ∷ [])
 
--- ---- "then each inside byte but Cell is read through it, byte by byte over the whole tree"
+-- ---- "then each inside byte but Cell is read through it, byte by byte over the whole tree". The paper: a retag is a read of the pointee through the new
+-- node, local to it and its ancestors and foreign to the rest, so that a reference is usable from its start on. Bytes outside are not read; they have
+-- their permission for later accesses
 -- the access of byte b, through the child, that starts with a permission
 abbrev pub initVisit : ℕ → ℕ → Permission → Visit
 initVisit child b p = record { accessed = child; accessAt = λ k. if eqb k b then initAccess p else none; spared = none }

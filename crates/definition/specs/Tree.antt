@@ -46,7 +46,8 @@ abbrev pub isSpared : List ℕ → Option ℕ → ℕ → Bool
 isSpared ps none node = false
 isSpared ps (some spared) node = isAbove ps spared node
 
--- ---- the order: "Parents are visited before children, children in the order they were made"
+-- ---- the order: "Parents are visited before children, children in the order they were made". In the paper an access meets every node of the tree, and
+-- undefined behaviour at any of them is undefined behaviour; the order only decides which refusal is given
 -- the descendants of n among the nodes m, m + 1, .., whose parents are listed: each child of n, followed by its own
 unfoldable pub descendants : ℕ → ℕ → List ℕ → List ℕ
 descendants n m [] = []
@@ -65,7 +66,8 @@ preorder (root ∷ ps) = 0 ∷ descendants 0 1 ps
 unfoldable pub visitingOrder : List ℕ → Option ℕ → List ℕ
 visitingOrder ps spared = filter (λ n. not (isSpared ps spared n)) (preorder ps)
 
--- ---- a visit: the accessed node; the access at each byte, if any; and the node that is spared with its descendants, if any
+-- ---- a visit, the paper's access: every node makes its transition at every byte of it.
+-- It has the accessed node; the access at each byte, if any; and the node that is spared with its descendants, if any
 pub record Visit : Type 0 where
   pub accessed : ℕ
   pub accessAt : ℕ → Option AccessKind

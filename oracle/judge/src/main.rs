@@ -17,6 +17,7 @@ pub mod lang;
 pub mod mem {
     include!(concat!(env!("MINIRUST_FILES"), "/mem.rs"));
     pub mod driver;
+    mod itself;
     mod layout;
     mod numbering;
     mod print;

@@ -1,5 +1,6 @@
 //! The program: runs in, outputs out.
 
+use super::itself;
 use super::print;
 use super::refusals::{last_message, Failure};
 use super::request::cut;
@@ -10,6 +11,7 @@ use std::panic::{catch_unwind, AssertUnwindSafe};
 
 const USAGE: &str =
     "usage: oracle [--list] [--start] [--batch] [--whole-counts] [--confirm-panics] [--messages] [--time N]
+       oracle --itself [--batch] [--whole-counts] [--no-memory]
   A run on standard input, document 01's output on standard output.
   --list            go on after a refusal, and print the open frames last (f)
   --start           before the run stand a 32-bit length and a text of that length: memory and frames to start
@@ -20,12 +22,16 @@ const USAGE: &str =
   --confirm-panics  check that the Rust panics where the port refuses instead (3, 14)
   --messages        print what the Rust said to refused requests to standard error
   --time N          make the run, its last request N times from the same memory, and print the nanoseconds
-                    that one of them takes, without the reading and printing";
+                    that one of them takes, without the reading and printing
+  --itself          a text on standard input, a request's words on each line: every call as it stands, and what the
+                    Rust says to it, in its own words, up to the first that it does not accept
+  --no-memory       with --itself: not the memory that is left";
 
 #[derive(Clone, Copy, Default)]
 struct Mode {
     list: bool,
     start: bool,
+    itself: bool,
     options: Options,
 }
 
@@ -39,6 +45,8 @@ pub fn main() -> i32 {
             "--list" => mode.list = true,
             "--start" => mode.start = true,
             "--batch" => batch = true,
+            "--itself" => mode.itself = true,
+            "--no-memory" => mode.options.no_memory = true,
             "--whole-counts" => mode.options.whole_counts = true,
             "--confirm-panics" => mode.options.confirm_panics = true,
             "--time" => times = arguments.next().and_then(|n| n.parse().ok()),
@@ -114,6 +122,9 @@ fn time(times: u32, mode: Mode) -> std::io::Result<()> {
 /// The whole output of one run.
 fn run(input: &[u8], mode: Mode) -> String {
     libspecr::hidden::reset();
+    if mode.itself {
+        return itself::run(std::str::from_utf8(input).expect("a text"), mode.options);
+    }
     let (mut state, input) = if mode.start {
         let (length, after) = input.split_at(4);
         let length = u32::from_be_bytes(length.try_into().expect("four bytes")) as usize;

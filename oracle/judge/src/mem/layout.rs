@@ -39,11 +39,36 @@ struct Header {
     cells_fit: bool,
 }
 
+/// A layout that the Rust can be given, whether or not it has a mask.
+pub struct Given {
+    pub described: Described,
+    tuples: usize,
+    /// Cells and metadata are such that the Rust makes a mask of any length.
+    has_mask: bool,
+}
+
+/// The layout, with the port's bounds: 3 where it has no mask.
 pub fn describe(words: &[u32], whole_counts: bool) -> std::result::Result<Described, NoMask> {
-    let (&metadata_word, after) = words.split_first().ok_or(NoMask::Own)?;
-    let (headers, rest) = headers(after)?;
-    if !rest.is_empty() || headers.len() > MOST_TUPLES + 1 {
+    let Given { described, tuples, has_mask } = given(words, whole_counts).ok_or(NoMask::Own)?;
+    if tuples > MOST_TUPLES {
         return Err(NoMask::Own);
+    }
+    if !has_mask {
+        let Described { layout, cells, metadata, vtable, .. } = described;
+        return Err(NoMask::Panics(layout, cells, metadata, vtable));
+    }
+    if described.mask_len > LARGEST_MASK {
+        return Err(NoMask::Own);
+    }
+    Ok(described)
+}
+
+/// The layout in the Rust's terms; none where words are missing or left over.
+pub fn given(words: &[u32], whole_counts: bool) -> Option<Given> {
+    let (&metadata_word, after) = words.split_first()?;
+    let (headers, rest) = headers(after)?;
+    if !rest.is_empty() {
+        return None;
     }
     let (tail, heads) = headers.split_last().expect("a header");
     let kind = metadata_word >> 30;
@@ -56,32 +81,28 @@ pub fn describe(words: &[u32], whole_counts: bool) -> std::result::Result<Descri
     let (layout, cells) = heads.iter().rev().fold(last(tail), |(l, c), head| nest(head, l, c));
     let needed = [None, Some(1), Some(2)][tail.strategy as usize];
     let metadata_fits = needed.map_or(true, |needed| needed == kind);
-    if !metadata_fits || !headers.iter().all(|header| header.cells_fit) {
-        return Err(NoMask::Panics(layout, cells, metadata, vtable));
-    }
+    let has_mask = metadata_fits && headers.iter().all(|header| header.cells_fit);
     let repeats = if tail.strategy == 1 { count as u64 } else { 1 };
     let heads_len: u64 = heads.iter().map(|head| head.size as u64).sum();
     let mask_len = heads_len + tail.size as u64 * repeats;
-    if mask_len > LARGEST_MASK {
-        return Err(NoMask::Own);
-    }
-    Ok(Described { layout, cells, metadata, vtable, mask_len })
+    let described = Described { layout, cells, metadata, vtable, mask_len };
+    Some(Given { described, tuples: heads.len(), has_mask })
 }
 
 /// All headers, up to the first that is no tuple, and the words behind it.
-fn headers(mut words: &[u32]) -> std::result::Result<(Vec<Header>, &[u32]), NoMask> {
+fn headers(mut words: &[u32]) -> Option<(Vec<Header>, &[u32])> {
     let mut headers = Vec::new();
     loop {
-        let (&word, after) = words.split_first().ok_or(NoMask::Own)?;
+        let (&word, after) = words.split_first()?;
         let count = (word >> 22 & 0xff) as usize;
         if after.len() < count {
-            return Err(NoMask::Own);
+            return None;
         }
         let (cells, rest) = after.split_at(count);
         words = rest;
         headers.push(header(word, cells));
         if word >> 30 != 3 {
-            return Ok((headers, words));
+            return Some((headers, words));
         }
     }
 }

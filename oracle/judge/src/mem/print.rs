@@ -36,6 +36,15 @@ fn push_words(out: &mut std::string::String, words: &[u32]) {
 }
 
 pub fn memory(out: &mut std::string::String, state: &State) {
+    allocations(out, state, |out, number, root| nodes(out, state, number, root));
+}
+
+/// Each allocation, its bytes, and its nodes as `tree` prints them.
+pub fn allocations(
+    out: &mut std::string::String,
+    state: &State,
+    tree: impl Fn(&mut std::string::String, usize, Node),
+) {
     for (number, allocation) in state.held.memory.mem.allocations.iter().enumerate() {
         let live = if allocation.live { "live" } else { "dead" };
         let kind = kind(allocation.kind);
@@ -46,7 +55,7 @@ pub fn memory(out: &mut std::string::String, state: &State) {
         let words: Vec<u32> = allocation.data.iter().map(|byte| state.word(byte)).collect();
         push_words(out, &words);
         out.push('\n');
-        nodes(out, state, number, allocation.extra.root);
+        tree(out, number, allocation.extra.root);
     }
 }
 
@@ -103,7 +112,7 @@ fn kind(kind: AllocationKind) -> &'static str {
     }
 }
 
-fn protector(protected: Protected) -> &'static str {
+pub fn protector(protected: Protected) -> &'static str {
     match protected {
         Protected::No => "no",
         Protected::Weak => "weak",
@@ -111,7 +120,7 @@ fn protector(protected: Protected) -> &'static str {
     }
 }
 
-fn code(permission: Permission) -> char {
+pub fn code(permission: Permission) -> char {
     match permission {
         Permission::Unprot(p) => match p {
             PermissionUnprot::Cell => '0',

@@ -75,11 +75,17 @@ fn words_after_fourth(first: u32, fourth: u32) -> usize {
 
 /// The request that the words hold.
 pub fn decode(words: &[u32]) -> Result<Request<'_>, Refusal> {
+    demand(words.len() - 4 <= MOST_WORDS)?;
+    demand(words[0] >> 3 & 31 <= 29)?;
+    fields(words)
+}
+
+/// The same without the port's bounds on exponents and on the words that follow: 2 where no call of the Rust
+/// has such fields.
+pub fn fields(words: &[u32]) -> Result<Request<'_>, Refusal> {
     let (first, fourth, after) = (words[0], words[3], &words[4..]);
     let exponent = first >> 3 & 31;
     let extra = first & 7;
-    demand(after.len() <= MOST_WORDS)?;
-    demand(exponent <= 29)?;
     let address = (words[1] as u64) << 32 | words[2] as u64;
     match first >> 28 {
         0 => {

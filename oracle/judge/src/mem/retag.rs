@@ -11,7 +11,7 @@ type Thin = ThinPointer<TreeBorrowsProvenance>;
 
 /// The arguments of the Rust's `retag_ptr`.
 #[derive(Clone, Copy)]
-struct Call {
+pub struct Call {
     pointer: Pointer<TreeBorrowsProvenance>,
     ptr_type: PtrType,
     vtable: VTable,
@@ -19,7 +19,7 @@ struct Call {
 }
 
 impl Call {
-    fn make(
+    pub fn make(
         self,
         memory: &mut RustMemory,
         frame: &mut TreeBorrowsFrameExtra,
@@ -81,7 +81,7 @@ impl State {
     }
 
     /// The pointer in numbers; a path longer than before is a new node's.
-    fn number_new_node(&mut self, before: Thin, after: Thin) -> Option<(usize, usize)> {
+    pub fn number_new_node(&mut self, before: Thin, after: Thin) -> Option<(usize, usize)> {
         let (id, path) = after.provenance?;
         let allocation = id.0.index();
         let (_, old_path) = before.provenance.expect("a retag makes no provenance");
@@ -128,7 +128,7 @@ impl State {
     }
 }
 
-fn call(thin: Thin, retag: Retag, described: Option<Described>) -> Call {
+pub fn call(thin: Thin, retag: Retag, described: Option<Described>) -> Call {
     let (pointee, metadata, vtable) = pointee(retag, described);
     let ptr_type = pointer_type(retag, pointee);
     Call { pointer: thin.widen(metadata), ptr_type, vtable, fn_entry: retag.frame().is_some() }

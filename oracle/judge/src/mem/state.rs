@@ -41,6 +41,8 @@ pub struct Options {
     pub messages: bool,
     /// Where the port refuses with 3 or 14 and the Rust panics, see to it that it does.
     pub confirm_panics: bool,
+    /// Of the Rust by itself, print the answers alone.
+    pub no_memory: bool,
 }
 
 pub struct State {
@@ -285,11 +287,11 @@ impl State {
     }
 }
 
-fn align(exponent: u32) -> Align {
+pub fn align(exponent: u32) -> Align {
     Align::from_bytes(1u64 << exponent).unwrap()
 }
 
-fn allocation_kind(extra: u32) -> AllocationKind {
+pub fn allocation_kind(extra: u32) -> AllocationKind {
     use AllocationKind::*;
     [Stack, Heap, Global, Function, VTable][extra as usize]
 }
