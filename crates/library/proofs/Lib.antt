@@ -2,3 +2,4 @@ pub mod Entered
 pub mod Fine
 pub mod Performed
 pub mod Again
+pub mod Loads
