@@ -30,6 +30,7 @@ ghost use Rattle.tree_borrows.specs.Numbers.{Replied, RetagReplied};
 pub mod lists;
 pub mod numbers;
 pub mod requests;
+pub mod start;
 
 // ---- kinds 4 and 6. Each has two functions, as in `retag` and `frame`: a lent slice of structs is for one that does nothing else.
 // All of a retag but the store into the frame's list, whatever stands there.
