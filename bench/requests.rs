@@ -192,7 +192,7 @@ fn port(lent: &mut Lent, row: &Row) -> f64 {
     for request in &row.requests {
         with.add(request);
     }
-    assert!(lent.run(&with).whole && !lent.refused(&with), "{}: refused", row.name);
+    assert!(lent.run(&with).whole == 1 && !lent.refused(&with), "{}: refused", row.name);
     let rounds = (50_000_000.0 / time(lent, &with)).clamp(20.0, 10_000.0) as usize;
     let mut added: Vec<f64> = (0..rounds).map(|_| time(lent, &with) - time(lent, &row.before)).collect();
     added.sort_by(f64::total_cmp);

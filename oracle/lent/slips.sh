@@ -33,7 +33,7 @@ slip() {
     cp "lent/src/$2" "$file"
 }
 
-slip "longer buffers" buffers.rs 's/if lengths != \[/if lengths < [/'
+slip "longer buffers" buffers.rs 's/lengths == \[/lengths >= [/'
 slip "state 3" buffers.rs 's/state == 1 || state == 2/(1..4).contains(\&state)/'
 slip "kind 5" buffers.rs 's/kind < 5/kind < 6/'
 slip "exponent 30" buffers.rs 's/exponent < 30/exponent < 31/'

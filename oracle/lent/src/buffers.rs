@@ -40,10 +40,17 @@ pub fn encode(m: &Reference) -> Buffers {
     b
 }
 
+impl Buffers {
+    pub fn have_their_lengths(&self) -> bool {
+        let b = self;
+        let lengths = [b.allocs.len(), b.parents.len(), b.protectors.len(), b.words.len(), b.codes.len()];
+        lengths == [ALLOCS, NODES, NODES, WORDS, CODES]
+    }
+}
+
 /// The memory that the buffers hold, if they are well formed.
 pub fn decode(b: &Buffers) -> Option<Reference> {
-    let lengths = [b.allocs.len(), b.parents.len(), b.protectors.len(), b.words.len(), b.codes.len()];
-    if lengths != [ALLOCS, NODES, NODES, WORDS, CODES] {
+    if !b.have_their_lengths() {
         return None;
     }
     let mut m = Reference::new();

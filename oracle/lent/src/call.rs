@@ -1,7 +1,7 @@
 //! One call of an entry: drawn, made, and answered by the reference.
 
 use crate::buffers::{decode, encode, valid_word};
-use crate::lent::{Frame, Lent, AREA};
+use crate::lent::{Frame, Lent, AREA, PLACES};
 use crate::library::{self, Place, Reply, RetagSettings};
 use runs::deep::{self, Style};
 use runs::random::Random;
@@ -10,6 +10,8 @@ use runs::words::{self, Flags, Ptr, Words};
 
 #[derive(Clone, Debug, PartialEq)]
 pub enum Call {
+    New,
+    NewCall,
     Allocate { kind: u64, len: u64, exponent: u64, address: u64 },
     Deallocate { at: Place, kind: u64, len: u64, exponent: u64 },
     Load { at: Place, len: u64, exponent: u64 },
@@ -31,7 +33,7 @@ pub fn draw(r: &mut Random, m: &Reference, kinds: [u64; 10]) -> (Call, Frame) {
         let request = deep::candidate(r, m, &style);
         let Some(mut call) = Call::of(&request) else { continue };
         let named = match call {
-            Call::Retag { settings, .. } if settings.function_entry => {
+            Call::Retag { settings, .. } if settings.function_entry == 1 => {
                 m.frames[(request[3] >> 23 & 31) as usize].as_deref()
             }
             _ => None,
@@ -39,6 +41,9 @@ pub fn draw(r: &mut Random, m: &Reference, kinds: [u64; 10]) -> (Call, Frame) {
         let frame = named.map_or_else(|| Frame::draw(r, m), Frame::of);
         if r.one_in(8) {
             call.widen(r);
+        }
+        if r.one_in(40) {
+            call = r.pick(&[Call::New, Call::NewCall].each_ref()).clone();
         }
         return (call, frame);
     }
@@ -59,16 +64,16 @@ impl Call {
     fn of(w: &[u32]) -> Option<Call> {
         let at = Place {
             address: (w[1] as u64) << 32 | w[2] as u64,
-            provenance: w[0] >> 8 & 1 == 1,
+            provenance: (w[0] >> 8 & 1) as u8,
             allocation: w[0] >> 21 & 127,
             node: w[0] >> 9 & 4095,
         };
         let (exponent, extra, len) = ((w[0] >> 3 & 31) as u64, (w[0] & 7) as u64, w[3] as u64);
         let settings = RetagSettings {
             extra: extra as u32,
-            function_entry: w[3] >> 31 == 1,
-            unpin: w[3] >> 30 & 1 == 1,
-            freeze: w[3] >> 29 & 1 == 1,
+            function_entry: (w[3] >> 31) as u8,
+            unpin: (w[3] >> 30 & 1) as u8,
+            freeze: (w[3] >> 29 & 1) as u8,
         };
         Some(match w[0] >> 28 {
             0 => Call::Allocate { kind: extra, len, exponent, address: at.address },
@@ -98,8 +103,8 @@ impl Call {
             Call::SignedDereferenceable { len, .. } if field < 1 => *len = number as i64,
             Call::Retag { settings, .. } if field < 1 => match r.below(3) {
                 0 => settings.extra = number as u32,
-                1 => settings.unpin = !settings.unpin,
-                _ => settings.function_entry = true,
+                1 => settings.unpin = 1 - settings.unpin,
+                _ => settings.function_entry = 1,
             },
             Call::Retag { layout, .. } if field < 2 => layout.resize(4097 + r.index(3), 0),
             _ => {}
@@ -111,6 +116,44 @@ impl Call {
                 _ => {}
             }
         }
+        if r.one_in(4) {
+            self.spoil_flag(r);
+        }
+    }
+
+    /// A flag becomes a number that is none.
+    fn spoil_flag(&mut self, r: &mut Random) {
+        let wrong = r.pick(&[2, 3, 128, 255]) as u8;
+        match self {
+            Call::Retag { settings, .. } if r.one_in(2) => {
+                let flags = [&mut settings.function_entry, &mut settings.unpin, &mut settings.freeze];
+                *flags.into_iter().nth(r.index(3)).expect("one of three") = wrong;
+            }
+            _ => {
+                if let Some(at) = self.place() {
+                    at.provenance = wrong;
+                }
+            }
+        }
+    }
+
+    /// 2, of what no run holds: a flag other than 0 and 1.
+    fn has_a_bad_flag(&self) -> bool {
+        let mut call = self.clone();
+        let place = call.place().is_some_and(|at| at.provenance > 1);
+        let flags = match self {
+            Call::Retag { settings, .. } => {
+                [settings.function_entry, settings.unpin, settings.freeze].iter().any(|&flag| flag > 1)
+            }
+            _ => false,
+        };
+        place || flags
+    }
+
+    /// 2, of a pointer without provenance: it names an allocation or node.
+    fn names_without_provenance(&self) -> bool {
+        let mut call = self.clone();
+        call.place().is_some_and(|at| at.provenance == 0 && (at.allocation, at.node) != (0, 0))
     }
 
     fn place(&mut self) -> Option<&mut Place> {
@@ -133,6 +176,8 @@ impl Call {
             Call::Dereferenceable { .. } => "dereferenceable",
             Call::SignedDereferenceable { .. } => "signed_dereferenceable",
             Call::LeakCheck => "leak_check",
+            Call::New => "new",
+            Call::NewCall => "new_call",
         }
     }
 
@@ -153,12 +198,17 @@ impl Call {
             Call::Dereferenceable { at, len } => library::dereferenceable(b, at, len),
             Call::SignedDereferenceable { at, len } => library::signed_dereferenceable(b, at, len),
             Call::LeakCheck => library::leak_check(b),
+            Call::New => library::new(b),
+            Call::NewCall => library::new_call(&mut lent.frame),
         }
     }
 
     /// What document 01 says of the call, and what is lent afterwards: 1, and nothing changes; else what the reference
     /// answers on the memory that the buffers hold, with the frame as number 0.
     pub fn outcome(&self, lent: &Lent) -> (Answer, Lent) {
+        if let Some(started) = self.started(lent) {
+            return started;
+        }
         let memory = if self.has_its_lengths(lent) { decode(&lent.buffers) } else { None };
         let Some(mut m) = memory else {
             return (refused(1), lent.clone());
@@ -173,6 +223,23 @@ impl Call {
             _ => {}
         }
         (answer, after)
+    }
+
+    /// What a memory and a call start from, whatever was there: 1 for another length, else zeros.
+    fn started(&self, lent: &Lent) -> Option<(Answer, Lent)> {
+        let mut after = lent.clone();
+        let has_its_length = match self {
+            Call::New => {
+                after.buffers = encode(&Reference::new());
+                lent.buffers.have_their_lengths()
+            }
+            Call::NewCall => {
+                after.frame = Frame::of(&[]);
+                lent.frame.places.len() == PLACES
+            }
+            _ => return None,
+        };
+        Some(if has_its_length { (refused(0), after) } else { (refused(1), lent.clone()) })
     }
 
     /// Of what is lent beside the memory.
@@ -199,6 +266,7 @@ impl Call {
 
     fn answer(&self, m: &mut Reference) -> Answer {
         match self {
+            _ if self.has_a_bad_flag() || self.names_without_provenance() => refused(2),
             Call::Allocate { kind, len, exponent, address } if *len > u32::MAX as u64 => {
                 let bad = *kind > 4 || *exponent > 29;
                 let pick = || could_be_picked(m, *address as u128, *len as u128, *exponent);
@@ -230,7 +298,7 @@ impl Call {
         let ptr = |at: &Place| {
             let named = (at.allocation as usize, at.node as usize);
             let named = if named.0 > 127 || named.1 > 4095 { (0, 4095) } else { named };
-            Ptr { address: at.address, provenance: at.provenance.then_some(named) }
+            Ptr { address: at.address, provenance: (at.provenance == 1).then_some(named) }
         };
         let exponent = |e: &u64| *e.min(&31) as u32;
         let kind = |k: &u64| *k.min(&7) as u32;
@@ -251,8 +319,8 @@ impl Call {
                 words::retag_unsafe(ptr(at), settings.extra.min(7))
             }
             Call::Retag { at, settings, layout } => {
-                let frame = settings.function_entry.then_some(0);
-                let flags = Flags { frame, unpin: settings.unpin, freeze: settings.freeze };
+                let frame = (settings.function_entry == 1).then_some(0);
+                let flags = Flags { frame, unpin: settings.unpin == 1, freeze: settings.freeze == 1 };
                 words::retag(ptr(at), settings.extra, flags, &layout[..layout.len().min(4096)])
             }
             Call::EndCall => words::end_call(0),
@@ -261,7 +329,8 @@ impl Call {
                 let len = (*len).clamp(i32::MIN as i64, i32::MAX as i64) as i32;
                 words::signed_dereferenceable(ptr(at), len)
             }
-            Call::LeakCheck => words::leak_check(),
+            // no run has words for the first; a new call's say nothing of what is lent
+            Call::New | Call::NewCall | Call::LeakCheck => words::leak_check(),
         }
     }
 }
@@ -290,13 +359,11 @@ pub fn third(reply: &Reply, lent: &Lent) -> Third {
     }
 }
 
-/// Does the reply to the call say what the answer says? An accepted load of no bytes may name a part without words.
+/// Does the reply to the call say what the answer says? An accepted load of no bytes names none of the data, from its start.
 pub fn agrees(call: &Call, reply: &Reply, answer: &Answer, lent: &Lent) -> bool {
     let given = |gives, first, second| Reply { refusal: answer.refusal, gives, first, second };
     match (&answer.third, call) {
-        (Third::None, Call::Load { .. }) if answer.refusal == 0 => {
-            reply.refusal == 0 && reply.gives == 2 && reply.second == 0
-        }
+        (Third::None, Call::Load { .. }) if answer.refusal == 0 => *reply == given(2, 0, 0),
         (Third::None, _) => *reply == given(0, 0, 0),
         (Third::Pointer(allocation, node), _) => *reply == given(1, *allocation as u64, *node as u64),
         (Third::Leak(allocation), _) => *reply == given(3, *allocation as u64, 0),

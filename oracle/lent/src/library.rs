@@ -8,7 +8,8 @@ use crate::lent::Frame;
 #[derive(Clone, Copy, Debug, PartialEq)]
 pub struct Place {
     pub address: u64,
-    pub provenance: bool,
+    /// 1 with provenance, 0 without.
+    pub provenance: u8,
     pub allocation: u32,
     pub node: u32,
 }
@@ -45,9 +46,10 @@ struct RetagReply {
 pub struct RetagSettings {
     /// 0 shared reference, 1 mutable reference, 2 box, 3 raw, 4 function, 5 vtable pointer.
     pub extra: u32,
-    pub function_entry: bool,
-    pub unpin: bool,
-    pub freeze: bool,
+    /// Flags: 0 or 1.
+    pub function_entry: u8,
+    pub unpin: u8,
+    pub freeze: u8,
 }
 
 /// Declares an entry and a function that lends it the buffers. `mut` and `const` say how each buffer is lent; what stands before them
@@ -78,6 +80,7 @@ macro_rules! entry {
     };
 }
 
+entry!(pub new, tree_borrows_new, mut mut mut mut mut,);
 entry!(pub allocate, tree_borrows_allocate, mut const const const mut, kind: u64, len: u64, exponent: u64, address: u64);
 entry!(pub deallocate, tree_borrows_deallocate, mut const const const mut, p: Place, kind: u64, len: u64, exponent: u64);
 entry!(pub load, tree_borrows_load, const const const const mut, p: Place, len: u64, exponent: u64);
@@ -104,6 +107,19 @@ pub fn retag(b: &mut Buffers, frame: &mut Frame, layout: &[u32], p: Place, setti
     let (places, len) = (frame.places.as_mut_ptr(), frame.places.len());
     let made = retag_lent(b, places, len, frame.count, layout.as_ptr(), layout.len(), p, settings);
     frame.count = made.count;
+    made.reply
+}
+
+/// A frame that is opened has no entries; the places of one that is refused are as they were.
+pub fn new_call(frame: &mut Frame) -> Reply {
+    extern "C" {
+        fn tree_borrows_new_call(places: *mut Entry, _: usize) -> RetagReply;
+    }
+    let made = unsafe { tree_borrows_new_call(frame.places.as_mut_ptr(), frame.places.len()) };
+    assert_eq!(made.count, 0);
+    if made.reply.refusal == 0 {
+        frame.count = 0;
+    }
     made.reply
 }
 

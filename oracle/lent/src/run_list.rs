@@ -3,7 +3,8 @@
 #[repr(C)]
 pub struct ListReply {
     pub refusal: u8,
-    pub whole: bool,
+    /// 1 where all answers are there, else 0.
+    pub whole: u8,
     pub at: usize,
 }
 

@@ -13,7 +13,7 @@ loaded-words-requires : tie.Need-loaded-words-requires
 loaded-words-requires c κs = search needs
 
 cast-heading-of : tie.Need-cast-heading-of
-cast-heading-of c = omega (arith, ap length (c .loaded-words .ensures))
+cast-heading-of c = omega (arith, ap length (c .loaded-words .ensures .loaded))
 
 heading-of-requires : tie.Need-heading-of-requires
 heading-of-requires c κs = search needs
@@ -41,7 +41,7 @@ returns c =
     let loaded = read .loaded-words in
     let head = headed .heading-of in
     λ text before h.
-    rw (answer-behind text (answerOf (a .answer) words) (loaded .result .now) (head .result) (loaded .ensures) (head .ensures words)) at
+    rw (answer-behind text (answerOf (a .answer) words) (loaded .result .now) (head .result) (loaded .ensures .loaded) (head .ensures words)) at
     (end .put-each2 .ensures (text ++ head .result) before (begun .put-each .ensures text before h))
 
 pub put-answer-spec : {M : Type 1} → statement M

@@ -56,7 +56,7 @@ impl Lent {
         let reply = run_list(
             &mut m.allocs, &mut m.parents, &mut m.protectors, &mut m.words, &mut m.codes, &mut self.frames, words, ends, &mut self.answers,
         );
-        assert!(reply.refusal == 0 && reply.whole && reply.at <= self.answers.len());
+        assert!(reply.refusal == 0 && reply.whole == 1 && reply.at <= self.answers.len());
     }
 
     /// The allocation that a leak check names.

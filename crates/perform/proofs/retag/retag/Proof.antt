@@ -1,6 +1,7 @@
 -- By whether a node is added: without one nothing changes, and with one the layout needs a mask.
 use mathlib.Core.Path.{sym, ap, _∙_}
 use borrow.Author.Needs.{needs}
+use Rattle.reborrow.proofs.Requests.{without-node-answers}
 use Rattle.definition.specs.Retag.{retagWithoutNode}
 use Rattle.definition.specs.Memory.{ThinPointer}
 use Rattle.request.specs.Fields.{requestOf}
@@ -32,7 +33,7 @@ returns c =
     let a = asked .before .args in
     λ s h.
     left-without-node h (requestOf (a .q) (a .following .now)) (sym (tested .adds-no-node .ensures) ∙ none .if1 .taken)
-    (λ words. c .retag-without-node .ensures s words (records-held h) ∙ ap (λ (p : ThinPointer). retagWithoutNode p s .0) (c .before .pointer .ensures))
+    (λ words. without-node-answers _ s words (c .retag-without-node .ensures s (records-held h)) ∙ ap (λ (p : ThinPointer). retagWithoutNode p s .0) (c .before .pointer .ensures))
 
 retag-with-mask-requires : tie.Need-retag-with-mask-requires
 retag-with-mask-requires c κs = search needs
