@@ -113,16 +113,17 @@ performing-start run p h from index going =
 not-both : {t : Bool} → t ≡ false → t ≡ true → ⊥
 not-both e e′ = false≢true (sym e ∙ e′)
 
--- what one request more comes to: the line that is added, and what is held then
-abbrev nextOutcome : State → List ℕ → Place → Answer × State
-nextOutcome s run p = step s (nextRequest (drop (p .from) run))
-
-pub record Advanced (s : State) (run : List ℕ) (p : Place) (lines : List ℕ) (r : Place) (lines′ : List ℕ) (b : Buffers) (F : List ℕ) : Type 0 where
-  pub holds : HoldsState (nextOutcome s run p .1) b F
+-- the line of a request's answer is added to the others
+pub record LineAdded (s : State) (ws : List ℕ) (index : ℕ) (lines : List ℕ) (refused : Bool) (lines′ : List ℕ) (b : Buffers) (F : List ℕ) : Type 0 where
+  pub holds : HoldsState (step s ws .1) b F
   pub leak : ℕ
-  pub right : NamesLeak (nextOutcome s run p .1 .memory) leak
-  pub line : lines′ ≡ lines ++ answerLine (p .index) (nameIn (nextOutcome s run p .0) leak) (nextOutcome s run p .0)
-  pub told : r .refused ≡ not (eqb (nextOutcome s run p .0 .refusal) 0)
+  pub right : NamesLeak (step s ws .1 .memory) leak
+  pub line : lines′ ≡ lines ++ answerLine index (nameIn (step s ws .0) leak) (step s ws .0)
+  pub told : refused ≡ not (eqb (step s ws .0 .refusal) 0)
+
+-- the request at place p of a run, and the place behind it
+pub record Advanced (s : State) (run : List ℕ) (p : Place) (lines : List ℕ) (r : Place) (lines′ : List ℕ) (b : Buffers) (F : List ℕ) : Type 0 where
+  pub added : LineAdded s (nextRequest (drop (p .from) run)) (p .index) lines (r .refused) lines′ b F
   pub from : r .from ≡ requestEnd run (p .from)
   pub index : r .index ≡ p .index + 1
 
@@ -133,11 +134,13 @@ advanced {s} {run} {p} k =
     let w = k .turned .line .written in
     let o : Answer × State = step s (nextRequest (drop (p .from) run)) in
     record {
-      holds = k .turned .holds;
-      leak = k .turned .line .leak;
-      right = k .turned .line .right;
-      line = text-behind (answerLine (p .index) (nameIn (o .0) (k .turned .line .leak)) (o .0)) (w .written) (w .fits);
-      told = k .turned .line .told;
+      added = record {
+        holds = k .turned .holds;
+        leak = k .turned .line .leak;
+        right = k .turned .line .right;
+        line = text-behind (answerLine (p .index) (nameIn (o .0) (k .turned .line .leak)) (o .0)) (w .written) (w .fits);
+        told = k .turned .line .told;
+      };
       from = k .from;
       index = k .index;
     }
@@ -160,12 +163,12 @@ module _ {s : State} {run : List ℕ} {p : Place} {lines : List ℕ} {r : Place}
   left-by : (t : Bool) → eqb (outcome .0 .refusal) 0 ≡ t
       → programFrom s bytes ≡ (outcome .0 ∷ leftAt (outcome .1) run r .0, leftAt (outcome .1) run r .1)
   left-by true e =
-      let accepted : r .refused ≡ false = k .told ∙ ap not e in
+      let accepted : r .refused ≡ false = k .added .told ∙ ap not e in
       program-more s bytes some-bytes (eqb-true (outcome .0 .refusal) 0 e)
       ∙ ap (λ (l : List ℕ). let o = programFrom (outcome .1) l in (outcome .0 ∷ o .0, o .1)) (sym behind)
       ∙ ap (λ (t : Bool). let o = if t then ([], outcome .1) else programFrom (outcome .1) (drop (r .from) run) in (outcome .0 ∷ o .0, o .1)) (sym accepted)
   left-by false e =
-      let refused : r .refused ≡ true = k .told ∙ ap not e in
+      let refused : r .refused ≡ true = k .added .told ∙ ap not e in
       program-last s bytes some-bytes e
       ∙ ap (λ (t : Bool). let o = if t then ([], outcome .1) else programFrom (outcome .1) (drop (r .from) run) in (outcome .0 ∷ o .0, o .1)) (sym refused)
 
@@ -174,22 +177,22 @@ module _ {s : State} {run : List ℕ} {p : Place} {lines : List ℕ} {r : Place}
       ap (λ (t : Bool). if t then ([], s) else programFrom s bytes) going ∙ left-by (eqb (outcome .0 .refusal) 0) refl
 
   -- an accepted request has no name in its line
-  name-by : (t : Bool) → eqb (outcome .0 .refusal) 0 ≡ t → (l : ℕ) → (r .refused ≡ true → l ≡ k .leak)
-      → nameIn (outcome .0) (k .leak) ≡ nameIn (outcome .0) l
+  name-by : (t : Bool) → eqb (outcome .0 .refusal) 0 ≡ t → (l : ℕ) → (r .refused ≡ true → l ≡ k .added .leak)
+      → nameIn (outcome .0) (k .added .leak) ≡ nameIn (outcome .0) l
   name-by true e l h =
       let zero : outcome .0 .refusal ≡ 0 = eqb-true (outcome .0 .refusal) 0 e in
-      ap (λ (n : ℕ). if eqb n memoryLeak then some (k .leak) else none) zero
+      ap (λ (n : ℕ). if eqb n memoryLeak then some (k .added .leak) else none) zero
       ∙ sym (ap (λ (n : ℕ). if eqb n memoryLeak then some l else none) zero)
-  name-by false e l h = ap (nameIn (outcome .0)) (sym (h (k .told ∙ ap not e)))
+  name-by false e l h = ap (nameIn (outcome .0)) (sym (h (k .added .told ∙ ap not e)))
 
-  text-more : (l : ℕ) → (r .refused ≡ true → l ≡ k .leak)
+  text-more : (l : ℕ) → (r .refused ≡ true → l ≡ k .added .leak)
       → lines′ ++ answerLines l (r .index) (leftAt (outcome .1) run r .0) ≡ lines ++ answerLines l (p .index) (leftAt s run p .0)
   unfolding answerLines
   text-more l h =
       let line : Option ℕ → List ℕ = λ o. answerLine (p .index) o (outcome .0) in
       let later : ℕ → List ℕ = λ n. answerLines l n (leftAt (outcome .1) run r .0) in
       let one : r .index ≡ suc (p .index) = k .index ∙ add-one (p .index) in
-      ap (λ (t : List ℕ). t ++ later (r .index)) (k .line)
+      ap (λ (t : List ℕ). t ++ later (r .index)) (k .added .line)
       ∙ ap (λ (o : Option ℕ). (lines ++ line o) ++ later (r .index)) (name-by (eqb (outcome .0 .refusal) 0) refl l h)
       ∙ append-assoc lines (line (nameIn (outcome .0) l)) (later (r .index))
       ∙ ap (λ (n : ℕ). lines ++ (line (nameIn (outcome .0) l) ++ later n)) one
@@ -201,9 +204,9 @@ pub performing-next : {run : List ℕ} {p : Place} {lines : List ℕ} {b : Buffe
 performing-next {run} {p} h {r} going more k =
     record {
       state = step (h .state) (nextRequest (drop (p .from) run)) .1;
-      holds = k .holds;
-      leak = k .leak;
-      right = k .right;
+      holds = k .added .holds;
+      leak = k .added .leak;
+      right = k .added .right;
       text = λ l e. text-more going more k l e ∙ h .text l (λ e′. absurd (not-both going e′));
       final = sym (ap (λ (o : List Answer × State). o .1) (left-more going more k)) ∙ h .final;
       within = subst (λ (n : ℕ). n ≤ length run) (sym (k .from)) (end-within run (p .from) (omega arith));

@@ -25,15 +25,18 @@ abbrev entry : tie.After-slice-known8 Inv-loop μ-loop → tie.Start Inv-loop μ
 entry c =
     let c1 : tie.After-slice-known3 Inv-loop μ-loop = c .before .before .before .before .before .before in
     c1 .before .before .before
+
 abbrev head : tie.After-next Inv-loop μ-loop → tie.At-loop Inv-loop μ-loop
 head c =
     let c1 : tie.After-next-arg3 Inv-loop μ-loop = c .before .before .before .before .before .before in
     c1 .before .before .before .before .before
+
 abbrev called : tie.After-slice-known16 Inv-loop μ-loop → tie.After-next Inv-loop μ-loop
 called c =
     let c1 : tie.After-slice-known13 Inv-loop μ-loop = c .before .before .before .before .before .before in
     let c2 : tie.After-slice-known10 Inv-loop μ-loop = c1 .before .before .before .before .before .before in
     c2 .before .before .before .before
+
 abbrev tested : tie.After-next-arg8 Inv-loop μ-loop → tie.Then1 Inv-loop μ-loop
 tested c =
     let c1 : tie.After-next-arg2 Inv-loop μ-loop = c .before .before .before .before .before .before in

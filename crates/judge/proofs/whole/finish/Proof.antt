@@ -22,6 +22,7 @@ abbrev entry : tie.After-has-room → tie.Start
 entry c =
     let c1 : tie.After-shared-slice-known4 = c .before .before .before .before .before .before in
     c1 .before .before .before .before
+
 abbrev tested : tie.After-slice-known2 → tie.Else1
 tested c = c .before .before .before .before
 
