@@ -93,27 +93,61 @@ text-behind {before} {at} text {after} {end} w fits =
 
 -- ---- the run
 -- before the first request
-pub performing-start : (run out : List ℕ) {b : Buffers} {F : List ℕ} → HoldsState empty b F
-    → Performing run (record { from = 0; at = 0; index = 0; refused = false }) out b F
-performing-start run out h =
+pub performing-start : (run : List ℕ) (p : Place) {b : Buffers} {F : List ℕ} → HoldsState empty b F → p .from ≡ 0 → p .index ≡ 0 → p .refused ≡ false → Performing run p [] b F
+performing-start run p h from index going =
+    let left : leftAt empty run p ≡ program run =
+    ap (λ (t : Bool). if t then ([], empty) else programFrom empty (drop (p .from) run)) going
+    ∙ ap (λ (n : ℕ). programFrom empty (drop n run)) from
+    ∙ program-from run in
     record {
       state = empty;
       holds = h;
       leak = some-leak [] .0;
       right = some-leak [] .1;
-      text = λ l _. ap (λ (o : List Answer × State). answerLines l 0 (o .0)) (program-from run);
-      final = ap (λ (o : List Answer × State). o .1) (program-from run);
-      fits = omega arith;
-      within = omega arith;
-      counted = omega arith;
+      text = λ l _. ap (λ (n : ℕ). answerLines l n (leftAt empty run p .0)) index ∙ ap (λ (o : List Answer × State). answerLines l 0 (o .0)) left;
+      final = ap (λ (o : List Answer × State). o .1) left;
+      within = omega (arith, from);
+      counted = omega (arith, from, index);
     }
 
 not-both : {t : Bool} → t ≡ false → t ≡ true → ⊥
 not-both e e′ = false≢true (sym e ∙ e′)
 
+-- the line of a request's answer is added to the others
+pub record LineAdded (s : State) (ws : List ℕ) (index : ℕ) (lines : List ℕ) (refused : Bool) (lines′ : List ℕ) (b : Buffers) (F : List ℕ) : Type 0 where
+  pub holds : HoldsState (step s ws .1) b F
+  pub leak : ℕ
+  pub right : NamesLeak (step s ws .1 .memory) leak
+  pub line : lines′ ≡ lines ++ answerLine index (nameIn (step s ws .0) leak) (step s ws .0)
+  pub told : refused ≡ not (eqb (step s ws .0 .refusal) 0)
+
+-- the request at place p of a run, and the place behind it
+pub record Advanced (s : State) (run : List ℕ) (p : Place) (lines : List ℕ) (r : Place) (lines′ : List ℕ) (b : Buffers) (F : List ℕ) : Type 0 where
+  pub added : LineAdded s (nextRequest (drop (p .from) run)) (p .index) lines (r .refused) lines′ b F
+  pub from : r .from ≡ requestEnd run (p .from)
+  pub index : r .index ≡ p .index + 1
+
+-- the line stands in the buffer, behind the others
+pub advanced : {s : State} {run : List ℕ} {p : Place} {before : List ℕ} {r : Place} {after : List ℕ} {b : Buffers} {F : List ℕ} → Taken s run p before r after b F
+    → Advanced s run p (take (p .at) before) r (take (r .at) after) b F
+advanced {s} {run} {p} k =
+    let w = k .turned .line .written in
+    let o : Answer × State = step s (nextRequest (drop (p .from) run)) in
+    record {
+      added = record {
+        holds = k .turned .holds;
+        leak = k .turned .line .leak;
+        right = k .turned .line .right;
+        line = text-behind (answerLine (p .index) (nameIn (o .0) (k .turned .line .leak)) (o .0)) (w .written) (w .fits);
+        told = k .turned .line .told;
+      };
+      from = k .from;
+      index = k .index;
+    }
+
 -- one request more
-module _ {s : State} {run : List ℕ} {p : Place} {before : List ℕ} {r : Place} {after : List ℕ} {b′ : Buffers} {F′ : List ℕ}
-    (going : p .refused ≡ false) (more : p .from < length run) (k : Taken s run p before r after b′ F′) where
+module _ {s : State} {run : List ℕ} {p : Place} {lines : List ℕ} {r : Place} {lines′ : List ℕ} {b′ : Buffers} {F′ : List ℕ}
+    (going : p .refused ≡ false) (more : p .from < length run) (k : Advanced s run p lines r lines′ b′ F′) where
   abbrev bytes : List ℕ
   bytes = drop (p .from) run
 
@@ -129,12 +163,12 @@ module _ {s : State} {run : List ℕ} {p : Place} {before : List ℕ} {r : Place
   left-by : (t : Bool) → eqb (outcome .0 .refusal) 0 ≡ t
       → programFrom s bytes ≡ (outcome .0 ∷ leftAt (outcome .1) run r .0, leftAt (outcome .1) run r .1)
   left-by true e =
-      let accepted : r .refused ≡ false = k .turned .line .told ∙ ap not e in
+      let accepted : r .refused ≡ false = k .added .told ∙ ap not e in
       program-more s bytes some-bytes (eqb-true (outcome .0 .refusal) 0 e)
       ∙ ap (λ (l : List ℕ). let o = programFrom (outcome .1) l in (outcome .0 ∷ o .0, o .1)) (sym behind)
       ∙ ap (λ (t : Bool). let o = if t then ([], outcome .1) else programFrom (outcome .1) (drop (r .from) run) in (outcome .0 ∷ o .0, o .1)) (sym accepted)
   left-by false e =
-      let refused : r .refused ≡ true = k .turned .line .told ∙ ap not e in
+      let refused : r .refused ≡ true = k .added .told ∙ ap not e in
       program-last s bytes some-bytes e
       ∙ ap (λ (t : Bool). let o = if t then ([], outcome .1) else programFrom (outcome .1) (drop (r .from) run) in (outcome .0 ∷ o .0, o .1)) (sym refused)
 
@@ -143,60 +177,61 @@ module _ {s : State} {run : List ℕ} {p : Place} {before : List ℕ} {r : Place
       ap (λ (t : Bool). if t then ([], s) else programFrom s bytes) going ∙ left-by (eqb (outcome .0 .refusal) 0) refl
 
   -- an accepted request has no name in its line
-  name-by : (t : Bool) → eqb (outcome .0 .refusal) 0 ≡ t → (l : ℕ) → (r .refused ≡ true → l ≡ k .turned .line .leak)
-      → nameIn (outcome .0) (k .turned .line .leak) ≡ nameIn (outcome .0) l
+  name-by : (t : Bool) → eqb (outcome .0 .refusal) 0 ≡ t → (l : ℕ) → (r .refused ≡ true → l ≡ k .added .leak)
+      → nameIn (outcome .0) (k .added .leak) ≡ nameIn (outcome .0) l
   name-by true e l h =
       let zero : outcome .0 .refusal ≡ 0 = eqb-true (outcome .0 .refusal) 0 e in
-      ap (λ (n : ℕ). if eqb n memoryLeak then some (k .turned .line .leak) else none) zero
+      ap (λ (n : ℕ). if eqb n memoryLeak then some (k .added .leak) else none) zero
       ∙ sym (ap (λ (n : ℕ). if eqb n memoryLeak then some l else none) zero)
-  name-by false e l h = ap (nameIn (outcome .0)) (sym (h (k .turned .line .told ∙ ap not e)))
+  name-by false e l h = ap (nameIn (outcome .0)) (sym (h (k .added .told ∙ ap not e)))
 
-  text-more : (l : ℕ) → (r .refused ≡ true → l ≡ k .turned .line .leak)
-      → take (r .at) after ++ answerLines l (r .index) (leftAt (outcome .1) run r .0) ≡ take (p .at) before ++ answerLines l (p .index) (leftAt s run p .0)
+  text-more : (l : ℕ) → (r .refused ≡ true → l ≡ k .added .leak)
+      → lines′ ++ answerLines l (r .index) (leftAt (outcome .1) run r .0) ≡ lines ++ answerLines l (p .index) (leftAt s run p .0)
   unfolding answerLines
   text-more l h =
-      let w = k .turned .line .written in
       let line : Option ℕ → List ℕ = λ o. answerLine (p .index) o (outcome .0) in
       let later : ℕ → List ℕ = λ n. answerLines l n (leftAt (outcome .1) run r .0) in
       let one : r .index ≡ suc (p .index) = k .index ∙ add-one (p .index) in
-      ap (λ (t : List ℕ). t ++ later (r .index)) (text-behind (line (nameIn (outcome .0) (k .turned .line .leak))) (w .written) (w .fits))
-      ∙ ap (λ (o : Option ℕ). (take (p .at) before ++ line o) ++ later (r .index)) (name-by (eqb (outcome .0 .refusal) 0) refl l h)
-      ∙ append-assoc (take (p .at) before) (line (nameIn (outcome .0) l)) (later (r .index))
-      ∙ ap (λ (n : ℕ). take (p .at) before ++ (line (nameIn (outcome .0) l) ++ later n)) one
-      ∙ ap (λ (o : List Answer × State). take (p .at) before ++ answerLines l (p .index) (o .0)) (sym left-more)
+      ap (λ (t : List ℕ). t ++ later (r .index)) (k .added .line)
+      ∙ ap (λ (o : Option ℕ). (lines ++ line o) ++ later (r .index)) (name-by (eqb (outcome .0 .refusal) 0) refl l h)
+      ∙ append-assoc lines (line (nameIn (outcome .0) l)) (later (r .index))
+      ∙ ap (λ (n : ℕ). lines ++ (line (nameIn (outcome .0) l) ++ later n)) one
+      ∙ ap (λ (o : List Answer × State). lines ++ answerLines l (p .index) (o .0)) (sym left-more)
 
-pub performing-next : {run : List ℕ} {p : Place} {before : List ℕ} {b : Buffers} {F : List ℕ} (h : Performing run p before b F)
-    {r : Place} {after : List ℕ} {b′ : Buffers} {F′ : List ℕ} → p .refused ≡ false → p .from < length run → Taken (h .state) run p before r after b′ F′
-    → Performing run r after b′ F′
+pub performing-next : {run : List ℕ} {p : Place} {lines : List ℕ} {b : Buffers} {F : List ℕ} (h : Performing run p lines b F)
+    {r : Place} {lines′ : List ℕ} {b′ : Buffers} {F′ : List ℕ} → p .refused ≡ false → p .from < length run → Advanced (h .state) run p lines r lines′ b′ F′
+    → Performing run r lines′ b′ F′
 performing-next {run} {p} h {r} going more k =
     record {
       state = step (h .state) (nextRequest (drop (p .from) run)) .1;
-      holds = k .turned .holds;
-      leak = k .turned .line .leak;
-      right = k .turned .line .right;
+      holds = k .added .holds;
+      leak = k .added .leak;
+      right = k .added .right;
       text = λ l e. text-more going more k l e ∙ h .text l (λ e′. absurd (not-both going e′));
       final = sym (ap (λ (o : List Answer × State). o .1) (left-more going more k)) ∙ h .final;
-      fits = k .turned .line .written .fits;
       within = subst (λ (n : ℕ). n ≤ length run) (sym (k .from)) (end-within run (p .from) (omega arith));
       counted = omega (arith, k .index, k .from, h .counted, end-ahead run (p .from) more);
     }
 
 -- no request is left
-pub record Performed (run : List ℕ) (p : Place) (out : List ℕ) (s : State) (leak : ℕ) : Type 0 where
-  pub text : take (p .at) out ≡ answerLines leak 0 (program run .0)
+pub record Performed (run lines : List ℕ) (s : State) (leak : ℕ) : Type 0 where
+  pub right : NamesLeak (program run .1 .memory) leak
+  pub text : lines ≡ answerLines leak 0 (program run .0)
   pub final : s ≡ program run .1
 
-pub performing-end : {run : List ℕ} {p : Place} {out : List ℕ} {b : Buffers} {F : List ℕ} (h : Performing run p out b F)
-    → (p .refused ≡ false → p .from < length run → ⊥) → Performed run p out (h .state) (h .leak)
+pub performing-end : {run : List ℕ} {p : Place} {lines : List ℕ} {b : Buffers} {F : List ℕ} (h : Performing run p lines b F)
+    → (p .refused ≡ false → p .from < length run → ⊥) → Performed run lines (h .state) (h .leak)
 unfolding answerLines
-performing-end {run} {p} {out} h over =
+performing-end {run} {p} {lines} h over =
     let none : leftAt (h .state) run p ≡ ([], h .state) = by (p .refused) refl in
+    let final : h .state ≡ program run .1 = ap (λ (o : List Answer × State). o .1) (sym none) ∙ h .final in
     record {
+      right = subst (λ (s : State). NamesLeak (s .memory) (h .leak)) final (h .right);
       text =
-          sym (append-nil (take (p .at) out))
-          ∙ ap (λ (o : List Answer × State). take (p .at) out ++ answerLines (h .leak) (p .index) (o .0)) (sym none)
+          sym (append-nil lines)
+          ∙ ap (λ (o : List Answer × State). lines ++ answerLines (h .leak) (p .index) (o .0)) (sym none)
           ∙ h .text (h .leak) (λ _. refl);
-      final = ap (λ (o : List Answer × State). o .1) (sym none) ∙ h .final;
+      final = final;
     }
   where
     by : (t : Bool) → p .refused ≡ t → leftAt (h .state) run p ≡ ([], h .state)
@@ -208,30 +243,26 @@ performing-end {run} {p} {out} h over =
         ∙ program-end (h .state)
 
 -- an allocation that 25 may name in the end: the one that is written, where the last request was refused
-pub right-leak : {run : List ℕ} {p : Place} {out : List ℕ} {b : Buffers} {F : List ℕ} (h : Performing run p out b F)
+pub right-leak : {run : List ℕ} {p : Place} {lines : List ℕ} {b : Buffers} {F : List ℕ} (h : Performing run p lines b F)
     → (leak : ℕ) × (NamesLeak (program run .1 .memory) leak × (p .refused ≡ true → leak ≡ h .leak))
 right-leak {run} {p} h = by (p .refused) refl
   where
     by : (t : Bool) → p .refused ≡ t → (leak : ℕ) × (NamesLeak (program run .1 .memory) leak × (p .refused ≡ true → leak ≡ h .leak))
-    by true e =
-        let none : leftAt (h .state) run p ≡ ([], h .state) = ap (λ (t : Bool). if t then ([], h .state) else programFrom (h .state) (drop (p .from) run)) e in
-        let final : h .state ≡ program run .1 = ap (λ (o : List Answer × State). o .1) (sym none) ∙ h .final in
-        (h .leak, (subst (λ (s : State). NamesLeak (s .memory) (h .leak)) final (h .right), λ _. refl))
+    by true e = (h .leak, (performing-end h (λ f _. not-both f e) .right, λ _. refl))
     by false e = let l = some-leak (program run .1 .memory) in (l .0, (l .1, λ t. absurd (false≢true (sym e ∙ t))))
 
--- the text so far is no longer than the whole
-pub text-short : {run : List ℕ} {p : Place} {out : List ℕ} {b : Buffers} {F : List ℕ} (h : Performing run p out b F) (leak : ℕ) → (p .refused ≡ true → leak ≡ h .leak)
-    → p .at ≤ length (output leak run)
+-- the lines so far are no longer than the whole
+pub text-short : {run : List ℕ} {p : Place} {lines : List ℕ} {b : Buffers} {F : List ℕ} (h : Performing run p lines b F) (leak : ℕ) → (p .refused ≡ true → leak ≡ h .leak)
+    → length lines ≤ length (output leak run)
 unfolding output
-text-short {run} {p} {out} h leak same =
+text-short {run} {p} {lines} h leak same =
     let left = answerLines leak (p .index) (leftAt (h .state) run p .0) in
-    let lines = answerLines leak 0 (program run .0) in
+    let whole = answerLines leak 0 (program run .0) in
     omega (
       arith,
       ap length (h .text leak same),
-      length-append (take (p .at) out) left,
-      length-take-le (p .at) out (h .fits),
-      length-append lines (memoryLines 0 (program run .1 .memory)),
+      length-append lines left,
+      length-append whole (memoryLines 0 (program run .1 .memory)),
     )
 
 -- the lines of the memory end in the buffer
@@ -241,12 +272,10 @@ memory-inside {m} h {out} {at} w room =
     omega (arith, w .place, ap length (w .contents) ∙ write-length at (memoryLines 0 m) out, memory-length m (h .valid))
 
 -- and with the lines of the memory it is the whole
-pub text-whole : {run : List ℕ} {p : Place} {out : List ℕ} {s : State} {leak : ℕ} → Performed run p out s leak → {after : List ℕ} {end : ℕ}
-    → Written out (p .at) (memoryLines 0 (s .memory)) after end → end ≤ length after → take end after ≡ output leak run
+pub text-whole : {run lines : List ℕ} {s : State} {leak : ℕ} → Performed run lines s leak → lines ++ memoryLines 0 (s .memory) ≡ output leak run
 unfolding output
-text-whole {run} {p} {out} {s} {leak} k {after} {end} w fits =
-    text-behind (memoryLines 0 (s .memory)) w fits
-    ∙ ap (λ (t : List ℕ). t ++ memoryLines 0 (s .memory)) (k .text)
+text-whole {run} {lines} {s} {leak} k =
+    ap (λ (t : List ℕ). t ++ memoryLines 0 (s .memory)) (k .text)
     ∙ ap (λ (o : State). answerLines leak 0 (program run .0) ++ memoryLines 0 (o .memory)) (k .final)
 
 -- ---- the tests before the memory's lines

@@ -26,17 +26,21 @@ abbrev pub leftAt : State → List ℕ → Place → List Answer × State
 leftAt s run p = if p .refused then ([], s) else programFrom s (drop (p .from) run)
 
 -- the run came to place p: the lines so far, and those of what is left, are the definition's
-pub record Performing (run : List ℕ) (p : Place) (out : List ℕ) (b : Buffers) (F : List ℕ) : Type 0 where
+pub record Performing (run : List ℕ) (p : Place) (lines : List ℕ) (b : Buffers) (F : List ℕ) : Type 0 where
   pub state : State
   pub holds : HoldsState state b F
   pub leak : ℕ
   pub right : NamesLeak (state .memory) leak
   pub text : (l : ℕ) → (p .refused ≡ true → l ≡ leak)
-      → take (p .at) out ++ answerLines l (p .index) (leftAt state run p .0) ≡ answerLines l 0 (program run .0)
+      → lines ++ answerLines l (p .index) (leftAt state run p .0) ≡ answerLines l 0 (program run .0)
   pub final : leftAt state run p .1 ≡ program run .1
-  pub fits : p .at ≤ length out
   pub within : p .from ≤ length run
   pub counted : p .index ≤ p .from
+
+-- so it is, and the lines are those in front of the buffer
+pub record PerformingIn (run : List ℕ) (p : Place) (out : List ℕ) (b : Buffers) (F : List ℕ) : Type 0 where
+  pub performing : Performing run p (take (p .at) out) b F
+  pub fits : p .at ≤ length out
 
 -- the memory's lines have room in this
 abbrev pub memoryRoom : ℕ

@@ -43,7 +43,7 @@ fn put_line(out: &mut [u8], at: usize, index: u64, answer: Answer, words: &[u32]
     requires { ⌜ (at + lineRoom ≤ length (now out)) × (length (now words) ≤ 4096) ⌝ }
     ensures { λ r. ⌜ WrittenInside (now (out .entry)) at (answerLine index (named answer) (answerOf answer (now (words .entry)))) (now (out .exit)) r ⌝ }
 {
-    let loaded = library::load::load_view(words, answer);
+    let loaded = answer::loaded_words(answer, words);
     report::answers::answer_line(out, at, index, answer, loaded)
 }
 

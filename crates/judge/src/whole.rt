@@ -11,7 +11,7 @@ ghost use Rattle.definition.specs.Frame.{empty};
 ghost use Rattle.tables.specs.Held.{buffers};
 ghost use Rattle.perform.specs.Performed.{HoldsState};
 ghost use Rattle.step.specs.Lengths.{haveLengths};
-ghost use Rattle.judge.specs.Whole.{goesOn, Performing, JudgedAs};
+ghost use Rattle.judge.specs.Whole.{goesOn, PerformingIn, JudgedAs};
 
 fn has_room(at: usize, more: usize, room: usize) -> bool
     ensures { λ r. ⌜ r ≡ leb (at + more) room ⌝ }
@@ -43,7 +43,7 @@ fn answer_all(
 ) -> Place
     requires { ⌜ HoldsState empty (buffers (now allocs) (now parents) (now protectors) (now words) (now codes)) (now frames) ⌝ }
     requires { ⌜ length (now request) ≡ 4100 ⌝ }
-    ensures { λ r. ⌜ Performing (now (run .entry)) r (now (out .exit))
+    ensures { λ r. ⌜ PerformingIn (now (run .entry)) r (now (out .exit))
         (buffers (now (allocs .exit)) (now (parents .exit)) (now (protectors .exit)) (now (words .exit)) (now (codes .exit))) (now (frames .exit)) ⌝ }
     ensures { λ r. ⌜ goesOn r (length (now (run .entry))) (length (now (out .exit))) ≡ false ⌝ }
 {
@@ -81,7 +81,7 @@ fn finish(
     out: &mut [u8],
     p: Place,
 ) -> Judged
-    requires { ⌜ ((F : List ℕ) × Performing (now run) p (now out) (buffers (now allocs) (now parents) (now protectors) (now words) (now codes)) F) ⌝ }
+    requires { ⌜ ((F : List ℕ) × PerformingIn (now run) p (now out) (buffers (now allocs) (now parents) (now protectors) (now words) (now codes)) F) ⌝ }
     requires { ⌜ goesOn p (length (now run)) (length (now out)) ≡ false ⌝ }
     ensures { λ r. ⌜ JudgedAs (now (run .entry)) (now (out .entry)) r (now (out .exit)) ⌝ }
 {

@@ -3,13 +3,13 @@
 use Prim.Native.Nat.{ℕ, zero, suc, _+_, _-_, _*_, _%_, _≤_, _<_}
 use mathlib.Core.Path.{_≡_, refl, sym, ap, _∙_}
 use mathlib.Core.Bool.{Bool, true, false, not, _||_}
-use mathlib.Core.List.{List, [], _∷_}
+use mathlib.Core.List.{List, [], _∷_, _++_}
 use native.Mathlib.Omega.{arith}
 use native.Mathlib.Nat.{mul-add-mod-self-left, mod-eq-of-lt}
 use borrow.Author.Tests.{ltb-true, ltb-false, ne-eqb}
 use lib.Dec.{eqb, ltb}
 use lib.ListN.{length, take, drop, length-drop, drop-of-length-le}
-use lib.Seq.{take-all}
+use lib.Seq.{take-all, take-append-le}
 use Rattle.definition.specs.Notation.{if_then_else_}
 use Rattle.definition.specs.Refusal.{malformed}
 use Rattle.definition.specs.Memory.{Answer, refusedWith}
@@ -34,6 +34,27 @@ follow-sucs n (a ∷ b ∷ c ∷ d ∷ ws) = refl
 pub follow-four : (n : ℕ) (ws : List ℕ) → follow (take (4 + n) ws) ≡ follow ws
 follow-four n ws =
     let e : 4 + n ≡ suc (suc (suc (suc n))) = omega arith in ap (λ (m : ℕ). follow (take m ws)) e ∙ follow-sucs n ws
+
+-- ---- a request that is whole at hand is the same whatever follows
+module _ (bytes later : List ℕ) (h : requestSize bytes ≤ length bytes) where
+  four-words : (l : List ℕ) → follow (wordsOf l) ≡ follow (wordsOf (take 16 l))
+  four-words l = sym (follow-four 0 (wordsOf l)) ∙ ap follow (sym (words-take 4 l))
+
+  same-follow : follow (wordsOf (bytes ++ later)) ≡ follow (wordsOf bytes)
+  unfolding requestSize
+  same-follow =
+      four-words (bytes ++ later)
+      ∙ ap (λ (l : List ℕ). follow (wordsOf l)) (take-append-le 16 bytes later (omega arith))
+      ∙ sym (four-words bytes)
+
+  pub size-more : requestSize (bytes ++ later) ≡ requestSize bytes
+  unfolding requestSize
+  size-more = ap (λ (n : ℕ). 16 + 4 * (if ltb 4096 n then 0 else n)) same-follow
+
+  pub next-more : nextRequest (bytes ++ later) ≡ nextRequest bytes
+  next-more =
+      ap (λ (n : ℕ). wordsOf (take n (bytes ++ later))) size-more
+      ∙ ap wordsOf (take-append-le (requestSize bytes) bytes later h)
 
 -- ---- what is miscounted is refused, and changes nothing
 step-miscounted : (s : State) (ws : List ℕ) → isMiscounted ws ≡ true → step s ws ≡ (refusedWith malformed, s)

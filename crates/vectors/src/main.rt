@@ -9,7 +9,7 @@ ghost use lib.ListN.{length};
 ghost use Rattle.tables.specs.Held.{buffers};
 ghost use Rattle.step.specs.Lengths.{haveLengths};
 ghost use Rattle.judge.specs.Whole.{JudgedAs};
-ghost use Rattle.vectors.specs.Sample.{Placed, Agrees};
+ghost use Rattle.vectors.specs.Sample.{recordAt, Agrees, one, Counted};
 
 // Where a record's run, its text and its end are.
 struct Record {
@@ -26,7 +26,7 @@ fn wide(x: u32) -> usize
 }
 
 fn one_if(b: bool) -> u64
-    ensures { λ r. ⌜ r ≤ 1 ⌝ }
+    ensures { λ r. ⌜ r ≡ one b ⌝ }
 {
     if b { 1 } else { 0 }
 }
@@ -34,7 +34,7 @@ fn one_if(b: bool) -> u64
 // "length of the run, length of the output, the run, the output"
 fn record_at(file: &[u8], at: usize) -> Record
     requires { ⌜ at ≤ length (now file) ⌝ }
-    ensures { λ r. ⌜ Placed (now (file .entry)) at r ⌝ }
+    ensures { λ r. ⌜ r ≡ recordAt (now (file .entry)) at ⌝ }
 {
     let total = file.len();
     let none = Record {
@@ -120,7 +120,7 @@ fn count_agreeing(
 ) -> u64
     requires { ⌜ haveLengths (buffers (now allocs) (now parents) (now protectors) (now words) (now codes)) (now frames) ≡ true ⌝ }
     requires { ⌜ (length (now request) ≡ 4100) × ((12 ≤ length (now file)) × (records < 2 ^ 32)) ⌝ }
-    ensures { λ r. ⌜ r ≤ records ⌝ }
+    ensures { λ r. ⌜ Counted (now (file .entry)) (length (now (out .entry))) records 12 r ⌝ }
 {
     let mut agree: u64 = 0;
     let mut left = records;

@@ -1,16 +1,19 @@
 // Reads a run from standard input and prints its verdict: the line of each request up to the first that is refused, and the memory that is left.
 use judge::Place;
-ghost use Prim.Native.Nat.{ℕ, _+_, _≤_, _<_, _^_};
+ghost use Prim.Native.Nat.{ℕ, _+_, _-_, _≤_, _<_, _^_};
 ghost use mathlib.Core.Path.{_≡_};
-ghost use mathlib.Core.Bool.{true};
+ghost use mathlib.Core.Bool.{true, false};
 ghost use mathlib.Core.List.{List};
 ghost use lib.ListN.{length};
-ghost use Rattle.definition.specs.Frame.{State};
-ghost use Rattle.tables.specs.Held.{buffers, WellFormed};
+ghost use Rattle.definition.specs.Memory.{Memory};
+ghost use Rattle.definition.specs.Frame.{empty};
+ghost use Rattle.definition.specs.Output.{memoryLines};
+ghost use Rattle.tables.specs.Held.{buffers, Holds, WellFormed};
 ghost use Rattle.perform.specs.Performed.{HoldsState};
 ghost use Rattle.step.specs.Lengths.{haveLengths};
-ghost use Rattle.judge.specs.Turn.{lineRoom};
-ghost use Rattle.verdict.specs.Ready.{lacks, goesOn, Ready, after};
+ghost use Rattle.report.specs.Written.{Written};
+ghost use Rattle.verdict.specs.Progress.{lacks, goesOn, Ready, failedAt, isLong, flushedAs, withTextTo, ReadOn};
+ghost use Rattle.verdict.specs.Came.{Came, TurnMade, TurnsMade, Printed};
 
 // The input buffer holds bytes up to `end`, of which those from the place on are not yet performed; the text up to the place is not yet written.
 struct Progress {
@@ -34,19 +37,15 @@ fn lacks(bytes: &[u8], ended: bool) -> bool
     (bytes.len() < stream::request_size(bytes)) & !ended
 }
 
-fn failure(index: u64) -> Progress
-    ensures { λ r. ⌜ ((input out : List ℕ) → lineRoom ≤ length out → Ready r input out) × (r .place .index ≡ index) ⌝ }
+// Reading or writing failed: nothing more is done.
+fn failure(p: Progress) -> Progress
+    ensures { λ r. ⌜ r ≡ failedAt p ⌝ }
 {
-    let place = Place {
-        from: 0,
-        at: 0,
-        index,
-        refused: false,
-    };
+    let place = p.place;
     Progress {
         place,
-        end: 0,
-        ended: true,
+        end: p.end,
+        ended: p.ended,
         failed: true,
     }
 }
@@ -61,27 +60,27 @@ fn write_text(text: &[u8]) -> bool {
 
 // Whoever feeds the program has every answer before more is read.
 fn read_more(input: &mut [u8], out: &[u8], p: Progress) -> Progress
-    requires { ⌜ Ready p (now input) (now out) ⌝ }
-    ensures { λ r. ⌜ Ready r (now (input .exit)) (now (out .entry)) × (r .place .index ≡ p .place .index) ⌝ }
+    requires { ⌜ Ready p (now input) × (p .place .at ≤ length (now out)) ⌝ }
+    requires { ⌜ p .end - p .place .from < length (now input) ⌝ }
+    ensures { λ r. ⌜ ReadOn (r .failed) p (now (input .entry)) r (now (input .exit)) ⌝ }
 {
     let place = p.place;
-    let index = place.index;
     let at = place.at;
     if !write_text(&out[..at]) {
-        return failure(index);
+        return failure(p);
     }
     let kept = stream::move_to_front(input, place.from, p.end);
     let got = libc::read(0, &mut input[kept..]);
     if got < 0 {
         os::fail(b"read");
-        return failure(index);
+        return failure(p);
     }
     let n = io::count(got, &input[kept..]);
     let next = Place {
         from: 0,
         at: 0,
-        index,
-        refused: false,
+        index: place.index,
+        refused: place.refused,
     };
     Progress {
         place: next,
@@ -91,11 +90,10 @@ fn read_more(input: &mut [u8], out: &[u8], p: Progress) -> Progress
     }
 }
 
-// Writes the text where there may be no room for another line.
+// Writes the text where there may be no room for another line and the memory.
 fn flushed(out: &[u8], p: Progress, next: Place) -> Progress
-    requires { ⌜ (length (now out) ≡ 0x28000) × (next .at ≤ length (now out)) ⌝ }
-    requires { ⌜ (next .from ≤ p .end) × (next .index < 2 ^ 64) ⌝ }
-    ensures { λ r. ⌜ ((input : List ℕ) → p .end ≤ length input → Ready r input (now (out .entry))) × (r .place .index ≡ next .index) ⌝ }
+    requires { ⌜ next .at ≤ length (now out) ⌝ }
+    ensures { λ r. ⌜ (r ≡ flushedAs p next (r .failed)) × (isLong next ≡ false → r .failed ≡ false) ⌝ }
 {
     let at = next.at;
     if at <= 0x10000 {
@@ -106,9 +104,7 @@ fn flushed(out: &[u8], p: Progress, next: Place) -> Progress
             failed: false,
         };
     }
-    if !write_text(&out[..at]) {
-        return failure(next.index);
-    }
+    let failed = !write_text(&out[..at]);
     let place = Place {
         from: next.from,
         at: 0,
@@ -119,7 +115,7 @@ fn flushed(out: &[u8], p: Progress, next: Place) -> Progress
         place,
         end: p.end,
         ended: p.ended,
-        failed: false,
+        failed,
     }
 }
 
@@ -136,12 +132,15 @@ fn turn(
     out: &mut [u8],
     p: Progress,
 ) -> Progress
-    requires { ⌜ ((s : State) × HoldsState s (buffers (now allocs) (now parents) (now protectors) (now words) (now codes)) (now frames)) ⌝ }
-    requires { ⌜ Ready p (now input) (now out) × ((length (now request) ≡ 4100) × (length (now out) ≡ 0x28000)) ⌝ }
+    requires { ⌜ ((bytes : List ℕ) × ((written : List ℕ)
+        × Came bytes written p (now input) (now out) (buffers (now allocs) (now parents) (now protectors) (now words) (now codes)) (now frames))) ⌝ }
+    requires { ⌜ (length (now request) ≡ 4100) × ((length (now input) ≡ 65536) × (length (now out) ≡ 0x38000)) ⌝ }
     requires { ⌜ (goesOn p ≡ true) × (p .place .index + 1 < 2 ^ 64) ⌝ }
-    ensures { λ r. ⌜ ((s : State) → HoldsState s (buffers (now (allocs .entry)) (now (parents .entry)) (now (protectors .entry)) (now (words .entry)) (now (codes .entry))) (now (frames .entry))
-        → HoldsState (after s p (now (input .entry))) (buffers (now (allocs .exit)) (now (parents .exit)) (now (protectors .exit)) (now (words .exit)) (now (codes .exit))) (now (frames .exit))) ⌝ }
-    ensures { λ r. ⌜ Ready r (now (input .exit)) (now (out .exit)) × (r .place .index ≤ p .place .index + 1) ⌝ }
+    ensures { λ r. ⌜ ((bytes written : List ℕ)
+        → Came bytes written p (now (input .entry)) (now (out .entry))
+        (buffers (now (allocs .entry)) (now (parents .entry)) (now (protectors .entry)) (now (words .entry)) (now (codes .entry))) (now (frames .entry))
+        → TurnMade (r .failed) bytes written p (now (input .entry)) (now (out .entry)) r (now (input .exit)) (now (out .exit))
+        (buffers (now (allocs .exit)) (now (parents .exit)) (now (protectors .exit)) (now (words .exit)) (now (codes .exit))) (now (frames .exit))) ⌝ }
 {
     let place = p.place;
     let from = place.from;
@@ -176,10 +175,10 @@ fn take_turns(
     input: &mut [u8],
     out: &mut [u8],
 ) -> Progress
-    requires { ⌜ ((s : State) × HoldsState s (buffers (now allocs) (now parents) (now protectors) (now words) (now codes)) (now frames)) ⌝ }
-    requires { ⌜ (length (now request) ≡ 4100) × (length (now out) ≡ 0x28000) ⌝ }
-    ensures { λ r. ⌜ ((s : State) × HoldsState s (buffers (now (allocs .exit)) (now (parents .exit)) (now (protectors .exit)) (now (words .exit)) (now (codes .exit))) (now (frames .exit))) ⌝ }
-    ensures { λ r. ⌜ Ready r (now (input .exit)) (now (out .exit)) ⌝ }
+    requires { ⌜ HoldsState empty (buffers (now allocs) (now parents) (now protectors) (now words) (now codes)) (now frames) ⌝ }
+    requires { ⌜ (length (now request) ≡ 4100) × ((length (now input) ≡ 65536) × (length (now out) ≡ 0x38000)) ⌝ }
+    ensures { λ r. ⌜ TurnsMade (r .failed) r (now (input .exit)) (now (out .exit))
+        (buffers (now (allocs .exit)) (now (parents .exit)) (now (protectors .exit)) (now (words .exit)) (now (codes .exit))) (now (frames .exit)) ⌝ }
 {
     let place = Place {
         from: 0,
@@ -212,7 +211,7 @@ fn take_turns(
     p
 }
 
-// The rest of the text, and the memory.
+// The lines of the memory, behind those that are not yet written.
 fn finish(
     allocs: &[u64],
     parents: &[u16],
@@ -221,20 +220,43 @@ fn finish(
     codes: &[u8],
     out: &mut [u8],
     p: Progress,
-)
-    requires { ⌜ WellFormed (buffers (now allocs) (now parents) (now protectors) (now words) (now codes)) ⌝ }
-    requires { ⌜ (p .place .at ≤ length (now out)) × (length (now out) ≡ 0x28000) ⌝ }
+) -> Progress
+    requires { ⌜ (p .failed ≡ false → WellFormed (buffers (now allocs) (now parents) (now protectors) (now words) (now codes))) ⌝ }
+    requires { ⌜ (p .failed ≡ false → p .place .at + 0x28000 ≤ length (now out)) ⌝ }
+    ensures { λ r. ⌜ r ≡ withTextTo (r .place .at) p ⌝ }
+    ensures { λ r. ⌜ (p .failed ≡ false → (m : Memory)
+        → Holds m (buffers (now (allocs .entry)) (now (parents .entry)) (now (protectors .entry)) (now (words .entry)) (now (codes .entry)))
+        → Written (now (out .entry)) (p .place .at) (memoryLines 0 m) (now (out .exit)) (r .place .at)) ⌝ }
 {
-    let place = p.place;
-    let at = place.at;
-    if p.failed || !write_text(&out[..at]) {
-        return;
+    if p.failed {
+        return p;
     }
-    let end = report::allocations::memory_lines(out, 0, allocs, parents, protectors, words, codes);
-    write_text(&out[..end]);
+    let place = p.place;
+    let end = report::allocations::memory_lines(
+        out,
+        place.at,
+        allocs,
+        parents,
+        protectors,
+        words,
+        codes,
+    );
+    let last = Place {
+        from: place.from,
+        at: end,
+        index: place.index,
+        refused: place.refused,
+    };
+    Progress {
+        place: last,
+        end: p.end,
+        ended: p.ended,
+        failed: p.failed,
+    }
 }
 
-fn run_input(
+// Reads the run, and writes its text but for the end that stands in front of `out` then.
+fn judge_input(
     allocs: &mut [u64],
     parents: &mut [u16],
     protectors: &mut [u8],
@@ -244,9 +266,10 @@ fn run_input(
     request: &mut [u32],
     input: &mut [u8],
     out: &mut [u8],
-)
+) -> Progress
     requires { ⌜ haveLengths (buffers (now allocs) (now parents) (now protectors) (now words) (now codes)) (now frames) ≡ true ⌝ }
-    requires { ⌜ (length (now request) ≡ 4100) × (length (now out) ≡ 0x28000) ⌝ }
+    requires { ⌜ (length (now request) ≡ 4100) × ((length (now input) ≡ 65536) × (length (now out) ≡ 0x38000)) ⌝ }
+    ensures { λ r. ⌜ Printed (r .failed) r (now (out .exit)) ⌝ }
 {
     step::clear::clear(allocs, parents, protectors, words, codes, frames);
     let p = take_turns(
@@ -260,7 +283,19 @@ fn run_input(
         input,
         out,
     );
-    finish(allocs, parents, protectors, words, codes, out, p);
+    finish(allocs, parents, protectors, words, codes, out, p)
+}
+
+// The end of the text.
+fn write_rest(out: &[u8], p: Progress)
+    requires { ⌜ (p .failed ≡ false → p .place .at ≤ length (now out)) ⌝ }
+{
+    if p.failed {
+        return;
+    }
+    let place = p.place;
+    let at = place.at;
+    write_text(&out[..at]);
 }
 
 fn main() {
@@ -272,8 +307,8 @@ fn main() {
     let mut frames = [0u32; 2080];
     let mut request = [0u32; 4100];
     let mut input = [0u8; 65536];
-    let mut out = [0u8; 0x28000];
-    run_input(
+    let mut out = [0u8; 0x38000];
+    let p = judge_input(
         &mut allocs,
         &mut parents,
         &mut protectors,
@@ -284,4 +319,5 @@ fn main() {
         &mut input,
         &mut out,
     );
+    write_rest(&out, p);
 }

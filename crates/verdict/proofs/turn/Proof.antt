@@ -1,13 +1,47 @@
--- A turn reads, and leaves the buffers as they are, or takes a request that is at hand (Turns).
-use mathlib.Core.Path.{sym, _∙_}
+-- A turn reads, or performs a request that is at hand (Turns).
+use mathlib.Core.Bool.{true, false}
+use mathlib.Core.Path.{_≡_, refl, sym, _∙_}
 use native.Mathlib.Omega.{arith}
 use borrow.Author.Needs.{needs}
-use lib.ListN.{take}
+use denote.Ref.{now}
 use lib.Seq.{length-take-le}
-use Rattle.judge.proofs.Runs.{end-within}
-use Rattle.verdict.proofs.Turns.{some-request, after-reading, after-request}
+use Rattle.verdict.proofs.Bytes.{some-request, lacks-room}
+use Rattle.verdict.proofs.Turns.{made-read, made-next}
+use Rattle.verdict.specs.Progress.{lacks, atHand}
 use Rattle.verdict.proofs.turn.Statement.{statement}
 use Rattle.verdict.proofs.turn.Tie as tie
+
+-- ---- the places: the entry, behind the test, behind the call
+abbrev entry : tie.After-lacks → tie.Start
+entry c =
+    let c1 : tie.After-slice-known7 = c .before .before .before .before .before .before in
+    let c2 : tie.After-slice-known = c1 .before .before .before .before .before .before in
+    c2 .before
+
+abbrev tested : tie.After-next-arg9 → tie.Else1
+tested c =
+    let c1 : tie.After-next-arg3 = c .before .before .before .before .before .before in
+    c1 .before .before .before
+
+abbrev called : tie.After-flushed-arg → tie.After-next
+called c =
+    let c1 : tie.After-frames = c .before .before .before .before .before .before in
+    let c2 : tie.After-protectors = c1 .before .before .before .before .before .before in
+    c2 .before .before .before .before .before
+
+abbrev lent : tie.After-next-arg7 → tie.Else1
+lent c =
+    let c1 : tie.After-next-arg = c .before .before .before .before .before .before in
+    c1 .before
+
+abbrev start : tie.After-next-arg7 → tie.Start
+start c = entry (lent c .before)
+
+lacking : (c : tie.Then1) → let a = entry (c .before) .args in lacks (atHand (a .p) (now (a .input))) (a .p .ended) ≡ true
+lacking c = sym (c .before .lacks .ensures) ∙ c .if1 .taken
+
+enough : (c : tie.Else1) → let a = entry (c .before) .args in lacks (atHand (a .p) (now (a .input))) (a .p .ended) ≡ false
+enough c = sym (c .before .lacks .ensures) ∙ c .if1 .left
 
 sub-lacks : tie.Need-sub-lacks
 sub-lacks c = search needs
@@ -22,7 +56,10 @@ lacks-requires : tie.Need-lacks-requires
 lacks-requires c κs = search needs
 
 read-more-requires : tie.Need-read-more-requires
-read-more-requires c κs = search needs
+read-more-requires c κs = let t = c .before .before in
+    let s = entry (t .before) in
+    let ready = s .pre .0 .1 .1 .ready in
+    ((ready, omega (arith, s .pre .1 .0, ready .short)), omega (arith, s .pre .1 .0, lacks-room (s .args .p) (now (s .args .input)) ready (lacking t)))
 
 same-length : tie.Need-same-length
 same-length c = search needs
@@ -31,32 +68,29 @@ same-length-2 : tie.Need-same-length-2
 same-length-2 c = search needs
 
 returns : tie.Need-returns
-returns c =
-    (λ state h. after-reading state (c .before .before .before .before .before .before .before .before .before .before .before .before .before .before .before .before .before .before .before .args .p) (c .before .before .before .before .before .before .before .before .before .before .before .before .before .before .before .before .before .before .before .args .input .now) (sym (c .before .before .before .before .before .before .lacks .ensures) ∙ c .before .before .before .before .before .if1 .taken) h, (c .before .before .read-more .ensures .0, omega (arith, c .before .before .read-more .ensures .1)))
+returns c = let r = c .before .before .read-more in
+    let t = c .before .before .before .before .before in
+    λ bytes written k. made-read k (lacking t) (r .result .failed) (r .result) (r .last .0) (r .ensures)
 
 slice-reshare-prefix-next : tie.Need-slice-reshare-prefix-next
 slice-reshare-prefix-next c = search needs
 
 slice-aggregate-next : tie.Need-slice-aggregate-next
-slice-aggregate-next c = let s = c .before .before .before .before .before .before .before .before .before .before .before .before .before .before .before .before .before .before .before .before .before in sym (length-take-le (s .args .p .end) (s .args .input .now) (s .pre .1 .0 .0 .filled))
+slice-aggregate-next c = let s = start c in sym (length-take-le (s .args .p .end) (now (s .args .input)) (s .pre .0 .1 .1 .ready .filled))
 
 next-requires : tie.Need-next-requires
-next-requires c κs = let s = c .before .before .before .before .before .before .before .before .before .before .before .before .before .before .before .before .before .before .before .before .before .before .before in
+next-requires c κs = let t = tested c in
+    let s = entry (t .before) in
     let p = s .args .p in
-    let ready = s .pre .1 .0 .0 in
-    let some = some-request p (s .args .input .now) (s .pre .1 .1 .0) (sym (c .before .before .before .before .before .before .before .before .before .before .lacks .ensures) ∙ c .before .before .before .before .before .before .before .before .before .if1 .left) in
-    (s .pre .0, (ready .room, (s .pre .1 .0 .1 .0, (omega (arith, some, length-take-le (p .end) (s .args .input .now) (ready .filled)), s .pre .1 .1 .1))))
+    let k = s .pre .0 .1 .1 in
+    let h = k .performing _ (λ _. refl) in
+    let some = some-request p (now (s .args .input)) (s .pre .1 .1 .0) (enough t) in
+    ((h .state, h .holds), (omega (arith, s .pre .1 .0, k .ready .short), (s .pre .1 .0 .0, (omega (arith, some, length-take-le (p .end) (now (s .args .input)) (k .ready .filled)), s .pre .1 .1 .1))))
 
 flushed-requires : tie.Need-flushed-requires
-flushed-requires c κs = let s = c .before .before .before .before .before .before .before .before .before .before .before .before .before .before .before .before .before .before .before .before .before .before .before .before .before .before .before .before .before .before .before .before .before .before .before .before .before .before .before .before .before in
-    let p = s .args .p in
-    let ready = s .pre .1 .0 .0 in
-    let run = take (p .end) (s .args .input .now) in
-    let k = c .before .before .before .before .before .before .before .before .before .before .before .before .before .before .before .before .before .next .ensures (s .pre .0 .0) (s .pre .0 .1) in
-    let all = length-take-le (p .end) (s .args .input .now) (ready .filled) in (
-      (c .before .before .before .before .before .before .before .before .before .before .before .before .before .before .before .before .before .next .kept .1 .1 .1 .1 .1 .1 .1 .1 .0 ∙ s .pre .1 .0 .1 .1, k .turned .line .written .fits),
-      (omega (arith, k .from, all, end-within run (p .place .from) (omega (arith, all, ready .ordered))), omega (arith, k .index, s .pre .1 .1 .1)),
-    )
+flushed-requires c κs = let n = called c in
+    let h = entry (tested (n .before) .before) .pre .0 .1 .1 .performing _ (λ _. refl) in
+    n .next .ensures (h .state) (h .holds) .turned .line .written .fits
 
 same-length-3 : tie.Need-same-length-3
 same-length-3 c = search needs
@@ -86,12 +120,9 @@ same-length-11 : tie.Need-same-length-11
 same-length-11 c = search needs
 
 returns-2 : tie.Need-returns-2
-returns-2 c = let s = c .before .before .before .before .before .before .before .before .before .before .before .before .before .before .before .before .before .before .before .before .before .before .before .before .before .before .before .before .before .before .before .before .before .before .before .before .before .before .before .before .before .before in
-    let ready = s .pre .1 .0 .0 in
-    let k = c .before .before .before .before .before .before .before .before .before .before .before .before .before .before .before .before .before .before .next .ensures in (
-      λ state h. after-request state (s .args .p) (s .args .input .now) (ready .ordered) (ready .filled) (sym (c .before .before .before .before .before .before .before .before .before .before .before .before .before .before .before .before .before .before .before .before .before .before .before .before .before .before .before .before .before .lacks .ensures) ∙ c .before .before .before .before .before .before .before .before .before .before .before .before .before .before .before .before .before .before .before .before .before .before .before .before .before .before .before .before .if1 .left) (k state h .turned .holds),
-      (c .flushed .ensures .0 (s .args .input .now) (ready .filled), omega (arith, c .flushed .ensures .1, k (s .pre .0 .0) (s .pre .0 .1) .index)),
-    )
+returns-2 c = let n = called (c .before) in
+    let t = tested (n .before) in
+    λ bytes written k. made-next k (n .next .result) (n .next .last .1 .1 .1 .1 .1 .1 .1 .1 .0) (n .next .ensures) (entry (t .before) .pre .1 .1 .0) (enough t) (c .flushed .result .failed) (c .flushed .result) (c .flushed .ensures .0)
 
 pub turn-spec : {M : Type 1} → statement M
 turn-spec =

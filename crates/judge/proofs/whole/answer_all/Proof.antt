@@ -1,51 +1,83 @@
 -- The lines so far and those of what is left are the definition's (Runs). Each request takes bytes, so fewer are left.
-use Prim.Native.Nat.{_-_}
+use Prim.Native.Nat.{_-_, _+_, _≤_, _<_}
+use mathlib.Core.Bool.{false}
+use mathlib.Core.List.{[]}
 use mathlib.Core.Path.{_≡_, refl, sym, _∙_}
 use native.Mathlib.Omega.{arith}
 use borrow.Author.Needs.{needs}
+use denote.Ref.{now}
 use lib.ListN.{length}
-use Rattle.judge.proofs.Runs.{performing-start, performing-next, goes, end-ahead, end-within}
-use Rattle.judge.specs.Whole.{Performing}
+use Rattle.judge.proofs.Runs.{advanced, performing-start, performing-next, goes, end-ahead, end-within}
+use Rattle.judge.specs.Turn.{lineRoom, Taken}
+use Rattle.judge.specs.Whole.{PerformingIn}
 use Rattle.tables.specs.Held.{buffers}
 use Rattle.judge.proofs.whole.answer_all.Statement.{statement}
 use Rattle.judge.proofs.whole.answer_all.Tie as tie
 
 abbrev Inv-loop : tie.InvT-loop
-Inv-loop allocs₀ parents₀ protectors₀ words₀ codes₀ frames₀ run request₀ out₀ p₀ allocs parents protectors words codes frames request out p = Performing run p out (buffers allocs parents protectors words codes) frames × ((length allocs ≡ length allocs₀) × ((length parents ≡ length parents₀) × ((length protectors ≡ length protectors₀) × ((length words ≡ length words₀) × ((length codes ≡ length codes₀) × ((length frames ≡ length frames₀) × ((length request ≡ length request₀) × ((length out ≡ length out₀)))))))))
+Inv-loop allocs₀ parents₀ protectors₀ words₀ codes₀ frames₀ run request₀ out₀ p₀ allocs parents protectors words codes frames request out p = PerformingIn run p out (buffers allocs parents protectors words codes) frames × ((length allocs ≡ length allocs₀) × ((length parents ≡ length parents₀) × ((length protectors ≡ length protectors₀) × ((length words ≡ length words₀) × ((length codes ≡ length codes₀) × ((length frames ≡ length frames₀) × ((length request ≡ length request₀) × ((length out ≡ length out₀)))))))))
 
 abbrev μ-loop : tie.MeasureT-loop
 μ-loop allocs₀ parents₀ protectors₀ words₀ codes₀ frames₀ run request₀ out₀ p₀ allocs parents protectors words codes frames request out p = length run - p .from
 
+-- ---- the places: the entry, the loop's head, behind its test, behind the call
+abbrev entry : tie.After-slice-known8 Inv-loop μ-loop → tie.Start Inv-loop μ-loop
+entry c =
+    let c1 : tie.After-slice-known3 Inv-loop μ-loop = c .before .before .before .before .before .before in
+    c1 .before .before .before
+
+abbrev head : tie.After-next Inv-loop μ-loop → tie.At-loop Inv-loop μ-loop
+head c =
+    let c1 : tie.After-next-arg3 Inv-loop μ-loop = c .before .before .before .before .before .before in
+    c1 .before .before .before .before .before
+
+abbrev called : tie.After-slice-known16 Inv-loop μ-loop → tie.After-next Inv-loop μ-loop
+called c =
+    let c1 : tie.After-slice-known13 Inv-loop μ-loop = c .before .before .before .before .before .before in
+    let c2 : tie.After-slice-known10 Inv-loop μ-loop = c1 .before .before .before .before .before .before in
+    c2 .before .before .before .before
+
+abbrev tested : tie.After-next-arg8 Inv-loop μ-loop → tie.Then1 Inv-loop μ-loop
+tested c =
+    let c1 : tie.After-next-arg2 Inv-loop μ-loop = c .before .before .before .before .before .before in
+    c1 .before .before
+
+-- in a turn a request is left, and its line has room
+going : (c : tie.Then1 Inv-loop μ-loop) → let l = c .before .before .loop in let run = now (entry (c .before .before .before) .args .run) in
+    (l .p .refused ≡ false) × ((l .p .from < length run) × (l .p .at + lineRoom ≤ length (l .out)))
+going c = let l = c .before .before .loop in goes (l .p) (length (now (entry (c .before .before .before) .args .run))) (length (l .out)) (sym (c .before .goes-on .ensures) ∙ c .if1 .taken)
+
+-- what the call comes to
+one-more : (c : tie.After-next Inv-loop μ-loop) → let l = head c .loop in let k = c .next in
+    Taken (l .inv .0 .performing .state) (now (entry (head c .before) .args .run)) (l .p) (l .out) (k .result) (k .last .1 .1 .1 .1 .1 .1 .1 .1 .0) (buffers (k .last .0) (k .last .1 .0) (k .last .1 .1 .0) (k .last .1 .1 .1 .0) (k .last .1 .1 .1 .1 .0)) (k .last .1 .1 .1 .1 .1 .0)
+one-more c = let h = head c .loop .inv .0 .performing in c .next .ensures (h .state) (h .holds)
+
 loop-holds : tie.Need-loop-holds Inv-loop μ-loop
-loop-holds c = (performing-start (c .before .before .before .before .before .before .before .before .before .args .run .now) (c .before .before .before .before .before .before .before .before .before .args .out .now) (c .before .before .before .before .before .before .before .before .before .pre .0), (refl, (refl, (refl, (refl, (refl, (refl, (refl, refl))))))))
+loop-holds c = (record { performing = performing-start (now (entry c .args .run)) (record { from = 0; at = 0; index = 0; refused = false }) (entry c .pre .0) refl refl refl; fits = omega arith }, (refl, (refl, (refl, (refl, (refl, (refl, (refl, refl))))))))
 
 goes-on-requires : tie.Need-goes-on-requires Inv-loop μ-loop
 goes-on-requires c κs = search needs
 
 next-requires : tie.Need-next-requires Inv-loop μ-loop
-next-requires c κs = let l = c .before .before .before .before .before .before .before .before .before .before .loop in
-    let h = l .inv .0 in
-    let s = c .before .before .before .before .before .before .before .before .before .before .before .before .before .before .before .before .before .before .before .before in
-    let g = goes (l .p) (length (s .args .run .now)) (length (l .out)) (sym (c .before .before .before .before .before .before .before .before .before .goes-on .ensures) ∙ c .before .before .before .before .before .before .before .before .if1 .taken) in
-    ((h .state, h .holds), (g .1 .1, (l .inv .1 .1 .1 .1 .1 .1 .1 .0 ∙ s .pre .1, (g .1 .0, omega (arith, h .counted, g .1 .0)))))
+next-requires c κs = let l = tested c .before .before .loop in
+    let h = l .inv .0 .performing in
+    let g = going (tested c) in
+    ((h .state, h .holds), (g .1 .1, (l .inv .1 .1 .1 .1 .1 .1 .1 .0 ∙ entry (tested c .before .before .before) .pre .1, (g .1 .0, omega (arith, h .counted, g .1 .0, entry (tested c .before .before .before) .good)))))
 
 loop-less : tie.Need-loop-less Inv-loop μ-loop
-loop-less c = let l = c .before .before .before .before .before .before .before .before .before .before .before .before .before .before .before .before .before .before .before .before .before .before .before .before .before .before .before .loop in
-    let h = l .inv .0 in
-    let s = c .before .before .before .before .before .before .before .before .before .before .before .before .before .before .before .before .before .before .before .before .before .before .before .before .before .before .before .before .before .before .before .before .before .before .before .before .before in
-    let run = s .args .run .now in
-    let g = goes (l .p) (length run) (length (l .out)) (sym (c .before .before .before .before .before .before .before .before .before .before .before .before .before .before .before .before .before .before .before .before .before .before .before .before .before .before .goes-on .ensures) ∙ c .before .before .before .before .before .before .before .before .before .before .before .before .before .before .before .before .before .before .before .before .before .before .before .before .before .if1 .taken) in
-    let k = c .before .before .before .before .before .before .before .before .before .before .before .before .before .before .before .before .next .ensures (h .state) (h .holds) in
-    omega (arith, k .from, end-ahead run (l .p .from) (g .1 .0), end-within run (l .p .from) (h .within), g .1 .0)
+loop-less c = let n = called c in
+    let l = head n .loop in
+    let run = now (entry (head n .before) .args .run) in
+    let g = going (tested (n .before)) in
+    omega (arith, one-more n .from, end-ahead run (l .p .from) (g .1 .0), end-within run (l .p .from) (l .inv .0 .performing .within), g .1 .0)
 
 loop-again : tie.Need-loop-again Inv-loop μ-loop
-loop-again c = let l = c .before .before .before .before .before .before .before .before .before .before .before .before .before .before .before .before .before .before .before .before .before .before .before .before .before .before .before .loop in
-    let h = l .inv .0 in
-    let s = c .before .before .before .before .before .before .before .before .before .before .before .before .before .before .before .before .before .before .before .before .before .before .before .before .before .before .before .before .before .before .before .before .before .before .before .before .before in
-    let run = s .args .run .now in
-    let g = goes (l .p) (length run) (length (l .out)) (sym (c .before .before .before .before .before .before .before .before .before .before .before .before .before .before .before .before .before .before .before .before .before .before .before .before .before .before .goes-on .ensures) ∙ c .before .before .before .before .before .before .before .before .before .before .before .before .before .before .before .before .before .before .before .before .before .before .before .before .before .if1 .taken) in
-    let k = c .before .before .before .before .before .before .before .before .before .before .before .before .before .before .before .before .next .ensures (h .state) (h .holds) in
-    (performing-next h (g .0) (g .1 .0) k, (c .before .before .before .before .before .before .before .before .before .before .before .before .before .before .before .before .next .kept .0 ∙ l .inv .1 .0, (c .before .before .before .before .before .before .before .before .before .before .before .before .before .before .before .before .next .kept .1 .0 ∙ l .inv .1 .1 .0, (c .before .before .before .before .before .before .before .before .before .before .before .before .before .before .before .before .next .kept .1 .1 .0 ∙ l .inv .1 .1 .1 .0, (c .before .before .before .before .before .before .before .before .before .before .before .before .before .before .before .before .next .kept .1 .1 .1 .0 ∙ l .inv .1 .1 .1 .1 .0, (c .before .before .before .before .before .before .before .before .before .before .before .before .before .before .before .before .next .kept .1 .1 .1 .1 .0 ∙ l .inv .1 .1 .1 .1 .1 .0, (c .before .before .before .before .before .before .before .before .before .before .before .before .before .before .before .before .next .kept .1 .1 .1 .1 .1 .0 ∙ l .inv .1 .1 .1 .1 .1 .1 .0, (c .before .before .before .before .before .before .before .before .before .before .before .before .before .before .before .before .next .kept .1 .1 .1 .1 .1 .1 .1 .0 ∙ l .inv .1 .1 .1 .1 .1 .1 .1 .0, (c .before .before .before .before .before .before .before .before .before .before .before .before .before .before .before .before .next .kept .1 .1 .1 .1 .1 .1 .1 .1 .0 ∙ l .inv .1 .1 .1 .1 .1 .1 .1 .1)))))))))
+loop-again c = let n = called c in
+    let i = head n .loop .inv in
+    let g = going (tested (n .before)) in
+    let k = one-more n in
+    let e = n .next .kept in
+    (record { performing = performing-next (i .0 .performing) (g .0) (g .1 .0) (advanced k); fits = k .turned .line .written .fits }, (e .0 ∙ i .1 .0, (e .1 .0 ∙ i .1 .1 .0, (e .1 .1 .0 ∙ i .1 .1 .1 .0, (e .1 .1 .1 .0 ∙ i .1 .1 .1 .1 .0, (e .1 .1 .1 .1 .0 ∙ i .1 .1 .1 .1 .1 .0, (e .1 .1 .1 .1 .1 .0 ∙ i .1 .1 .1 .1 .1 .1 .0, (e .1 .1 .1 .1 .1 .1 .1 .0 ∙ i .1 .1 .1 .1 .1 .1 .1 .0, e .1 .1 .1 .1 .1 .1 .1 .1 .0 ∙ i .1 .1 .1 .1 .1 .1 .1 .1))))))))
 
 same-length : tie.Need-same-length Inv-loop μ-loop
 same-length c = c .before .before .loop .inv .1 .0
