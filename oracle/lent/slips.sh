@@ -6,9 +6,10 @@ cd "$(dirname "$0")/.."
 export RUSTC_BOOTSTRAP=1
 export TREE_BORROWS_LIB="${TREE_BORROWS_LIB:-$PWD/../target/staticlib}"
 work=target/lent-slips
-rm -rf "$work/src"
-mkdir -p "$work/src"
+rm -rf "$work/src" "$work/examples"
+mkdir -p "$work/src" "$work/examples"
 cp -r runs tools lent "$work/src/"
+cp -r ../examples/rust "$work/examples/"
 printf '[workspace]\nresolver = "2"\nmembers = ["runs", "tools", "lent"]\n' > "$work/src/Cargo.toml"
 missed=0
 

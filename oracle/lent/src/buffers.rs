@@ -2,21 +2,12 @@
 //! from the table of buffers in the project's decisions, not from the library.
 
 use runs::reference::{Alloc, Node, Reference};
+use tree_borrows::Buffers;
 
 pub const ALLOCS: usize = 128 * 6;
 pub const NODES: usize = 1024;
 pub const WORDS: usize = 4096;
 pub const CODES: usize = 32768;
-
-#[derive(Clone, PartialEq)]
-pub struct Buffers {
-    /// For each allocation: state (1 live, 2 dead), kind, exponent, address, size, number of nodes.
-    pub allocs: Vec<u64>,
-    pub parents: Vec<u16>,
-    pub protectors: Vec<u8>,
-    pub words: Vec<u32>,
-    pub codes: Vec<u8>,
-}
 
 /// One allocation's part after the other's, and zeros behind the last.
 pub fn encode(m: &Reference) -> Buffers {

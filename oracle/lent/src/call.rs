@@ -2,11 +2,11 @@
 
 use crate::buffers::{decode, encode, valid_word};
 use crate::lent::{Frame, Lent, AREA};
-use crate::library::{self, Place, Reply, RetagSettings};
 use runs::deep::{self, Style};
 use runs::random::Random;
 use runs::reference::{Answer, Reference, Third};
 use runs::words::{self, Flags, Ptr, Words};
+use tree_borrows::raw::{Place, Reply, RetagSettings};
 
 #[derive(Clone, Debug, PartialEq)]
 pub enum Call {
@@ -31,7 +31,7 @@ pub fn draw(r: &mut Random, m: &Reference, kinds: [u64; 10]) -> (Call, Frame) {
         let request = deep::candidate(r, m, &style);
         let Some(mut call) = Call::of(&request) else { continue };
         let named = match call {
-            Call::Retag { settings, .. } if settings.function_entry => {
+            Call::Retag { settings, .. } if settings.function_entry == 1 => {
                 m.frames[(request[3] >> 23 & 31) as usize].as_deref()
             }
             _ => None,
@@ -59,16 +59,16 @@ impl Call {
     fn of(w: &[u32]) -> Option<Call> {
         let at = Place {
             address: (w[1] as u64) << 32 | w[2] as u64,
-            provenance: w[0] >> 8 & 1 == 1,
+            provenance: (w[0] >> 8 & 1) as u8,
             allocation: w[0] >> 21 & 127,
             node: w[0] >> 9 & 4095,
         };
         let (exponent, extra, len) = ((w[0] >> 3 & 31) as u64, (w[0] & 7) as u64, w[3] as u64);
         let settings = RetagSettings {
             extra: extra as u32,
-            function_entry: w[3] >> 31 == 1,
-            unpin: w[3] >> 30 & 1 == 1,
-            freeze: w[3] >> 29 & 1 == 1,
+            function_entry: (w[3] >> 31) as u8,
+            unpin: (w[3] >> 30 & 1) as u8,
+            freeze: (w[3] >> 29 & 1) as u8,
         };
         Some(match w[0] >> 28 {
             0 => Call::Allocate { kind: extra, len, exponent, address: at.address },
@@ -98,8 +98,8 @@ impl Call {
             Call::SignedDereferenceable { len, .. } if field < 1 => *len = number as i64,
             Call::Retag { settings, .. } if field < 1 => match r.below(3) {
                 0 => settings.extra = number as u32,
-                1 => settings.unpin = !settings.unpin,
-                _ => settings.function_entry = true,
+                1 => settings.unpin ^= 1,
+                _ => settings.function_entry = 1,
             },
             Call::Retag { layout, .. } if field < 2 => layout.resize(4097 + r.index(3), 0),
             _ => {}
@@ -136,23 +136,23 @@ impl Call {
         }
     }
 
-    /// Calls the entry.
+    /// Calls the entry. A frame has as many entries after a retag as the library says.
     pub fn make(&self, lent: &mut Lent) -> Reply {
-        let b = &mut lent.buffers;
+        let (b, frame) = (&mut lent.buffers, &mut lent.frame);
         match *self {
-            Call::Allocate { kind, len, exponent, address } => {
-                library::allocate(b, kind, len, exponent, address)
-            }
-            Call::Deallocate { at, kind, len, exponent } => library::deallocate(b, at, kind, len, exponent),
-            Call::Load { at, len, exponent } => library::load(b, at, len, exponent),
-            Call::Store { at, ref bytes, exponent } => library::store(b, at, bytes, exponent),
+            Call::Allocate { kind, len, exponent, address } => b.allocate(kind, len, exponent, address),
+            Call::Deallocate { at, kind, len, exponent } => b.deallocate(at, kind, len, exponent),
+            Call::Load { at, len, exponent } => b.load(at, len, exponent),
+            Call::Store { at, ref bytes, exponent } => b.store(at, bytes, exponent),
             Call::Retag { at, settings, ref layout } => {
-                library::retag(b, &mut lent.frame, layout, at, settings)
+                let made = b.retag(&mut frame.places, frame.count, layout, at, settings);
+                frame.count = made.count;
+                made.reply
             }
-            Call::EndCall => library::end_call(b, &lent.frame, &mut lent.area),
-            Call::Dereferenceable { at, len } => library::dereferenceable(b, at, len),
-            Call::SignedDereferenceable { at, len } => library::signed_dereferenceable(b, at, len),
-            Call::LeakCheck => library::leak_check(b),
+            Call::EndCall => b.end_call(&frame.places, frame.count, &mut lent.area),
+            Call::Dereferenceable { at, len } => b.dereferenceable(at, len),
+            Call::SignedDereferenceable { at, len } => b.signed_dereferenceable(at, len),
+            Call::LeakCheck => b.leak_check(),
         }
     }
 
@@ -230,7 +230,7 @@ impl Call {
         let ptr = |at: &Place| {
             let named = (at.allocation as usize, at.node as usize);
             let named = if named.0 > 127 || named.1 > 4095 { (0, 4095) } else { named };
-            Ptr { address: at.address, provenance: at.provenance.then_some(named) }
+            Ptr { address: at.address, provenance: (at.provenance == 1).then_some(named) }
         };
         let exponent = |e: &u64| *e.min(&31) as u32;
         let kind = |k: &u64| *k.min(&7) as u32;
@@ -251,8 +251,8 @@ impl Call {
                 words::retag_unsafe(ptr(at), settings.extra.min(7))
             }
             Call::Retag { at, settings, layout } => {
-                let frame = settings.function_entry.then_some(0);
-                let flags = Flags { frame, unpin: settings.unpin, freeze: settings.freeze };
+                let frame = (settings.function_entry == 1).then_some(0);
+                let flags = Flags { frame, unpin: settings.unpin == 1, freeze: settings.freeze == 1 };
                 words::retag(ptr(at), settings.extra, flags, &layout[..layout.len().min(4096)])
             }
             Call::EndCall => words::end_call(0),

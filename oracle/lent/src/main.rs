@@ -6,13 +6,11 @@ mod call;
 mod counts;
 mod damage;
 mod lent;
-mod library;
 
 use buffers::{decode, encode};
 use call::{agrees, Call};
 use counts::Counts;
 use lent::{Lent, AREA};
-use library::Reply;
 use runs::random::Random;
 use runs::reference::{next_request, Reference, Third};
 use runs::{generate, start, words};
@@ -20,6 +18,7 @@ use std::collections::VecDeque;
 use std::time::{Duration, Instant};
 use tools::arguments::Arguments;
 use tools::program::Program;
+use tree_borrows::raw::Reply;
 
 const USAGE: &str = "usage: lent [--seed S] [--count N] [--from I] [--damages D] [--no-oracle] [--show N]
   Memories I to I + N - 1 of the seed. Each is lent once as it is, D times damaged in one number (4), and once with a
@@ -148,7 +147,7 @@ impl Comparison {
         if words.len() <= out.len() {
             expected[..words.len()].copy_from_slice(&words);
         }
-        let count = library::load_view(&after.buffers.words, *reply, &mut out);
+        let count = after.buffers.load_view(*reply, &mut out);
         self.views += 1;
         if count != words.len() || out != expected {
             self.differences += 1;
