@@ -142,7 +142,7 @@ impl Default for Buffers {
     }
 }
 
-/// A frame without entries on the lent places.
-pub(crate) fn new_call(entries: &mut [Entry]) -> RetagReply {
+/// A frame without entries on the lent places, whatever they hold. There are 64, or it is refused with 1.
+pub fn new_call(entries: &mut [Entry]) -> RetagReply {
     unsafe { raw::tree_borrows_new_call(entries.as_mut_ptr(), entries.len()) }
 }

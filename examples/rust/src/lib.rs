@@ -17,7 +17,7 @@ mod pointer;
 pub mod raw;
 mod refusal;
 
-pub use buffers::Buffers;
+pub use buffers::{new_call, Buffers};
 pub use list::{Answer, FrameNumber, Given, List, Outcome};
 pub use memory::{Frame, Memory};
 pub use pointee::{Metadata, Part, Pointee, Shape};

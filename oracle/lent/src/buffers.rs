@@ -31,10 +31,14 @@ pub fn encode(m: &Reference) -> Buffers {
     b
 }
 
+pub fn have_lengths(b: &Buffers) -> bool {
+    let lengths = [b.allocs.len(), b.parents.len(), b.protectors.len(), b.words.len(), b.codes.len()];
+    lengths == [ALLOCS, NODES, NODES, WORDS, CODES]
+}
+
 /// The memory that the buffers hold, if they are well formed.
 pub fn decode(b: &Buffers) -> Option<Reference> {
-    let lengths = [b.allocs.len(), b.parents.len(), b.protectors.len(), b.words.len(), b.codes.len()];
-    if lengths != [ALLOCS, NODES, NODES, WORDS, CODES] {
+    if !have_lengths(b) {
         return None;
     }
     let mut m = Reference::new();

@@ -1,7 +1,7 @@
 //! One call of an entry: drawn, made, and answered by the reference.
 
-use crate::buffers::{decode, encode, valid_word};
-use crate::lent::{Frame, Lent, AREA};
+use crate::buffers::{decode, encode, have_lengths, valid_word};
+use crate::lent::{Frame, Lent, AREA, PLACES};
 use runs::deep::{self, Style};
 use runs::random::Random;
 use runs::reference::{Answer, Reference, Third};
@@ -10,11 +10,13 @@ use tree_borrows::raw::{Place, Reply, RetagSettings};
 
 #[derive(Clone, Debug, PartialEq)]
 pub enum Call {
+    New,
     Allocate { kind: u64, len: u64, exponent: u64, address: u64 },
     Deallocate { at: Place, kind: u64, len: u64, exponent: u64 },
     Load { at: Place, len: u64, exponent: u64 },
     Store { at: Place, bytes: Vec<u32>, exponent: u64 },
     Retag { at: Place, settings: RetagSettings, layout: Vec<u32> },
+    NewCall,
     EndCall,
     Dereferenceable { at: Place, len: u64 },
     SignedDereferenceable { at: Place, len: i64 },
@@ -113,6 +115,43 @@ impl Call {
         }
     }
 
+    /// A flag is neither 0 nor 1, or a pointer without provenance names something.
+    fn is_outside_lists(&self) -> bool {
+        let bad_place =
+            |at: &Place| at.provenance > 1 || at.provenance == 0 && (at.allocation, at.node) != (0, 0);
+        match self {
+            Call::Deallocate { at, .. } | Call::Load { at, .. } | Call::Store { at, .. } => bad_place(at),
+            Call::Dereferenceable { at, .. } | Call::SignedDereferenceable { at, .. } => bad_place(at),
+            Call::Retag { at, settings: s, .. } => {
+                bad_place(at) || [s.function_entry, s.unpin, s.freeze].iter().any(|flag| *flag > 1)
+            }
+            Call::New | Call::Allocate { .. } | Call::NewCall | Call::EndCall | Call::LeakCheck => false,
+        }
+    }
+
+    /// Takes a flag or a name out of its list, where the call has one, and says how.
+    pub fn leave_lists(&mut self, r: &mut Random) -> Option<&'static str> {
+        let other = r.pick(&[2, 3, 128, 254, 255]);
+        if let (Call::Retag { settings, .. }, true) = (&mut *self, r.one_in(2)) {
+            let (flag, name) = match r.below(3) {
+                0 => (&mut settings.function_entry, "function entry neither 0 nor 1"),
+                1 => (&mut settings.unpin, "unpin neither 0 nor 1"),
+                _ => (&mut settings.freeze, "freeze neither 0 nor 1"),
+            };
+            *flag = other;
+            return Some(name);
+        }
+        let at = self.place()?;
+        if r.one_in(2) {
+            at.provenance = other;
+            return Some("provenance neither 0 nor 1");
+        }
+        let name = r.range(1, 5) as u32;
+        let (allocation, node) = r.pick(&[(name, 0), (0, name), (name, name), (u32::MAX, 0), (0, 1 << 31)]);
+        *at = Place { provenance: 0, allocation, node, ..*at };
+        Some("a name without provenance")
+    }
+
     fn place(&mut self) -> Option<&mut Place> {
         match self {
             Call::Deallocate { at, .. } | Call::Load { at, .. } | Call::Store { at, .. } => Some(at),
@@ -124,11 +163,13 @@ impl Call {
 
     pub fn name(&self) -> &'static str {
         match self {
+            Call::New => "new",
             Call::Allocate { .. } => "allocate",
             Call::Deallocate { .. } => "deallocate",
             Call::Load { .. } => "load",
             Call::Store { .. } => "store",
             Call::Retag { .. } => "retag",
+            Call::NewCall => "new_call",
             Call::EndCall => "end_call",
             Call::Dereferenceable { .. } => "dereferenceable",
             Call::SignedDereferenceable { .. } => "signed_dereferenceable",
@@ -140,12 +181,18 @@ impl Call {
     pub fn make(&self, lent: &mut Lent) -> Reply {
         let (b, frame) = (&mut lent.buffers, &mut lent.frame);
         match *self {
+            Call::New => b.empty(),
             Call::Allocate { kind, len, exponent, address } => b.allocate(kind, len, exponent, address),
             Call::Deallocate { at, kind, len, exponent } => b.deallocate(at, kind, len, exponent),
             Call::Load { at, len, exponent } => b.load(at, len, exponent),
             Call::Store { at, ref bytes, exponent } => b.store(at, bytes, exponent),
             Call::Retag { at, settings, ref layout } => {
                 let made = b.retag(&mut frame.places, frame.count, layout, at, settings);
+                frame.count = made.count;
+                made.reply
+            }
+            Call::NewCall => {
+                let made = tree_borrows::new_call(&mut frame.places);
                 frame.count = made.count;
                 made.reply
             }
@@ -159,6 +206,14 @@ impl Call {
     /// What document 01 says of the call, and what is lent afterwards: 1, and nothing changes; else what the reference
     /// answers on the memory that the buffers hold, with the frame as number 0.
     pub fn outcome(&self, lent: &Lent) -> (Answer, Lent) {
+        match self {
+            Call::New => new(lent),
+            Call::NewCall => new_call(lent),
+            _ => self.outcome_on_memory(lent),
+        }
+    }
+
+    fn outcome_on_memory(&self, lent: &Lent) -> (Answer, Lent) {
         let memory = if self.has_its_lengths(lent) { decode(&lent.buffers) } else { None };
         let Some(mut m) = memory else {
             return (refused(1), lent.clone());
@@ -199,6 +254,7 @@ impl Call {
 
     fn answer(&self, m: &mut Reference) -> Answer {
         match self {
+            _ if self.is_outside_lists() => refused(2),
             Call::Allocate { kind, len, exponent, address } if *len > u32::MAX as u64 => {
                 let bad = *kind > 4 || *exponent > 29;
                 let pick = || could_be_picked(m, *address as u128, *len as u128, *exponent);
@@ -219,7 +275,7 @@ impl Call {
 
     /// A run can make the request, and means the same by it.
     pub fn fits_a_run(&self) -> bool {
-        Call::of(&self.words()).as_ref() == Some(self)
+        !matches!(self, Call::New | Call::NewCall) && Call::of(&self.words()).as_ref() == Some(self)
     }
 
     /// The request that has the call's answer. Where a number of the call fits no run, another one stands for it:
@@ -255,6 +311,8 @@ impl Call {
                 let flags = Flags { frame, unpin: settings.unpin == 1, freeze: settings.freeze == 1 };
                 words::retag(ptr(at), settings.extra, flags, &layout[..layout.len().min(4096)])
             }
+            Call::New => Words::new(),
+            Call::NewCall => words::new_call(0),
             Call::EndCall => words::end_call(0),
             Call::Dereferenceable { at, len } => words::dereferenceable(ptr(at), length(*len)),
             Call::SignedDereferenceable { at, len } => {
@@ -268,6 +326,22 @@ impl Call {
 
 fn refused(refusal: u8) -> Answer {
     Answer { refusal, third: Third::None }
+}
+
+/// The empty memory, whatever the buffers hold; 1 for another length.
+fn new(lent: &Lent) -> (Answer, Lent) {
+    if !have_lengths(&lent.buffers) {
+        return (refused(1), lent.clone());
+    }
+    (refused(0), Lent { buffers: encode(&Reference::new()), ..lent.clone() })
+}
+
+/// No entries, and places that are zero, whatever they hold; 1 for another number of places.
+fn new_call(lent: &Lent) -> (Answer, Lent) {
+    if lent.frame.places.len() != PLACES {
+        return (refused(1), lent.clone());
+    }
+    (refused(0), Lent { frame: Frame::of(&[]), ..lent.clone() })
 }
 
 /// `pick`'s test, for lengths that no run holds.

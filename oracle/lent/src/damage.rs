@@ -309,7 +309,7 @@ fn wrong_entry(r: &mut Random, m: &Reference, lent: &mut Lent) -> &'static str {
     name
 }
 
-fn wrong_list(r: &mut Random, lent: &mut Lent) -> &'static str {
+pub fn wrong_list(r: &mut Random, lent: &mut Lent) -> &'static str {
     let frame = &mut lent.frame;
     match r.below(5) {
         0 => {
