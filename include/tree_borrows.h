@@ -7,19 +7,20 @@
    and touches nothing but what it is lent: several memories are several sets of buffers, each may be used by
    another thread, and a copy of the five buffers is a copy of the memory.
 
-   Every buffer is passed as its address and its length, counted in its own numbers and not in bytes. An
-   address is never null, is aligned for its type, and has that many numbers behind it, also at length 0; no
-   two buffers of one call overlap. That is all that is asked of the caller: for whatever the numbers
-   are, the answer and the contents afterwards are determined and proved. A buffer without `const` may be
-   written; after a refusal all are as they were (but for the working area of an end call).
+   Every buffer is passed as its address and its length, counted in its own numbers and not in bytes. What is asked
+   of the caller: an address is not null, not even at length 0, and is aligned for its type; that many numbers
+   stand there, and nobody else uses them during the call; no two buffers of one call overlap. Whatever the numbers
+   are, every function returns, and its reply and the contents of every buffer afterwards are determined and
+   proved. A buffer without `const` may be written; after a refusal all are as they were, but for the working area
+   of an end call.
 
    WHAT COMES BACK. A reply has the number of the refusal, or 0. docs/FORMAT.md says what each number means
    and what to look for first.
 
-   WHAT IT COSTS. Each function but tree_borrows_run_list, tree_borrows_load_view and the two that make
-   something new tests first that all five buffers are well formed (refusal 1): some 18 microseconds, whatever
-   the request. tree_borrows_run_list makes no such test, since it starts from the empty memory: a small
-   request costs some 10 to 100 nanoseconds there. For long recordings use the list. */
+   WHAT IT COSTS. A function that makes one request tests first that all five buffers are well formed (refusal 1):
+   some 18 microseconds, whatever the request. tree_borrows_run_list has no need of that, since it starts from the
+   empty memory: once half a microsecond to empty it, and then some 10 to 100 nanoseconds for a small request. For
+   long recordings use the list. */
 #ifndef TREE_BORROWS_H
 #define TREE_BORROWS_H
 

@@ -14,6 +14,7 @@ mod list;
 mod memory;
 mod pointee;
 mod pointer;
+mod print;
 pub mod raw;
 mod refusal;
 

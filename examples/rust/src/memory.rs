@@ -7,7 +7,7 @@ use crate::raw::{self, Entry, Reply, RetagReply, RetagSettings};
 use crate::refusal::Refusal;
 
 /// A memory that owns its buffers. A refused request changes nothing. Each costs some 18 microseconds, as all
-/// of the memory is tested first; [`crate::List`] is for many.
+/// of the memory is tested first; [`crate::List`] is for many. As text it is what `verdict` prints of it.
 #[derive(Clone, Debug, PartialEq, Eq)]
 pub struct Memory {
     buffers: Buffers,

@@ -55,6 +55,25 @@ fn a_list_is_the_run_of_the_page() {
     assert_eq!(buffers.codes[..5], [3, 3, 4, 1, 0]);
 }
 
+/// The first run of docs/FORMAT.md, and a memory with an allocation that is dead and one without bytes.
+#[test]
+fn a_memory_prints_as_the_program_does() {
+    let printed = "a 0 live heap 16 2 0\nd 0 80000007 00000000\nn 0 0 - no 33\nn 0 1 0 no 41\n";
+    assert_eq!(aliasing_write().run().memory.to_string(), printed);
+    let mut memory = Memory::new();
+    let root = memory.allocate(MemoryKind::Global, 1, Align::of::<u64>(), 8).unwrap();
+    let mut call = memory.new_call();
+    memory.retag_argument(&mut call, root, PointerKind::Box, &Pointee::of::<u8>()).unwrap();
+    memory.end_call(&mut call).unwrap();
+    memory.deallocate(root, MemoryKind::Global, 1, Align::of::<u64>()).unwrap();
+    let empty = memory.allocate(MemoryKind::VTable, 0, Align::ONE, 8).unwrap();
+    let child = memory.retag_argument(&mut call, empty, PointerKind::Box, &Pointee::of::<()>()).unwrap();
+    memory.retag(child, PointerKind::SharedReference, &Pointee::of::<()>()).unwrap();
+    let printed = "a 0 dead global 8 1 3\nd 0 00000000\nn 0 0 - no 3\nn 0 1 0 no 5\n\
+        a 1 live vtable 8 0 0\nd 1 -\nn 1 0 - no -\nn 1 1 0 weak -\nn 1 2 1 no -\n";
+    assert_eq!(memory.to_string(), printed);
+}
+
 #[test]
 fn a_memory_answers_as_a_list_does() {
     let mut memory = Memory::new();
