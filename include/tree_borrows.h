@@ -83,7 +83,8 @@ enum {
 enum {
     TREE_BORROWS_NOTHING = 0,
     TREE_BORROWS_POINTER = 1, /* first is its allocation, second its node */
-    TREE_BORROWS_LOADED = 2,  /* first is where the loaded words start in `words`, second how many there are */
+    TREE_BORROWS_LOADED = 2,  /* first is where the loaded words start in `words`, second how many there are; at length
+                                 0 both are 0 */
     TREE_BORROWS_LEAK = 3     /* first is the allocation that leaks */
 };
 
@@ -219,7 +220,8 @@ tree_borrows_retag_reply tree_borrows_retag(
     uint8_t *codes, size_t codes_length,
     const uint32_t *layout, size_t layout_length, tree_borrows_place pointer, tree_borrows_retag_settings settings);
 
-/* Opens a frame: no entries, and 64 places that are zero, whatever they held. 1 for another number of places. */
+/* Opens a frame: 64 places that are zero, whatever they held. The count is 0. 1 for another number of places, and then
+   nothing changes. */
 tree_borrows_retag_reply tree_borrows_new_call(tree_borrows_entry *entries, size_t entries_length);
 
 /* Releases the protectors of the frame's first `count` entries. Gives nothing. `area` is a working area, whatever

@@ -193,7 +193,8 @@ impl Call {
             }
             Call::NewCall => {
                 let made = tree_borrows::new_call(&mut frame.places);
-                frame.count = made.count;
+                assert_eq!(made.count, 0);
+                frame.count = if made.reply.refusal == 0 { 0 } else { frame.count };
                 made.reply
             }
             Call::EndCall => b.end_call(&frame.places, frame.count, &mut lent.area),
@@ -364,13 +365,12 @@ pub fn third(reply: &Reply, lent: &Lent) -> Third {
     }
 }
 
-/// Does the reply to the call say what the answer says? An accepted load of no bytes may name a part without words.
+/// Does the reply to the call say what the answer says? An accepted load of no bytes names none of the data, from its
+/// start.
 pub fn agrees(call: &Call, reply: &Reply, answer: &Answer, lent: &Lent) -> bool {
     let given = |gives, first, second| Reply { refusal: answer.refusal, gives, first, second };
     match (&answer.third, call) {
-        (Third::None, Call::Load { .. }) if answer.refusal == 0 => {
-            reply.refusal == 0 && reply.gives == 2 && reply.second == 0
-        }
+        (Third::None, Call::Load { .. }) if answer.refusal == 0 => *reply == given(2, 0, 0),
         (Third::None, _) => *reply == given(0, 0, 0),
         (Third::Pointer(allocation, node), _) => *reply == given(1, *allocation as u64, *node as u64),
         (Third::Leak(allocation), _) => *reply == given(3, *allocation as u64, 0),
