@@ -93,7 +93,7 @@ impl List {
     /// A request by its words, whatever they are.
     pub fn push(&mut self, words: &[u32]) {
         self.words.extend(words);
-        self.ends.push(self.words.len() as u32);
+        self.ends.push(u32::try_from(self.words.len()).expect("a list has fewer than 2^32 words"));
     }
 
     /// An exponent above 31 stands as 31, which is too large as well.

@@ -47,7 +47,8 @@ pub struct Pointee {
 impl Pointee {
     /// A type that is sized and has no `UnsafeCell`.
     pub fn of<T>() -> Pointee {
-        Pointee::sized(Part::without_cells(std::mem::size_of::<T>() as u32))
+        let size = u32::try_from(std::mem::size_of::<T>()).unwrap_or(u32::MAX);
+        Pointee::sized(Part::without_cells(size))
     }
 
     pub fn sized(part: Part) -> Pointee {
