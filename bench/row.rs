@@ -1,15 +1,13 @@
-// The check pass over a row, as the proved library makes it, beside a plain look-up in a table over the same bytes. The row is the one row of an
-// allocation of 4,096 bytes, none of whose codes a read through the root refuses or changes: such a read is the check pass alone.
+// The check pass over rows of codes, as the proved library makes it in a load, beside a plain look-up in a table over as many codes. The loads of a
+// list come after an allocation of 4,096 bytes, and none of them changes a code: each is the check pass alone. No answer is written: the buffer that is
+// lent for them is empty.
 use std::hint::black_box;
 use std::time::Instant;
-
-#[allow(improper_ctypes)]
-unsafe extern "C" {
-    fn tree_bench_read(parents: &[u16], codes: &mut [u8], width: usize, node: usize) -> u8;
-}
+use tree_borrows::Buffers;
+use tree_borrows::raw::FRAMES;
 
 const BYTES: usize = 4096;
-const ROUNDS: usize = 100;
+const LOADS: usize = 100;
 const RUNS: usize = 2_000;
 
 // The refusal of a local read, by code; 0 for none.
@@ -31,35 +29,89 @@ fn look_up(codes: &[u8]) -> u8 {
     0
 }
 
-// Nanoseconds a code, over many rounds.
-fn measure(check: &mut dyn FnMut() -> u8) -> f64 {
-    let start = Instant::now();
-    for _ in 0..ROUNDS {
-        assert_eq!(black_box(check()), 0);
+// The buffers of a run.
+struct Lent {
+    memory: Buffers,
+    frames: Vec<u32>,
+}
+
+impl Lent {
+    fn new() -> Lent {
+        Lent { memory: Buffers::new(), frames: vec![0; FRAMES] }
     }
-    start.elapsed().as_nanos() as f64 / (ROUNDS * BYTES) as f64
+
+    // The nanoseconds that a list takes; none of its answers is written.
+    fn time(&mut self, words: &[u32], ends: &[u32]) -> f64 {
+        let start = Instant::now();
+        let reply = black_box(self.memory.run_list(&mut self.frames, black_box(words), black_box(ends), &mut []));
+        let taken = start.elapsed().as_nanos() as f64;
+        assert!(reply.refusal == 0 && reply.at == 0);
+        taken
+    }
+}
+
+// Requests by their words, and where each ends.
+fn list(requests: &[Vec<u32>]) -> (Vec<u32>, Vec<u32>) {
+    let words = requests.concat();
+    let ends = requests.iter().scan(0, |end, request| {
+        *end += request.len() as u32;
+        Some(*end)
+    });
+    (words, ends.collect())
+}
+
+const ADDRESS: u32 = 0x1000;
+
+fn through(kind: u32, node: u32) -> u32 {
+    kind << 28 | node << 9 | 1 << 8
+}
+
+fn load(node: u32) -> Vec<u32> {
+    vec![through(2, node), 0, ADDRESS, BYTES as u32]
 }
 
 // The best of many short runs of each, in turn: what the machine does when nothing disturbs it.
-fn compare(name: &str, mut codes: Vec<u8>) {
-    let before = codes.clone();
-    let (mut proved, mut plain) = (f64::INFINITY, f64::INFINITY);
+fn compare(name: &str, before: &[Vec<u32>], node: u32) {
+    let mut lent = Lent::new();
+    let (words, ends) = list(before);
+    let (all_words, all_ends) = list(&[before.to_vec(), vec![load(node); LOADS + 1]].concat());
+    let (one_words, one_ends) = list(&[before.to_vec(), vec![load(node)]].concat());
+    lent.time(&words, &ends);
+    lent.time(&one_words, &one_ends);
+    let codes = lent.memory.codes.clone();
+    lent.time(&all_words, &all_ends);
+    assert_eq!(lent.memory.codes, codes, "{name}: a load changed a code");
+    let count = BYTES * (node as usize + 1);
+    let (mut with, mut without, mut plain) = (f64::INFINITY, f64::INFINITY, f64::INFINITY);
     for _ in 0..RUNS {
-        let read = &mut || unsafe { tree_bench_read(black_box(&[0]), black_box(&mut codes), BYTES, 0) };
-        proved = proved.min(measure(read));
-        plain = plain.min(measure(&mut || look_up(black_box(&codes))));
+        with = with.min(lent.time(&all_words, &all_ends));
+        without = without.min(lent.time(&one_words, &one_ends));
+        let start = Instant::now();
+        for _ in 0..LOADS {
+            assert_eq!(black_box(look_up(black_box(&codes[..count]))), 0);
+        }
+        plain = plain.min(start.elapsed().as_nanos() as f64);
     }
-    assert_eq!(codes, before);
+    let codes_read = (LOADS * count) as f64;
+    let (proved, plain) = ((with - without) / codes_read, plain / codes_read);
     println!("{name}: proved check pass {proved:.2} ns a code, plain look-up {plain:.2} ns a code, ratio {:.2}", proved / plain);
 }
 
 fn main() {
-    compare("one code   ", vec![3; BYTES]);
-    // codes that a read leaves, in no order that a branch could learn
+    let allocation = vec![1, 0, ADDRESS, BYTES as u32];
+    compare("one code   ", &[allocation.clone()], 0);
+    // a shared reference with cells, in no order that a branch could learn: its row has Cell and Frozen
     let mut seed = 1u32;
-    let mixed = (0..BYTES).map(|_| {
+    let mut end = 0;
+    let cells: Vec<u32> = std::iter::from_fn(|| {
         seed = seed.wrapping_mul(1_664_525).wrapping_add(1_013_904_223);
-        [0, 1, 2, 3, 4, 6, 8, 11][(seed >> 29) as usize]
-    });
-    compare("mixed codes", mixed.collect());
+        let (offset, size) = (end + 1 + (seed >> 28), 1 + (seed >> 24 & 7));
+        end = offset + size;
+        (end <= BYTES as u32).then_some(offset << 16 | size)
+    })
+    .take(255)
+    .collect();
+    let header = (cells.len() as u32) << 22 | BYTES as u32;
+    let retag = [vec![through(4, 0), 0, ADDRESS, 1 << 29 | (2 + cells.len() as u32), 0, header], cells].concat();
+    compare("mixed codes", &[allocation, retag], 1);
 }

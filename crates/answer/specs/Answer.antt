@@ -1,10 +1,15 @@
 -- The definition's answer, for every case of the code's; the loaded words are a part of the lent data. A leak's name is no part of it (decision 56).
-use Prim.Native.Nat.{ℕ, _+_, _≤_}
+use Prim.Native.Nat.{ℕ, zero, suc, _+_, _*_, _≤_, min}
+use mathlib.Core.Path.{_≡_}
+use mathlib.Core.Option.{Option, none, some}
 use mathlib.Core.List.{List}
+use denote.Ref.{RefT, ptr, now}
 use lib.ListN.{length, take, drop}
 use Rattle.definition.specs.Refusal.{memoryLeak}
 use Rattle.definition.specs.Memory as definition
 use Rattle.pointer.specs.Pointer.{provenanceOf}
+use Rattle.pointer.specs.declared.Provenance.{Provenance}
+use Rattle.pointer.specs.declared.Provenance.the-variants.{None, Of}
 use Rattle.answer.specs.declared.Answer.{Answer}
 use Rattle.answer.specs.declared.Answer.the-variants.{Refused, Leak, Accepted, Pointer, Words}
 
@@ -22,3 +27,49 @@ Within (Leak a) words = Unit
 Within Accepted words = Unit
 Within (Pointer p) words = Unit
 Within (Words start len) words = start + len ≤ length words
+
+-- ---- the loaded words as a part of the lent data
+-- where they start in it: a load's answer says so, and any other has none
+abbrev pub wordsFrom : Answer → ℕ
+wordsFrom (Refused n) = 0
+wordsFrom (Leak a) = 0
+wordsFrom Accepted = 0
+wordsFrom (Pointer p) = 0
+wordsFrom (Words start len) = start
+
+-- the address of a word of a slice of 32-bit words: its block, and the byte in it
+abbrev pub wordAddress : RefT (List ℕ) → ℕ → ℕ × ℕ
+wordAddress words i = (ptr words .0, i * 4 + ptr words .1)
+
+-- part is that part of words itself, cut where the data end
+pub record HandsOut (answer : Answer) (words part : RefT (List ℕ)) : Type 0 where
+  pub loaded : now part ≡ answerOf answer (now words) .words
+  pub place : ptr part ≡ wordAddress words (min (wordsFrom answer) (length (now words)))
+
+-- ---- the code's answer for the definition's
+-- what a request hands out where it is accepted: nothing, a pointer, or so many words of the lent data from a place on
+pub data Gives : Type 0 where
+  Nothing : Gives
+  ThePointer : Gives
+  TheWords : ℕ → ℕ → Gives
+
+abbrev pub provenanceFrom : Option definition.Provenance → Provenance
+provenanceFrom none = None
+provenanceFrom (some t) = Of (t .allocation) (t .node)
+
+abbrev pub given : Gives → definition.Answer → Answer
+given Nothing a = Accepted
+given ThePointer a = Pointer (provenanceFrom (a .pointer))
+given (TheWords start len) a = Words start len
+
+abbrev pub refusedOr : ℕ → Answer → Answer
+refusedOr zero accepted = accepted
+refusedOr (suc n) accepted = Refused (suc n)
+
+-- the one answer of a request that is no leak check; for that, `leakReply` of bounds names the allocation
+abbrev pub replyTo : Gives → definition.Answer → Answer
+replyTo gives a = refusedOr (a .refusal) (given gives a)
+
+-- an outcome of the definition with the code's answer
+unfoldable pub replied : {X : Type 0} → Gives → definition.Answer × X → Answer × X
+replied gives outcome = (replyTo gives (outcome .0), outcome .1)

@@ -3,9 +3,11 @@ use pointer::Provenance;
 ghost use mathlib.Core.Path.{_≡_};
 ghost use mathlib.Core.List.{List};
 ghost use Prim.Native.Nat.{ℕ, min};
-ghost use lib.ListN.{take, drop};
+ghost use denote.Ref.{ptr};
+ghost use lib.ListN.{length, take, drop};
 ghost use Rattle.definition.specs.Memory.{refusedWith};
-ghost use Rattle.answer.specs.Answer.{answerOf, Within};
+ghost use Rattle.answer.specs.Answer.{answerOf, Within, wordAddress, HandsOut, replyTo};
+ghost use Rattle.answer.specs.Answer.Gives.{Nothing};
 
 pub enum Answer {
     // with document 01's number
@@ -36,13 +38,12 @@ impl Answer {
 
 // The answer of a request that gives nothing: 0 is no refusal.
 pub fn refused_with(refusal: u8) -> Answer
-    ensures { λ r. ⌜ ((words : List ℕ) → answerOf r words ≡ refusedWith refusal) ⌝ }
+    ensures { λ r. ⌜ r ≡ replyTo Nothing (refusedWith refusal) ⌝ }
 {
     if refusal == 0 {
-        Answer::Accepted
-    } else {
-        Answer::Refused(refusal)
+        return Answer::Accepted;
     }
+    Answer::Refused(refusal)
 }
 
 // ---- what is loaded
@@ -54,16 +55,16 @@ fn smaller(a: usize, b: usize) -> usize
 
 // `len` words from `start` on, as far as there are any.
 fn words_at<'d>(words: &'d [u32], start: usize, len: usize) -> &'d [u32]
-    ensures { λ r. ⌜ now r ≡ take len (drop start (now (words .entry))) ⌝ }
+    ensures { λ r. ⌜ (now r ≡ take len (drop start (now (words .entry)))) × (ptr r ≡ wordAddress (words .entry) (min start (length (now (words .entry))))) ⌝ }
 {
     let from = smaller(start, words.len());
     let end = from + smaller(len, words.len() - from);
     &words[from..end]
 }
 
-// The words that a load gives, and none for any other answer.
+// The words that a load gives, where they lie in the data; and none for any other answer.
 pub fn loaded_words<'d>(answer: Answer, words: &'d [u32]) -> &'d [u32]
-    ensures { λ r. ⌜ now r ≡ answerOf answer (now (words .entry)) .words ⌝ }
+    ensures { λ r. ⌜ HandsOut answer (words .entry) r ⌝ }
 {
     match answer {
         Answer::Words { start, len } => words_at(words, start, len),

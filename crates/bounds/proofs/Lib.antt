@@ -1,3 +1,4 @@
 pub mod Tests
 pub mod Points
 pub mod Leak
+pub mod Reach

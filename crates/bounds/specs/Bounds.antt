@@ -1,14 +1,13 @@
 -- What the tests ask of the records, and what a leak check answers.
-use Prim.Native.Nat.{ℕ, _<_}
+use Prim.Native.Nat.{ℕ, suc}
 use mathlib.Core.Path.{_≡_}
-use mathlib.Core.Bool.{true, false}
+use mathlib.Core.Bool.{false}
 use mathlib.Core.Option.{Option}
-use mathlib.Core.List.{List}
-use Rattle.definition.specs.Notation.{any}
-use Rattle.definition.specs.Memory.{Memory, Provenance, namesNeverMade, isLiveHeap, isLeak, leakCheck}
-use Rattle.answer.specs.Answer.{answerOf}
+use mathlib.Core.List.{List, [], _∷_}
+use Rattle.definition.specs.Notation.{if_then_else_, any}
+use Rattle.definition.specs.Memory.{Memory, Provenance, namesNeverMade, isLiveHeap}
 use Rattle.answer.specs.declared.Answer.{Answer}
-use Rattle.answer.specs.declared.Answer.the-variants.{Leak}
+use Rattle.answer.specs.declared.Answer.the-variants.{Leak, Accepted}
 use Rattle.tables.specs.Held.{Records}
 
 -- the records are those of m, and 4 was passed
@@ -16,12 +15,11 @@ pub record Points (m : Memory) (A : List ℕ) (p : Option Provenance) : Type 0 w
   pub records : Records m A
   pub made : namesNeverMade m p ≡ false
 
--- n is the lowest allocation that 25 may name
-pub record LowestLeak (m : Memory) (n : ℕ) : Type 0 where
-  pub leak : isLeak m n ≡ true
-  pub lowest : (k : ℕ) → k < n → isLeak m k ≡ false
+-- the lowest live heap allocation, where there is one
+unfoldable pub firstLeak : Memory → ℕ
+firstLeak [] = 0
+firstLeak (a ∷ m) = if isLiveHeap a then 0 else suc (firstLeak m)
 
--- the definition's answer; where it is a refusal, it names the lowest
-pub record LeakAnswer (m : Memory) (r : Answer) : Type 0 where
-  pub answer : (words : List ℕ) → answerOf r words ≡ leakCheck m .0
-  pub named : any isLiveHeap m ≡ true → (n : ℕ) × ((r ≡ Leak n) × LowestLeak m n)
+-- the one answer of a leak check. "25's choice" is the lowest; proofs/Leak.antt: it is the definition's answer, and names a leak
+abbrev pub leakReply : Memory → Answer
+leakReply m = if any isLiveHeap m then Leak (firstLeak m) else Accepted

@@ -7,16 +7,16 @@ pub use tables::is_misaligned;
 pub use tables::ranges_overlap;
 ghost use mathlib.Core.Path.{_≡_};
 ghost use mathlib.Core.Bool.{not, _&&_};
-ghost use mathlib.Core.List.{List};
-ghost use Prim.Native.Nat.{ℕ, _+_, _^_, _<_};
+ghost use Prim.Native.Nat.{_+_, _^_, _<_};
 ghost use lib.Dec.{leb};
 ghost use lib.ListN.{length};
 ghost use Rattle.definition.specs.Memory.{Memory, namesNeverMade, checkPtr, target, exceedsBounds, allocationAt, isLiveHeap};
 ghost use Rattle.definition.specs.Memory as definition;
 ghost use Rattle.pointer.specs.Pointer.{provenanceOf, thinPointerOf, back, ahead};
-ghost use Rattle.answer.specs.Answer.{answerOf};
+ghost use Rattle.answer.specs.Answer.{replyTo};
+ghost use Rattle.answer.specs.Answer.Gives.{Nothing};
 ghost use Rattle.tables.specs.Held.{Records};
-ghost use Rattle.bounds.specs.Bounds.{Points, LeakAnswer};
+ghost use Rattle.bounds.specs.Bounds.{Points, leakReply};
 
 // ---- 4
 // The provenance names an allocation or node never made. Behind the last allocation the records have no nodes.
@@ -89,8 +89,7 @@ pub fn check_ptr(allocs: &[u64], p: ThinPointer, back: u64, ahead: u64) -> u8
 // 4, then `check_ptr`.
 fn within_reach(allocs: &[u64], p: ThinPointer, back: u64, ahead: u64) -> Answer
     requires { ⌜ ((m : Memory) × Records m (now allocs)) ⌝ }
-    ensures { λ r. ⌜ ((m : Memory) (words : List ℕ) → Records m (now (allocs .entry))
-        → answerOf r words ≡ definition.dereferenceable (thinPointerOf p) back ahead m .0) ⌝ }
+    ensures { λ r. ⌜ ((m : Memory) → Records m (now (allocs .entry)) → r ≡ replyTo Nothing (definition.dereferenceable (thinPointerOf p) back ahead m .0)) ⌝ }
 {
     let provenance = p.provenance;
     if never_made(allocs, provenance) {
@@ -102,8 +101,7 @@ fn within_reach(allocs: &[u64], p: ThinPointer, back: u64, ahead: u64) -> Answer
 // Test whether the given pointer is dereferenceable for the given size.
 pub fn dereferenceable(allocs: &[u64], p: ThinPointer, len: u64) -> Answer
     requires { ⌜ ((m : Memory) × Records m (now allocs)) ⌝ }
-    ensures { λ r. ⌜ ((m : Memory) (words : List ℕ) → Records m (now (allocs .entry))
-        → answerOf r words ≡ definition.dereferenceable (thinPointerOf p) 0 len m .0) ⌝ }
+    ensures { λ r. ⌜ ((m : Memory) → Records m (now (allocs .entry)) → r ≡ replyTo Nothing (definition.dereferenceable (thinPointerOf p) 0 len m .0)) ⌝ }
 {
     within_reach(allocs, p, 0, len)
 }
@@ -111,8 +109,7 @@ pub fn dereferenceable(allocs: &[u64], p: ThinPointer, len: u64) -> Answer
 // The same with a signed notion of length: a negative one reaches back from the pointer, and no address wraps.
 pub fn signed_dereferenceable(allocs: &[u64], p: ThinPointer, len: i64) -> Answer
     requires { ⌜ ((m : Memory) × Records m (now allocs)) ⌝ }
-    ensures { λ r. ⌜ ((m : Memory) (words : List ℕ) → Records m (now (allocs .entry))
-        → answerOf r words ≡ definition.dereferenceable (thinPointerOf p) (back len) (ahead len) m .0) ⌝ }
+    ensures { λ r. ⌜ ((m : Memory) → Records m (now (allocs .entry)) → r ≡ replyTo Nothing (definition.dereferenceable (thinPointerOf p) (back len) (ahead len) m .0)) ⌝ }
 {
     let below = pointer::bytes_back(len);
     let from = pointer::bytes_ahead(len);
@@ -165,7 +162,7 @@ fn is_live_heap(allocs: &[u64], i: usize) -> bool
 // Check if there are any memory leaks; the answer names the lowest.
 pub fn leak_check(allocs: &[u64]) -> Answer
     requires { ⌜ ((m : Memory) × Records m (now allocs)) ⌝ }
-    ensures { λ r. ⌜ ((m : Memory) → Records m (now (allocs .entry)) → LeakAnswer m r) ⌝ }
+    ensures { λ r. ⌜ ((m : Memory) → Records m (now (allocs .entry)) → r ≡ leakReply m) ⌝ }
 {
     let count = tables::made_count(allocs);
     let mut i: usize = 0;

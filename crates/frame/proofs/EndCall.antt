@@ -18,6 +18,9 @@ use Rattle.definition.proofs.Alls.{if-holds, all-imp, none-pass}
 use Rattle.definition.proofs.Booleans.{not-not-false}
 use Rattle.definition.proofs.ValidMemory.{valid-release-all}
 use Rattle.definition.proofs.Parts.{fill-all}
+use Rattle.answer.specs.Answer.{answerOf}
+use Rattle.answer.specs.declared.Answer.{Answer}
+use Rattle.answer.proofs.Replies.{plain-answers}
 use Rattle.tables.specs.Encoding.{recordOf, parentsOf, wordsOf, held, encode}
 use Rattle.tables.specs.Held.{buffers, Holds}
 use Rattle.tables.proofs.ReadBack.{holds-allocs, holds-parents, holds-words, encode-of}
@@ -26,7 +29,7 @@ use Rattle.entries.specs.List.{entriesOf}
 use Rattle.entries.specs.declared.Entries.{Entries}
 use Rattle.entries.proofs.FromValid.{made-fits}
 use Rattle.parts.specs.Trees.{HoldsMarked}
-use Rattle.frame.specs.Release.{HoldsNodes, AllMade, unlessRefused, ReleasedAll, afterEndCall, Checked}
+use Rattle.frame.specs.Release.{HoldsNodes, AllMade, unlessRefused, ReleasedAll, afterEndCall, Checked, Ended}
 use Rattle.frame.proofs.Releases.{all-kept, same-record, same-parents, same-words, rest-at}
 
 -- ---- 4
@@ -103,6 +106,11 @@ module _ {m : Memory} {A P R W C : List ℕ} (h : Holds m (buffers A P R W C)) w
       valid = if-holds Valid (eqb (endCallRefusal m es) 0) (afterReleaseAll m es) m (λ t. valid-release-all es m (h .valid)) (λ t. h .valid);
       equal = end-call-encode k;
     }
+
+-- ---- the answer stands for the definition's, whatever the data are
+pub ended-answers : {m : Memory} {es : List Provenance} {answer : Answer} {R C : List ℕ} → Ended m es answer R C → (words : List ℕ)
+    → answerOf answer words ≡ refusedWith (endCallRefusal m es)
+ended-answers {m} {es} k words = ap (λ (a : Answer). answerOf a words) (k .reply) ∙ plain-answers (endCallRefusal m es) words
 
 -- ---- the definition's end call of frame f
 nonzero : (n : ℕ) → eqb (suc n) 0 ≡ false

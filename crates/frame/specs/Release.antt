@@ -8,7 +8,8 @@ use Rattle.definition.specs.Notation.{if_then_else_}
 use Rattle.definition.specs.Memory.{Memory, Provenance, refusedWith, wasMade}
 use Rattle.definition.specs.Frame.{releaseRefusal, afterRelease, releaseAllRefusal, afterReleaseAll, endCallRefusal}
 use Rattle.definition.specs.Valid.{All}
-use Rattle.answer.specs.Answer.{answerOf}
+use Rattle.answer.specs.Answer.{replyTo}
+use Rattle.answer.specs.Answer.Gives.{Nothing}
 use Rattle.answer.specs.declared.Answer.{Answer}
 use Rattle.tables.specs.Encoding.{protectorsOf, codesOf, held}
 use Rattle.tables.specs.Held.{Records, StartsAt}
@@ -70,5 +71,5 @@ pub record Checked (m : Memory) (es : List Provenance) (answer : ℕ) (R C : Lis
   pub nodes : HoldsNodes (afterEndCall m es) R C
 
 pub record Ended (m : Memory) (es : List Provenance) (answer : Answer) (R C : List ℕ) : Type 0 where
-  pub answers : (words : List ℕ) → answerOf answer words ≡ refusedWith (endCallRefusal m es)
+  pub reply : answer ≡ replyTo Nothing (refusedWith (endCallRefusal m es))
   pub nodes : HoldsNodes (afterEndCall m es) R C

@@ -13,7 +13,8 @@ use Rattle.definition.specs.Memory as definition
 use Rattle.definition.specs.Memory.{Memory, isLiveHeap, isLeak, refusedWith}
 use Rattle.definition.specs.Output.{answerLine}
 use Rattle.definition.proofs.Leaks.{leak-exists}
-use Rattle.bounds.specs.Bounds.{LeakAnswer}
+use Rattle.bounds.specs.Bounds.{leakReply}
+use Rattle.bounds.proofs.Leak.{LeakAnswer, leak-answer}
 use Rattle.answer.specs.Answer.{answerOf}
 use Rattle.answer.specs.declared.Answer.{Answer}
 use Rattle.answer.specs.declared.Answer.the-variants.{Refused, Leak, Accepted, Pointer, Words}
@@ -31,7 +32,10 @@ some-leak m = by (any isLiveHeap m) refl
     by false e = (0, λ e′. absurd (false≢true (sym e ∙ e′)))
 
 -- ---- what the leak check names
-module _ (m : Memory) (r : Answer) (k : LeakAnswer m r) where
+module _ (m : Memory) (r : Answer) (replied : r ≡ leakReply m) where
+  k : LeakAnswer m r
+  k = leak-answer m replied
+
   pub check-names : (a : ℕ) → r ≡ Leak a → NamesLeak m a
   check-names a e any =
       let n = k .named any .0 in

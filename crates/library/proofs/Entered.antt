@@ -1,8 +1,10 @@
--- What `entered` is, case by case: a law for each way an entry returns, and what it means for a memory of the definition.
+-- What `entered` is for a memory of the definition; and a law for each way an entry returns.
 use mathlib.Core.Path.{_≡_, refl, sym, ap, _∙_}
 use mathlib.Core.Bool.{Bool, true, false}
 use Rattle.definition.specs.Memory.{Memory, refusedWith}
 use Rattle.definition.specs.Memory as definition
+use Rattle.answer.specs.Answer.{Gives, replyTo, replied}
+use Rattle.answer.specs.declared.Answer.{Answer}
 use Rattle.answer.specs.declared.Answer.the-variants.{Refused}
 use Rattle.tables.specs.Encoding.{Buffers, encode}
 use Rattle.tables.specs.Decoding.{view}
@@ -11,33 +13,14 @@ use Rattle.tables.proofs.ReadBack.{view-held}
 use Rattle.wellformed.specs.WellFormed.{wellFormed}
 use Rattle.wellformed.proofs.Sound.{sound}
 use Rattle.wellformed.proofs.Complete.{complete}
-use Rattle.library.specs.Entry.{encoded, entered, Entered}
+use Rattle.library.specs.Entry.{encoded, entered, Entered, malformedAnswer}
 
 module _ (bad : Bool) (request : Memory → definition.Answer × Memory) (b : Buffers) where
-  -- ---- a return each
-  pub not-formed : wellFormed b ≡ false → Entered bad request b (Refused 1) b
-  unfolding entered
-  not-formed e = rw e
-
-  module _ (formed : wellFormed b ≡ true) where
-    pub bad-field : bad ≡ true → Entered bad request b (Refused 2) b
-    unfolding entered
-    bad-field e = rw (formed, e)
-
-    module _ (fine : bad ≡ false) {a : definition.Answer} where
-      pub performed : {b′ : Buffers} → a ≡ request (view b) .0 → b′ ≡ encode (request (view b) .1)
-          → _≡_ {A = definition.Answer × Buffers} (a, b′) (entered bad request b)
-      unfolding entered
-      performed e f = rw (formed, fine) (λ i. (e i, f i))
-
-      -- by a request that changes nothing
-      pub answered : a ≡ request (view b) .0 → request (view b) .1 ≡ view b → _≡_ {A = definition.Answer × Buffers} (a, b) (entered bad request b)
-      answered e same = performed e (sound b formed .equal ∙ ap encode (sym same))
-
   -- ---- what it means
   -- no valid memory encodes to the buffers: 1, and all as before
   pub entered-none : (WellFormed b → ⊥) → entered bad request b ≡ (refusedWith 1, b)
-  entered-none none = sym (not-formed (go (wellFormed b) refl))
+  unfolding entered
+  entered-none none = rw (go (wellFormed b) refl)
     where
       go : (t : Bool) → wellFormed b ≡ t → wellFormed b ≡ false
       go true e = absurd (none (view b, sound b e))
@@ -46,9 +29,39 @@ module _ (bad : Bool) (request : Memory → definition.Answer × Memory) (b : Bu
   module _ {m : Memory} (h : Holds m b) where
     -- a field falls under 2
     pub entered-bad : bad ≡ true → entered bad request b ≡ (refusedWith 2, b)
-    entered-bad e = sym (bad-field (complete m b h) e)
+    unfolding entered
+    entered-bad e = rw (complete m b h, e)
 
     -- the definition's request on the memory that they hold
     pub entered-held : bad ≡ false → entered bad request b ≡ encoded (request m)
     unfolding entered
     entered-held e = rw (complete m b h, e, view-held m b h)
+
+-- ---- a return each
+module _ (gives : Gives) (bad : Bool) (request : Memory → definition.Answer × Memory) (b : Buffers) where
+  pub not-formed : wellFormed b ≡ false → Entered gives bad request b (Refused 1) b
+  unfolding entered replied
+  not-formed e = rw e
+
+  module _ (formed : wellFormed b ≡ true) where
+    pub bad-field : bad ≡ true → Entered gives bad request b (Refused 2) b
+    unfolding entered replied
+    bad-field e = rw (formed, e)
+
+    module _ (fine : bad ≡ false) {r : Answer} (e : r ≡ replyTo gives (request (view b) .0)) where
+      pub performed : {b′ : Buffers} → b′ ≡ encode (request (view b) .1) → Entered gives bad request b r b′
+      unfolding entered replied
+      performed f = rw (formed, fine) (λ i. (e i, f i))
+
+      -- by a request that changes nothing
+      pub answered : request (view b) .1 ≡ view b → Entered gives bad request b r b
+      answered same = performed (sound b formed .equal ∙ ap encode (sym same))
+
+-- where a field falls under 2
+pub malformed-entered : (gives : Gives) (request : Memory → definition.Answer × Memory) (b : Buffers) → Entered gives true request b (malformedAnswer b) b
+unfolding malformedAnswer
+malformed-entered gives request b = by (wellFormed b) refl
+  where
+    by : (formed : Bool) → wellFormed b ≡ formed → Entered gives true request b (malformedAnswer b) b
+    by true e = rw e (bad-field gives true request b e refl)
+    by false e = rw e (not-formed gives true request b e)

@@ -2,3 +2,5 @@ pub mod Entered
 pub mod Fine
 pub mod Performed
 pub mod Again
+pub mod Loads
+pub mod Blank

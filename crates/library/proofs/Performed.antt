@@ -1,51 +1,43 @@
 -- From what a request promises of the memory that the buffers hold to the entry's promise.
 use Prim.Native.Nat.{ℕ}
-use mathlib.Core.Path.{_≡_, refl, sym, ap, _∙_}
-use mathlib.Core.Bool.{true, false, false≢true}
+use mathlib.Core.Path.{_≡_, refl}
+use mathlib.Core.Bool.{true, false}
 use mathlib.Core.List.{List}
-use Rattle.definition.specs.Memory.{ThinPointer, Memory, performAccess, allocate, deallocate, dereferenceable, leakCheck}
-use Rattle.definition.specs.Memory as definition
-use Rattle.answer.specs.Answer.{answerOf}
+use Rattle.definition.specs.Memory.{ThinPointer, performAccess, allocate, deallocate, dereferenceable}
+use Rattle.answer.specs.Answer.{replyTo}
+use Rattle.answer.specs.Answer.Gives.{Nothing, ThePointer}
 use Rattle.answer.specs.declared.Answer.{Answer}
 use Rattle.answer.specs.declared.Answer.the-variants.{Refused}
 use Rattle.tables.specs.Encoding.{Buffers}
 use Rattle.tables.specs.Decoding.{view, allocationKind}
-use Rattle.tables.specs.Held.{buffers, Holds}
-use Rattle.tables.proofs.ReadBack.{holds-words}
+use Rattle.tables.specs.Held.{buffers}
 use Rattle.wellformed.specs.WellFormed.{wellFormed}
 use Rattle.wellformed.proofs.Sound.{sound}
-use Rattle.wellformed.proofs.Complete.{complete}
-use Rattle.bounds.specs.Bounds.{LeakAnswer}
+use Rattle.bounds.specs.Bounds.{leakReply}
 use Rattle.memory.specs.Allocate.{CanAllocate, Allocated}
 use Rattle.memory.specs.Access.{loadOf, storeOf, Loaded, Stored}
 use Rattle.memory.specs.Deallocate.{Deallocated}
 use Rattle.memory.proofs.Allocated.{can-allocate, allocate-encode}
 use Rattle.memory.proofs.Afterwards.{load-encode, store-encode, deallocate-encode}
 use Rattle.library.specs.Fields.{badExponent, badAllocation, badStore}
-use Rattle.library.specs.Entry.{entered, Entered, LeakEntered}
-use Rattle.library.proofs.Entered.{not-formed, performed, answered}
+use Rattle.library.specs.Entry.{Entered, givenBy, leakEntered}
+use Rattle.library.proofs.Entered.{performed, answered}
 use Rattle.library.proofs.Fine.{allocation-kind, allocation-exponent}
 
 -- ---- they change nothing
 module _ (p : ThinPointer) (back ahead : ℕ) (b : Buffers) (formed : wellFormed b ≡ true) where
-  pub dereferenced : {a : definition.Answer} → a ≡ dereferenceable p back ahead (view b) .0
-      → _≡_ {A = definition.Answer × Buffers} (a, b) (entered false (dereferenceable p back ahead) b)
+  pub dereferenced : {r : Answer} → r ≡ replyTo Nothing (dereferenceable p back ahead (view b) .0) → Entered Nothing false (dereferenceable p back ahead) b r b
   unfolding dereferenceable
-  dereferenced e = answered false (dereferenceable p back ahead) b formed refl e refl
+  dereferenced e = answered Nothing false (dereferenceable p back ahead) b formed refl e refl
 
 module _ (b : Buffers) where
-  pub leak-not-formed : wellFormed b ≡ false → LeakEntered b (Refused 1)
-  leak-not-formed e = record {
-    entered = not-formed false leakCheck b e;
-    named = λ m h leak. absurd (false≢true (sym e ∙ complete m b h));
-  }
+  pub leak-not-formed : wellFormed b ≡ false → Refused 1 ≡ leakEntered b
+  unfolding leakEntered
+  leak-not-formed e = rw e
 
-  pub leak-answered : wellFormed b ≡ true → {r : Answer} → ((m : Memory) → Holds m b → LeakAnswer m r) → LeakEntered b r
-  unfolding leakCheck
-  leak-answered formed f = record {
-    entered = answered false leakCheck b formed refl (f (view b) (sound b formed) .answer (b .words)) refl;
-    named = λ m h. f m h .named;
-  }
+  pub leak-answered : wellFormed b ≡ true → {r : Answer} → r ≡ leakReply (view b) → r ≡ leakEntered b
+  unfolding leakEntered
+  leak-answered formed e = rw formed e
 
 -- ---- an allocation
 module _ (b : Buffers) (formed : wellFormed b ≡ true) (kind exponent : ℕ) (fine : badAllocation kind exponent ≡ false) where
@@ -55,29 +47,28 @@ module _ (b : Buffers) (formed : wellFormed b ≡ true) (kind exponent : ℕ) (f
       (allocation-exponent kind exponent fine)
 
   pub allocated : (len address : ℕ) {r : Answer} {A′ C′ : List ℕ} → Allocated (allocate (allocationKind kind) len exponent address (view b)) r A′ C′
-      → Entered (badAllocation kind exponent) (allocate (allocationKind kind) len exponent address) b r (buffers A′ (b .parents) (b .protectors) (b .words) C′)
+      → Entered ThePointer (badAllocation kind exponent) (allocate (allocationKind kind) len exponent address) b r (buffers A′ (b .parents) (b .protectors) (b .words) C′)
   allocated len address a =
-      performed (badAllocation kind exponent) (allocate (allocationKind kind) len exponent address) b formed fine (a .answer (b .words))
+      performed ThePointer (badAllocation kind exponent) (allocate (allocationKind kind) len exponent address) b formed fine (a .reply)
       (allocate-encode (view b) (allocationKind kind) len exponent address (sound b formed) a)
 
 -- ---- loads, stores, deallocations
 module _ (b : Buffers) (formed : wellFormed b ≡ true) (p : ThinPointer) (exponent : ℕ) where
   pub loaded : badExponent exponent ≡ false → (len : ℕ) {r : Answer} {C′ : List ℕ} → Loaded (loadOf p len exponent) (view b) r C′
-      → Entered (badExponent exponent) (performAccess (loadOf p len exponent)) b r (buffers (b .allocs) (b .parents) (b .protectors) (b .words) C′)
-  loaded fine len {r} a =
-      performed (badExponent exponent) (performAccess (loadOf p len exponent)) b formed fine
-      (ap (λ (words : List ℕ). answerOf r words) (holds-words (sound b formed)) ∙ a .answers)
+      → Entered (givenBy (loadOf p len exponent) b) (badExponent exponent) (performAccess (loadOf p len exponent)) b r (buffers (b .allocs) (b .parents) (b .protectors) (b .words) C′)
+  loaded fine len a =
+      performed (givenBy (loadOf p len exponent) b) (badExponent exponent) (performAccess (loadOf p len exponent)) b formed fine (a .reply)
       (load-encode (sound b formed) p len exponent a)
 
   pub stored : (bytes : List ℕ) → badStore bytes exponent ≡ false → {r : Answer} {W′ C′ : List ℕ} → Stored (storeOf p bytes exponent) (view b) r W′ C′
-      → Entered (badStore bytes exponent) (performAccess (storeOf p bytes exponent)) b r (buffers (b .allocs) (b .parents) (b .protectors) W′ C′)
-  stored bytes fine {r} {W′} a =
-      performed (badStore bytes exponent) (performAccess (storeOf p bytes exponent)) b formed fine (a .answers W′)
+      → Entered Nothing (badStore bytes exponent) (performAccess (storeOf p bytes exponent)) b r (buffers (b .allocs) (b .parents) (b .protectors) W′ C′)
+  stored bytes fine a =
+      performed Nothing (badStore bytes exponent) (performAccess (storeOf p bytes exponent)) b formed fine (a .reply)
       (store-encode (sound b formed) p bytes exponent a)
 
   pub deallocated : (kind len : ℕ) → badAllocation kind exponent ≡ false → {r : Answer} {A′ C′ : List ℕ}
       → Deallocated p (allocationKind kind) len exponent (view b) r A′ C′
-      → Entered (badAllocation kind exponent) (deallocate p (allocationKind kind) len exponent) b r (buffers A′ (b .parents) (b .protectors) (b .words) C′)
+      → Entered Nothing (badAllocation kind exponent) (deallocate p (allocationKind kind) len exponent) b r (buffers A′ (b .parents) (b .protectors) (b .words) C′)
   deallocated kind len fine a =
-      performed (badAllocation kind exponent) (deallocate p (allocationKind kind) len exponent) b formed fine (a .answers (b .words))
+      performed Nothing (badAllocation kind exponent) (deallocate p (allocationKind kind) len exponent) b formed fine (a .reply)
       (deallocate-encode p (allocationKind kind) len exponent (view b) (sound b formed) a)

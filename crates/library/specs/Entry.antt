@@ -1,20 +1,19 @@
 -- What an entry comes to, for whatever reaches it: 1, then 2, then the request on the memory that the lent buffers hold.
 -- proofs/Entered.antt: `wellFormed b` is true exactly where some valid memory encodes to b, and that memory is `view b`.
-use Prim.Native.Nat.{ℕ}
 use mathlib.Core.Path.{_≡_}
-use mathlib.Core.Bool.{Bool, true, false, not}
-use Rattle.definition.specs.Notation.{_when_, _or_, any}
+use mathlib.Core.Bool.{Bool, not}
+use Rattle.definition.specs.Notation.{if_then_else_, _when_, _or_}
 use Rattle.definition.specs.Refusal.{notWellFormed, malformed}
-use Rattle.definition.specs.Memory.{Memory, unlessRefused, isLiveHeap, leakCheck}
+use Rattle.definition.specs.Memory.{Memory, MemoryAccess, unlessRefused}
 use Rattle.definition.specs.Memory as definition
-use Rattle.answer.specs.Answer.{answerOf}
+use Rattle.answer.specs.Answer.{Gives, replied}
 use Rattle.answer.specs.declared.Answer.{Answer}
-use Rattle.answer.specs.declared.Answer.the-variants.{Leak}
+use Rattle.answer.specs.declared.Answer.the-variants.{Refused}
 use Rattle.tables.specs.Encoding.{Buffers, encode}
 use Rattle.tables.specs.Decoding.{view}
-use Rattle.tables.specs.Held.{Holds}
 use Rattle.wellformed.specs.WellFormed.{wellFormed}
-use Rattle.bounds.specs.Bounds.{LowestLeak}
+use Rattle.bounds.specs.Bounds.{leakReply}
+use Rattle.memory.specs.Access.{wordsGiven}
 
 -- an outcome, with its memory as the five buffers hold it
 abbrev pub encoded : definition.Answer × Memory → definition.Answer × Buffers
@@ -25,11 +24,18 @@ unfoldable pub entered : Bool → (Memory → definition.Answer × Memory) → B
 entered bad request b =
     unlessRefused (notWellFormed when not (wellFormed b) or malformed when bad) b (encoded (request (view b)))
 
--- an entry's promise: it answers r and leaves b′
-abbrev pub Entered : Bool → (Memory → definition.Answer × Memory) → Buffers → Answer → Buffers → Type 0
-Entered bad request b r b′ = _≡_ {A = definition.Answer × Buffers} (answerOf r (b′ .words), b′) (entered bad request b)
+-- an entry's promise: it answers r and leaves b′; what it gives where it is accepted
+abbrev pub Entered : Gives → Bool → (Memory → definition.Answer × Memory) → Buffers → Answer → Buffers → Type 0
+Entered gives bad request b r b′ = _≡_ {A = Answer × Buffers} (r, b′) (replied gives (entered bad request b))
 
--- a leak check's besides: 25 names a live heap allocation, the lowest
-pub record LeakEntered (b : Buffers) (r : Answer) : Type 0 where
-  pub entered : Entered false leakCheck b r b
-  pub named : (m : Memory) → Holds m b → any isLiveHeap m ≡ true → (n : ℕ) × ((r ≡ Leak n) × LowestLeak m n)
+-- what a load gives, on lent buffers: the part of their words where the pointer points (proofs/Loads.antt: it holds the definition's loaded words)
+abbrev pub givenBy : MemoryAccess → Buffers → Gives
+givenBy x b = wordsGiven x (view b)
+
+-- the answer where a field falls under 2, if 1 was passed
+unfoldable pub malformedAnswer : Buffers → Answer
+malformedAnswer b = if wellFormed b then Refused malformed else Refused notWellFormed
+
+-- what a leak check answers: 1, or the lowest leak, or none. It changes nothing
+unfoldable pub leakEntered : Buffers → Answer
+leakEntered b = if wellFormed b then leakReply (view b) else Refused notWellFormed

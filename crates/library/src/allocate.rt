@@ -1,6 +1,7 @@
 // Kind 0: records and codes change. What is new in the other buffers is zeros, which stand there already.
 use answer::Answer;
 ghost use Rattle.definition.specs.Memory as definition;
+ghost use Rattle.answer.specs.Answer.Gives.{ThePointer};
 ghost use Rattle.tables.specs.Decoding.{allocationKind};
 ghost use Rattle.tables.specs.Held.{buffers};
 ghost use Rattle.library.specs.Fields.{badAllocation};
@@ -18,7 +19,7 @@ pub fn allocate(
     exponent: u64,
     address: u64,
 ) -> Answer
-    ensures { λ r. ⌜ Entered (badAllocation kind exponent) (definition.allocate (allocationKind kind) len exponent address)
+    ensures { λ r. ⌜ Entered ThePointer (badAllocation kind exponent) (definition.allocate (allocationKind kind) len exponent address)
         (buffers (now (allocs .entry)) (now (parents .entry)) (now (protectors .entry)) (now (words .entry)) (now (codes .entry)))
         r
         (buffers (now (allocs .exit)) (now (parents .entry)) (now (protectors .entry)) (now (words .entry)) (now (codes .exit))) ⌝ }

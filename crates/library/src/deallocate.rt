@@ -3,6 +3,7 @@ use answer::Answer;
 use pointer::ThinPointer;
 ghost use Rattle.definition.specs.Memory as definition;
 ghost use Rattle.pointer.specs.Pointer.{thinPointerOf};
+ghost use Rattle.answer.specs.Answer.Gives.{Nothing};
 ghost use Rattle.tables.specs.Decoding.{allocationKind};
 ghost use Rattle.tables.specs.Held.{buffers};
 ghost use Rattle.library.specs.Fields.{badAllocation};
@@ -20,7 +21,7 @@ pub fn deallocate(
     len: u64,
     exponent: u64,
 ) -> Answer
-    ensures { λ r. ⌜ Entered (badAllocation kind exponent) (definition.deallocate (thinPointerOf p) (allocationKind kind) len exponent)
+    ensures { λ r. ⌜ Entered Nothing (badAllocation kind exponent) (definition.deallocate (thinPointerOf p) (allocationKind kind) len exponent)
         (buffers (now (allocs .entry)) (now (parents .entry)) (now (protectors .entry)) (now (words .entry)) (now (codes .entry)))
         r
         (buffers (now (allocs .exit)) (now (parents .entry)) (now (protectors .entry)) (now (words .entry)) (now (codes .exit))) ⌝ }

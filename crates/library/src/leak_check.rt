@@ -1,7 +1,8 @@
 // Kind 9: it changes nothing.
 use answer::Answer;
+ghost use mathlib.Core.Path.{_≡_};
 ghost use Rattle.tables.specs.Held.{buffers};
-ghost use Rattle.library.specs.Entry.{LeakEntered};
+ghost use Rattle.library.specs.Entry.{leakEntered};
 
 // Check if there are any memory leaks; the answer names the lowest.
 pub fn leak_check(
@@ -11,7 +12,7 @@ pub fn leak_check(
     words: &[u32],
     codes: &[u8],
 ) -> Answer
-    ensures { λ r. ⌜ LeakEntered (buffers (now (allocs .entry)) (now (parents .entry)) (now (protectors .entry)) (now (words .entry)) (now (codes .entry))) r ⌝ }
+    ensures { λ r. ⌜ r ≡ leakEntered (buffers (now (allocs .entry)) (now (parents .entry)) (now (protectors .entry)) (now (words .entry)) (now (codes .entry))) ⌝ }
 {
     if !wellformed::well_formed(allocs, parents, protectors, words, codes) {
         return Answer::Refused(1);

@@ -6,4 +6,5 @@ pub mod dereferenceable;
 pub mod fields;
 pub mod leak_check;
 pub mod load;
+pub mod start;
 pub mod store;

@@ -1,16 +1,16 @@
 // Kind 2: the codes change, and no byte does.
 use answer::Answer;
 use pointer::ThinPointer;
-ghost use mathlib.Core.Path.{_≡_};
 ghost use Rattle.definition.specs.Memory.{performAccess};
 ghost use Rattle.pointer.specs.Pointer.{thinPointerOf};
-ghost use Rattle.answer.specs.Answer.{answerOf};
+ghost use Rattle.answer.specs.Answer.{HandsOut};
 ghost use Rattle.tables.specs.Held.{buffers};
 ghost use Rattle.memory.specs.Access.{loadOf};
 ghost use Rattle.library.specs.Fields.{badExponent};
-ghost use Rattle.library.specs.Entry.{Entered};
+ghost use Rattle.library.specs.Entry.{Entered, givenBy};
 
-// The loaded words are a part of the lent data, which the answer names: `load_view` hands it out.
+// The loaded words are a part of the lent data, which the answer names: it starts at the pointer's offset behind the allocation's words, and has
+// the length asked for. `load_view` hands it out.
 pub fn load(
     allocs: &[u64],
     parents: &[u16],
@@ -21,7 +21,10 @@ pub fn load(
     len: u64,
     exponent: u64,
 ) -> Answer
-    ensures { λ r. ⌜ Entered (badExponent exponent) (performAccess (loadOf (thinPointerOf p) len exponent))
+    ensures { λ r. ⌜ Entered
+        (givenBy (loadOf (thinPointerOf p) len exponent)
+        (buffers (now (allocs .entry)) (now (parents .entry)) (now (protectors .entry)) (now (words .entry)) (now (codes .entry))))
+        (badExponent exponent) (performAccess (loadOf (thinPointerOf p) len exponent))
         (buffers (now (allocs .entry)) (now (parents .entry)) (now (protectors .entry)) (now (words .entry)) (now (codes .entry)))
         r
         (buffers (now (allocs .entry)) (now (parents .entry)) (now (protectors .entry)) (now (words .entry)) (now (codes .exit))) ⌝ }
@@ -35,9 +38,10 @@ pub fn load(
     memory::access::load(allocs, parents, codes, p, len, exponent)
 }
 
-// "The bytes of an accepted load are handed out as a part of the lent data." They are empty for length zero and for any other answer.
+// "The bytes of an accepted load are handed out as a part of the lent data": of the caller's slice itself, from where the answer says. The part is
+// empty for length zero and for any other answer.
 pub fn load_view<'d>(words: &'d [u32], answer: Answer) -> &'d [u32]
-    ensures { λ r. ⌜ now r ≡ answerOf answer (now (words .entry)) .words ⌝ }
+    ensures { λ r. ⌜ HandsOut answer (words .entry) r ⌝ }
 {
     answer::loaded_words(answer, words)
 }

@@ -3,6 +3,7 @@ use answer::Answer;
 use pointer::ThinPointer;
 ghost use Rattle.definition.specs.Memory.{performAccess};
 ghost use Rattle.pointer.specs.Pointer.{thinPointerOf};
+ghost use Rattle.answer.specs.Answer.Gives.{Nothing};
 ghost use Rattle.tables.specs.Held.{buffers};
 ghost use Rattle.memory.specs.Access.{storeOf};
 ghost use Rattle.library.specs.Fields.{badStore};
@@ -19,7 +20,7 @@ pub fn store(
     bytes: &[u32],
     exponent: u64,
 ) -> Answer
-    ensures { λ r. ⌜ Entered (badStore (now (bytes .entry)) exponent) (performAccess (storeOf (thinPointerOf p) (now (bytes .entry)) exponent))
+    ensures { λ r. ⌜ Entered Nothing (badStore (now (bytes .entry)) exponent) (performAccess (storeOf (thinPointerOf p) (now (bytes .entry)) exponent))
         (buffers (now (allocs .entry)) (now (parents .entry)) (now (protectors .entry)) (now (words .entry)) (now (codes .entry)))
         r
         (buffers (now (allocs .entry)) (now (parents .entry)) (now (protectors .entry)) (now (words .exit)) (now (codes .exit))) ⌝ }

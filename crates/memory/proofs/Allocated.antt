@@ -4,14 +4,17 @@ use mathlib.Core.Path.{_≡_, refl, sym, ap, subst, _∙_}
 use mathlib.Core.Bool.{Bool, true, false, not}
 use mathlib.Core.Option.{some}
 use mathlib.Core.List.{List}
+use native.Mathlib.Omega.{arith}
 use borrow.Author.Tests.{eq-eqb, ne-eqb, le-leb, lt-leb}
 use lib.ListN.{length}
 use Rattle.definition.specs.Notation.{any}
 use Rattle.definition.specs.Memory.{Memory, AllocationKind, kindNumber, isMisaligned, overlaps, isPickable, exceedsBounds, ofAllocation, newAllocation, refusedWith, givesPointer, allocateRefusal, acceptAllocate, allocate}
 use Rattle.definition.specs.Memory as definition
 use Rattle.definition.proofs.ValidMemory.{valid-allocate}
+use Rattle.answer.specs.Answer.Gives.{ThePointer}
 use Rattle.answer.specs.declared.Answer.{Answer}
 use Rattle.answer.specs.declared.Answer.the-variants.{Refused, Pointer}
+use Rattle.answer.proofs.Replies.{refused-reply}
 use Rattle.pointer.specs.declared.Provenance.the-variants.{Of}
 use Rattle.tables.specs.Encoding.{recordOf, codesOf, held, encode}
 use Rattle.tables.specs.Held.{buffers, Holds, AllocationFits, Appended}
@@ -63,24 +66,24 @@ module _ (m : Memory) (k : AllocationKind) (len exponent address : ℕ) where
 
   -- as the buffers have them
   module _ {A C : List ℕ} {kind : ℕ} (h : CanAllocate m k A C kind exponent) where
-    refused-allocated : (n : ℕ) → outcome ≡ (refusedWith n, m) → Allocated outcome (Refused n) A C
-    refused-allocated n e =
+    refused-allocated : (n : ℕ) → (n ≡ 0 → ⊥) → outcome ≡ (refusedWith n, m) → Allocated outcome (Refused n) A C
+    refused-allocated n z e =
         subst (λ (o : definition.Answer × Memory). Allocated o (Refused n) A C) (sym e)
-        (record { answer = λ words. refl; allocs = h .records .allocs; codes = h .codes })
+        (record { reply = sym (refused-reply ThePointer n z); answer = λ words. refl; allocs = h .records .allocs; codes = h .codes })
 
     pub unpickable-allocated : not (isPickable m len exponent address) ≡ true → Allocated outcome (Refused 5) A C
-    unpickable-allocated e = refused-allocated 5 (allocate-unpickable e)
+    unpickable-allocated e = refused-allocated 5 (λ z. omega arith) (allocate-unpickable e)
 
     module _ (picked : not (isPickable m len exponent address) ≡ false) where
       pub exceeds-allocated : exceedsBounds m (ofAllocation len) ≡ true → Allocated outcome (Refused 15) A C
-      exceeds-allocated e = refused-allocated 15 (allocate-exceeds picked e)
+      exceeds-allocated e = refused-allocated 15 (λ z. omega arith) (allocate-exceeds picked e)
 
       pub accepts-allocated : exceedsBounds m (ofAllocation len) ≡ false → {n : ℕ} {A′ C′ : List ℕ} → Appended m (newAllocation k len exponent address) n A′ C′
           → Allocated outcome (Pointer (Of n 0)) A′ C′
       unfolding acceptAllocate
       accepts-allocated e {n} {A′} {C′} a =
           subst (λ (o : definition.Answer × Memory). Allocated o (Pointer (Of n 0)) A′ C′) (sym (allocate-accepts picked e))
-          (record { answer = λ words. ap (λ (t : ℕ). givesPointer (some (record { allocation = t; node = 0 }))) (a .number); allocs = a .allocs; codes = a .codes })
+          (record { reply = ap (λ (t : ℕ). Pointer (Of t 0)) (a .number); answer = λ words. ap (λ (t : ℕ). givesPointer (some (record { allocation = t; node = 0 }))) (a .number); allocs = a .allocs; codes = a .codes })
 
     pub room-fits : exceedsBounds m (ofAllocation len) ≡ false → AllocationFits m A C len
     room-fits e = record { records = h .records; codes = h .codes; room = e }

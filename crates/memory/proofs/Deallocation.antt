@@ -20,6 +20,8 @@ use Rattle.definition.specs.Memory as definition
 use Rattle.pointer.specs.Pointer.{thinPointerOf}
 use Rattle.pointer.specs.declared.Provenance.the-variants.{None, Of}
 use Rattle.pointer.specs.declared.ThinPointer as code
+use Rattle.answer.specs.Answer.{replyTo}
+use Rattle.answer.specs.Answer.Gives.{Nothing}
 use Rattle.answer.specs.declared.Answer.the-variants.{Refused, Accepted}
 use Rattle.tables.specs.Encoding.{stateNumber, recordOf, codesOf, held}
 use Rattle.tables.specs.Held.{startOf, Records}
@@ -73,6 +75,7 @@ module _ (p : ThinPointer) (k : AllocationKind) (len exponent : ℕ) (m : Memory
   deallocate-refused (suc r) z h c e =
       let o = performed (suc r) e in
       record {
+        reply = ap (λ o. replyTo Nothing (o .0)) (sym o);
         answers = λ words. ap (λ o. o .0) (sym o);
         allocs = h .trees .allocs ∙ ap (λ o. held 768 recordOf (o .1)) (sym o);
         codes = c ∙ ap (λ o. held 32768 codesOf (o .1)) (sym o);
@@ -141,6 +144,7 @@ module _ (p : ThinPointer) {m : Memory} {A P R C : List ℕ} (h : HoldsMarked m 
   deallocate-accepted k len exponent c e =
       let o = performed p k len exponent m 0 e in
       record {
+        reply = ap (λ o. replyTo Nothing (o .0)) (sym o);
         answers = λ words. ap (λ o. o .0) (sym o);
         allocs = dead-records ∙ ap (λ o. held 768 recordOf (o .1)) (sym o);
         codes = c ∙ dead-codes ∙ ap (λ o. held 32768 codesOf (o .1)) (sym o);

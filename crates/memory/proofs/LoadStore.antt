@@ -22,7 +22,11 @@ use Rattle.definition.proofs.Accesses.{after-none, after-one}
 use Rattle.pointer.specs.Pointer.{thinPointerOf}
 use Rattle.pointer.specs.declared.Provenance.the-variants.{Of}
 use Rattle.pointer.specs.declared.ThinPointer as code
+use Rattle.answer.specs.Answer.{answerOf, replyTo}
+use Rattle.answer.specs.Answer.Gives.{Nothing}
+use Rattle.answer.specs.declared.Answer.{Answer}
 use Rattle.answer.specs.declared.Answer.the-variants.{Refused, Accepted, Words}
+use Rattle.answer.proofs.Replies.{refused-reply}
 use Rattle.tables.specs.Encoding.{wordsOf, codesOf, held}
 use Rattle.tables.specs.Held.{startOf, Records, StartsAt}
 use Rattle.tables.proofs.Parts.{write-paste}
@@ -32,7 +36,7 @@ use Rattle.tables.specs.declared.Allocation as record-of
 use Rattle.bounds.proofs.Points.{recordAt, read-address}
 use Rattle.parts.specs.Trees.{HoldsTrees, afterVisit, TreeVisited}
 use Rattle.memory.specs.Buffers.{HoldsWords}
-use Rattle.memory.specs.Access.{accessOf, loadOf, storeOf, boundsRefusal, Checked, Reached, visitAt, wordsStart, Accessed, QuietInTree, QuietAccess, Loaded, Stored}
+use Rattle.memory.specs.Access.{accessOf, loadOf, storeOf, boundsRefusal, Checked, Reached, visitAt, wordsStart, Accessed, QuietInTree, QuietAccess, wordsGiven, Loaded, Stored}
 use Rattle.memory.specs.declared.access.Quiet.{Quiet}
 use Rattle.memory.specs.declared.access.Quiet.the-variants.{No, At}
 use Rattle.memory.proofs.OneTree.{same-parts, focus-load, visited-part}
@@ -251,7 +255,10 @@ loaded-words p len exponent a = refl
 
 module _ (p : ThinPointer) (len exponent : ℕ) {m : Memory} (v : Valid m) where
   pub load-refused : (r : ℕ) {C : List ℕ} → (r ≡ 0 → ⊥) → Accessed (loadOf p len exponent) m r C → Loaded (loadOf p len exponent) m (Refused r) C
-  load-refused r z k = record { answers = ap (λ o. o .0) (sym (refused-memory (loadOf p len exponent) m r z (sym (k .refusal)))); codes = k .codes }
+  load-refused r z k =
+      let l : MemoryAccess = loadOf p len exponent in
+      let e = refused-memory l m r z (sym (k .refusal)) in
+      record { reply = sym (ap (λ o. replyTo (wordsGiven l m) (o .0)) e ∙ refused-reply (wordsGiven l m) r z); answers = ap (λ o. o .0) (sym e); codes = k .codes }
 
   pub load-accepted : (r start : ℕ) {C : List ℕ} → r ≡ 0 → Accessed (loadOf p len exponent) m r C → start ≡ wordsStart p len m → Loaded (loadOf p len exponent) m (Words start len) C
   load-accepted r start z k s =
@@ -259,11 +266,31 @@ module _ (p : ThinPointer) (len exponent : ℕ) {m : Memory} (v : Valid m) where
       let e : accessRefusal l m ≡ 0 = sym (k .refusal) ∙ z in
       let h : Checked m p len = accepted-checked l m e in
       record {
+        reply = ap (λ (n : ℕ). Words n len) s ∙ sym (ap (λ o. replyTo (wordsGiven l m) (o .0)) (accepted l m e));
         answers =
             ap givesWords (ap (λ (n : ℕ). take len (drop n (held 4096 wordsOf m))) s ∙ words-part v h ∙ sym (loaded-words p len exponent (target m p)))
             ∙ ap (λ o. o .0) (sym (accepted l m e));
         codes = k .codes;
       }
+
+-- what a load's answer stands for in the definition: the words that it names are the loaded ones
+module _ (p : ThinPointer) (len exponent : ℕ) {m : Memory} (v : Valid m) where
+  abbrev load : MemoryAccess
+  load = loadOf p len exponent
+
+  abbrev replyOf : Answer
+  replyOf = replyTo (wordsGiven load m) (performAccess load m .0)
+
+  stands : {answer : Answer} {C : List ℕ} → Loaded load m answer C → answerOf replyOf (held 4096 wordsOf m) ≡ performAccess load m .0
+  stands k = ap (λ (a : Answer). answerOf a (held 4096 wordsOf m)) (sym (k .reply)) ∙ k .answers
+
+  pub load-means : answerOf replyOf (held 4096 wordsOf m) ≡ performAccess load m .0
+  load-means =
+      let k : Accessed load m (accessRefusal load m) (held 32768 codesOf (performAccess load m .1)) = record { refusal = refl; codes = refl } in
+      elim (ℕ-discrete (accessRefusal load m) 0) [
+        | yes z ↦ stands (load-accepted p len exponent v _ (wordsStart p len m) z k refl)
+        | no z ↦ stands (load-refused p len exponent v _ z k)
+      ]
 
 -- ---- a store's answer
 no-words : (p : ThinPointer) (bytes : List ℕ) (exponent : ℕ) (a : Allocation) → loadedWords (storeOf p bytes exponent) a ≡ []
@@ -276,6 +303,7 @@ module _ (p : ThinPointer) (bytes : List ℕ) (exponent : ℕ) {m : Memory} {A P
       let s : MemoryAccess = storeOf p bytes exponent in
       let e = refused-memory s m r z (sym (k .refusal)) in
       record {
+        reply = sym (ap (λ o. replyTo Nothing (o .0)) e ∙ refused-reply Nothing r z);
         answers = λ words. ap (λ o. o .0) (sym e);
         words = h .words ∙ ap (held 4096 wordsOf) (sym (ap (λ o. o .1) e));
         codes = k .codes;
@@ -288,6 +316,7 @@ module _ (p : ThinPointer) (bytes : List ℕ) (exponent : ℕ) {m : Memory} {A P
       let e : accessRefusal s m ≡ 0 = sym (k .refusal) ∙ z in
       let a = accepted s m e in
       record {
+        reply = sym (ap (λ o. replyTo Nothing (o .0)) a);
         answers = λ words. ap givesWords (sym (no-words p bytes exponent (target m p))) ∙ ap (λ o. o .0) (sym a);
         words =
             w ∙ ap (λ (l : List ℕ). paste l (wordsStart p (length bytes) m) bytes (length bytes)) (h .words)

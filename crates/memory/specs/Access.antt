@@ -11,7 +11,8 @@ use Rattle.definition.specs.Permission.{AccessKind}
 use Rattle.definition.specs.Permission.AccessKind.{Read, Write}
 use Rattle.definition.specs.Tree.{Visit, accessVisit, visitRefusal}
 use Rattle.definition.specs.Memory.{ThinPointer, Memory, MemoryAccess, allocationOf, allocationAt, target, offset, size, nodeCount, namesNeverMade, isMisaligned, checkPtr, accessRefusal, performAccess}
-use Rattle.answer.specs.Answer.{answerOf}
+use Rattle.answer.specs.Answer.{answerOf, Gives, replyTo}
+use Rattle.answer.specs.Answer.Gives.{Nothing, TheWords}
 use Rattle.answer.specs.declared.Answer.{Answer}
 use Rattle.tables.specs.Encoding.{wordsOf, codesOf, held}
 use Rattle.tables.specs.Held.{startOf}
@@ -58,7 +59,7 @@ unfoldable pub wordsStart : ThinPointer → ℕ → Memory → ℕ
 wordsStart p len m =
     if eqb len 0 then 0 else startOf wordsOf m (allocationOf (p .provenance)) + offset (target m p) p
 
--- ---- what they leave
+-- ---- what they leave; `reply` is the code's own answer, and `answers` what it stands for in the definition
 -- all but the words
 pub record Accessed (x : MemoryAccess) (m : Memory) (answer : ℕ) (C : List ℕ) : Type 0 where
   pub refusal : answer ≡ accessRefusal x m
@@ -75,11 +76,17 @@ abbrev pub QuietAccess : MemoryAccess → Memory → List ℕ → Quiet → Type
 QuietAccess x m C No = Unit
 QuietAccess x m C (At start) = Accessed x m 0 C × (start ≡ wordsStart (x .pointer) (x .len) m)
 
+-- what a load gives: the part of the data where the pointer points, of the length asked for
+abbrev pub wordsGiven : MemoryAccess → Memory → Gives
+wordsGiven x m = TheWords (wordsStart (x .pointer) (x .len) m) (x .len)
+
 pub record Loaded (x : MemoryAccess) (m : Memory) (answer : Answer) (C : List ℕ) : Type 0 where
+  pub reply : answer ≡ replyTo (wordsGiven x m) (performAccess x m .0)
   pub answers : answerOf answer (held 4096 wordsOf m) ≡ performAccess x m .0
   pub codes : C ≡ held 32768 codesOf (performAccess x m .1)
 
 pub record Stored (x : MemoryAccess) (m : Memory) (answer : Answer) (W C : List ℕ) : Type 0 where
+  pub reply : answer ≡ replyTo Nothing (performAccess x m .0)
   pub answers : (words : List ℕ) → answerOf answer words ≡ performAccess x m .0
   pub words : W ≡ held 4096 wordsOf (performAccess x m .1)
   pub codes : C ≡ held 32768 codesOf (performAccess x m .1)

@@ -4,7 +4,8 @@ use mathlib.Core.Path.{_≡_}
 use mathlib.Core.List.{List}
 use Rattle.definition.specs.Memory.{Memory, AllocationKind, kindNumber}
 use Rattle.definition.specs.Memory as definition
-use Rattle.answer.specs.Answer.{answerOf}
+use Rattle.answer.specs.Answer.{answerOf, replyTo}
+use Rattle.answer.specs.Answer.Gives.{ThePointer}
 use Rattle.answer.specs.declared.Answer.{Answer}
 use Rattle.tables.specs.Encoding.{recordOf, codesOf, held}
 use Rattle.tables.specs.Held.{Records}
@@ -16,8 +17,9 @@ pub record CanAllocate (m : Memory) (k : AllocationKind) (A C : List ℕ) (kind 
   pub is-kind : kind ≡ kindNumber k
   pub is-exponent : exponent ≤ 29
 
--- the answer, and the two buffers of the memory afterwards
+-- the answer, what it stands for in the definition, and the two buffers of the memory afterwards
 pub record Allocated (outcome : definition.Answer × Memory) (r : Answer) (A C : List ℕ) : Type 0 where
+  pub reply : r ≡ replyTo ThePointer (outcome .0)
   pub answer : (words : List ℕ) → answerOf r words ≡ outcome .0
   pub allocs : A ≡ held 768 recordOf (outcome .1)
   pub codes : C ≡ held 32768 codesOf (outcome .1)

@@ -11,7 +11,8 @@ use Rattle.definition.specs.Refusal.{neverMade, deadAllocation, awayFromStart, 
 use Rattle.definition.specs.Permission.AccessKind.{Write}
 use Rattle.definition.specs.Tree.{accessVisit}
 use Rattle.definition.specs.Memory.{Provenance, ThinPointer, Memory, AllocationKind, allocationAt, size, nodeCount, kindNumber, namesNeverMade, deallocate}
-use Rattle.answer.specs.Answer.{answerOf}
+use Rattle.answer.specs.Answer.{answerOf, replyTo}
+use Rattle.answer.specs.Answer.Gives.{Nothing}
 use Rattle.answer.specs.declared.Answer.{Answer}
 use Rattle.tables.specs.Encoding.{stateNumber, recordOf, codesOf, held}
 use Rattle.tree.specs.Requests.{deallocateRefusal}
@@ -47,6 +48,7 @@ WrittenAll m n node answer C =
     TreeVisited m n (deallocateRefusal node (size a) (a .nodes)) (accessVisit Write node 0 (size a)) answer C
 
 pub record Deallocated (p : ThinPointer) (k : AllocationKind) (len exponent : ℕ) (m : Memory) (answer : Answer) (A C : List ℕ) : Type 0 where
+  pub reply : answer ≡ replyTo Nothing (deallocate p k len exponent m .0)
   pub answers : (words : List ℕ) → answerOf answer words ≡ deallocate p k len exponent m .0
   pub allocs : A ≡ held 768 recordOf (deallocate p k len exponent m .1)
   pub codes : C ≡ held 32768 codesOf (deallocate p k len exponent m .1)

@@ -15,7 +15,7 @@ use Rattle.answer.specs.declared.Answer.{Answer}
 use Rattle.tables.specs.Held.{Trees}
 use Rattle.entries.specs.Buffer.{HoldsFrames, entriesIn, entriesAt}
 use Rattle.frame.specs.Release.{AllMade, afterEndCall, Ended}
-use Rattle.frame.proofs.EndCall.{end-call-encode, end-call-answer, end-call-memory, accepted-frames, refused-frames}
+use Rattle.frame.proofs.EndCall.{end-call-encode, ended-answers, end-call-answer, end-call-memory, accepted-frames, refused-frames}
 use Rattle.perform.specs.Performed.{HoldsTrees, LeftTrees}
 use Rattle.perform.proofs.States.{frames-held, all-held, trees-of}
 
@@ -29,11 +29,11 @@ module _ {s : State} {A P R C F : List ℕ} (h : HoldsTrees s A P R C F) (f : �
     ended = subst (λ (es : List Provenance). Ended (s .memory) es r R′ C′) is k
 
     refusal : answerOf r [] .refusal ≡ endCallRefusal (s .memory) (entries (frameAt s f))
-    refusal = ap (λ (a : definition.Answer). a .refusal) (ended .answers [])
+    refusal = ap (λ (a : definition.Answer). a .refusal) (ended-answers ended [])
 
     left : {F′ : List ℕ} → HoldsFrames (endCall f s .1 .frames) F′ → LeftTrees (endCall f s) r A P R′ C′ F′
     left g = record {
-      answers = λ words. ended .answers words ∙ sym (end-call-answer f s);
+      answers = λ words. ended-answers ended words ∙ sym (end-call-answer f s);
       trees = subst (λ (m : Memory). Trees m A P R′ C′) (sym (end-call-memory f s)) (trees-of (afterEndCall (s .memory) (entries (frameAt s f))) (end-call-encode (all-held h) (entries (frameAt s f)) (ended .nodes)));
       frames = g .held;
     }

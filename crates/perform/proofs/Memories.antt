@@ -16,7 +16,7 @@ use Rattle.pointer.specs.Pointer.{back, ahead}
 use Rattle.tables.specs.Encoding.{Buffers, encode}
 use Rattle.tables.specs.Held.{buffers}
 use Rattle.tables.proofs.ReadBack.{holds-words}
-use Rattle.bounds.specs.Bounds.{LeakAnswer}
+use Rattle.bounds.proofs.Leak.{LeakAnswer}
 use Rattle.memory.specs.Allocate.{CanAllocate, Allocated}
 use Rattle.memory.specs.Access.{loadOf, storeOf, Loaded, Stored}
 use Rattle.memory.specs.Deallocate.{Deallocated}

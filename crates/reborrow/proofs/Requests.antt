@@ -21,9 +21,11 @@ use Rattle.permission.specs.Codes.{protector, safePointer}
 use Rattle.pointer.specs.Pointer.{provenanceOf, thinPointerOf}
 use Rattle.pointer.specs.declared.ThinPointer as pointer
 use Rattle.pointer.specs.declared.Provenance.the-variants.{Of}
-use Rattle.answer.specs.Answer.{answerOf}
+use Rattle.answer.specs.Answer.{answerOf, replyTo}
+use Rattle.answer.specs.Answer.Gives.{ThePointer}
 use Rattle.answer.specs.declared.Answer as code
 use Rattle.answer.specs.declared.Answer.the-variants.{Refused, Pointer}
+use Rattle.answer.proofs.Replies.{refused-reply}
 use Rattle.tables.specs.Encoding.{wordsOf, held}
 use Rattle.tables.specs.Held.{buffers, Holds, Trees}
 use Rattle.tables.proofs.ReadBack.{encode-of, holds-words}
@@ -56,10 +58,11 @@ module _ (w : ReborrowSettings) (frame : ℕ) (p : ThinPointer) (s : State) wher
     unfolding reborrow
     accepted e = is-reborrow ∙ ap (λ (n : ℕ). unlessRefused n s (acceptReborrow w frame p s)) e
 
-  pub retagged : (o : Answer × State) → retag w frame p s ≡ o → (r : code.Answer) {A P R C : List ℕ} → ((words : List ℕ) → answerOf r words ≡ o .0) → Trees (o .1 .memory) A P R C
-      → Retagged w frame p s r A P R C
-  retagged o e r {A} {P} {R} {C} f t =
+  pub retagged : (o : Answer × State) → retag w frame p s ≡ o → (r : code.Answer) {A P R C : List ℕ} → r ≡ replyTo ThePointer (o .0) → ((words : List ℕ) → answerOf r words ≡ o .0)
+      → Trees (o .1 .memory) A P R C → Retagged w frame p s r A P R C
+  retagged o e r {A} {P} {R} {C} exact f t =
       record {
+        reply = exact ∙ ap (λ (x : Answer × State). replyTo ThePointer (x .0)) (sym e);
         answers = λ words. f words ∙ ap (λ (x : Answer × State). x .0) (sym e);
         trees = subst (λ (x : Answer × State). Trees (x .1 .memory) A P R C) (sym e) t;
       }
@@ -113,18 +116,21 @@ module _ (w : ReborrowSettings) (frame : ℕ) (p : pointer.ThinPointer) {n node 
   pub retagged-refused : (r : ℕ) → r ≡ reborrowRefusal w frame (thinPointerOf p) s → (r ≡ 0 → ⊥) → {A P R C : List ℕ} → Trees (s .memory) A P R C
       → Retagged w frame (thinPointerOf p) s (Refused r) A P R C
   retagged-refused r q z t =
-      retagged w frame (thinPointerOf p) s (refusedWith r, s) (refused w frame (thinPointerOf p) s (ap (λ x. hasNone (provenanceOf x)) e) r q z) (Refused r) (λ words. refl) t
+      retagged w frame (thinPointerOf p) s (refusedWith r, s) (refused w frame (thinPointerOf p) s (ap (λ x. hasNone (provenanceOf x)) e) r q z) (Refused r) (sym (refused-reply ThePointer r z)) (λ words. refl) t
 
   pub retagged-child : reborrowRefusal w frame (thinPointerOf p) s ≡ 0 → {child : ℕ} {A P R C : List ℕ} → Added w (thinPointerOf p) (s .memory) n child A P R C
       → Retagged w frame (thinPointerOf p) s (Pointer (Of n child)) A P R C
   unfolding acceptReborrow
   retagged-child z {child} {A} {P} {R} {C} added =
       retagged w frame (thinPointerOf p) s (acceptReborrow w frame (thinPointerOf p) s) (accepted w frame (thinPointerOf p) s (ap (λ x. hasNone (provenanceOf x)) e) z)
-      (Pointer (Of n child))
-      (λ words.
-      ap (λ (k : ℕ). givesPointer (some (record { allocation = n; node = k }))) (added .number)
-      ∙ sym (ap (λ x. let q = provenanceOf x in givesPointer (some (record { allocation = allocationOf q; node = length (allocationAt (s .memory) (allocationOf q) .nodes) }))) e))
+      (Pointer (Of n child)) (ap (λ (a : Answer). replyTo ThePointer a) given) (λ words. given)
       (subst (λ (k : ℕ). Trees (mutateAt k (afterReborrowIn w (thinPointerOf p)) (s .memory)) A P R C) (sym (ap (λ x. allocationOf (provenanceOf x)) e)) (added .trees))
+    where
+      given : givesPointer (some (record { allocation = n; node = child }))
+          ≡ givesPointer (some (record { allocation = allocationOf (provenanceOf (p .provenance)); node = length (allocationAt (s .memory) (allocationOf (provenanceOf (p .provenance))) .nodes) }))
+      given =
+          ap (λ (k : ℕ). givesPointer (some (record { allocation = n; node = k }))) (added .number)
+          ∙ sym (ap (λ x. let q = provenanceOf x in givesPointer (some (record { allocation = allocationOf q; node = length (allocationAt (s .memory) (allocationOf q) .nodes) }))) e)
 
 -- ---- the five buffers afterwards: the words stay as they are
 pub retagged-holds : (settings : settingsCode.ReborrowSettings) (mask : FreezeMask) (frame : ℕ) (p : ThinPointer) (s : State) (r : code.Answer) {A P R W C A′ P′ R′ C′ : List ℕ}
@@ -152,3 +158,14 @@ module _ (byte : Bool → ℕ) (cell : byte false ≡ 0) (freeze : byte true ≡
   mask-back [] = refl
   mask-back (true ∷ mask) = ap₂ _∷_ (ap not (ne-eqb (byte true) 0 freeze)) (mask-back mask)
   mask-back (false ∷ mask) = ap₂ _∷_ (ap not (eq-eqb (byte false) 0 cell)) (mask-back mask)
+
+-- and the answer stands for the definition's, whatever the data are
+pub without-node-answers : (p : ThinPointer) (s : State) (words : List ℕ) {r : code.Answer} → r ≡ replyTo ThePointer (retagWithoutNode p s .0)
+    → answerOf r words ≡ retagWithoutNode p s .0
+unfolding retagWithoutNode
+without-node-answers p s words e = ap (λ (r : code.Answer). answerOf r words) e ∙ by (neverMade when namesNeverMade (s .memory) (p .provenance)) (p .provenance)
+  where
+    by : (n : ℕ) (o : Option Provenance) → let a = unlessRefused n s (givesPointer o, s) .0 in answerOf (replyTo ThePointer a) words ≡ a
+    by zero none = refl
+    by zero (some t) = refl
+    by (suc n) o = refl

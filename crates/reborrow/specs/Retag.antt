@@ -16,7 +16,8 @@ use Rattle.definition.specs.Frame.{Frame, entries, State, frameAt}
 use Rattle.definition.specs.Frame.Frame.{Closed, Open}
 use Rattle.definition.specs.Retag.{ReborrowSettings, ofNode, entryBound, afterReborrowIn, retag}
 use Rattle.definition.proofs.Retags.{readsVisit}
-use Rattle.answer.specs.Answer.{answerOf}
+use Rattle.answer.specs.Answer.{answerOf, replyTo}
+use Rattle.answer.specs.Answer.Gives.{ThePointer}
 use Rattle.answer.specs.declared.Answer.{Answer}
 use Rattle.tables.specs.Encoding.{codesOf, held}
 use Rattle.tables.specs.Held.{Used, Trees}
@@ -82,8 +83,9 @@ pub record Asked (s : State) (frame count : ℕ) (settings : code.ReborrowSettin
   pub entered : count ≡ length (entries (frameAt s frame))
   pub inside : codes ≡ insideCodes settings mask
 
--- the answer, and the buffers; they hold the memory as it was where it is refused
+-- the answer, what it stands for in the definition, and the buffers; they hold the memory as it was where it is refused
 pub record Retagged (w : ReborrowSettings) (frame : ℕ) (p : ThinPointer) (s : State) (answer : Answer) (A P R C : List ℕ) : Type 0 where
+  pub reply : answer ≡ replyTo ThePointer (retag w frame p s .0)
   pub answers : (words : List ℕ) → answerOf answer words ≡ retag w frame p s .0
   pub trees : Trees (retag w frame p s .1 .memory) A P R C
 

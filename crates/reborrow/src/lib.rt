@@ -31,7 +31,8 @@ ghost use Rattle.definition.specs.Retag.{startPerm, entryBound, reborrowRefusal
 ghost use Rattle.definition.proofs.Retags.{readsRefusal, readsVisit, settingsAfterInit};
 ghost use Rattle.pointer.specs.Pointer.{provenanceOf, thinPointerOf};
 ghost use Rattle.pointer.specs.declared.Provenance.the-variants.{Of};
-ghost use Rattle.answer.specs.Answer.{answerOf};
+ghost use Rattle.answer.specs.Answer.{replyTo};
+ghost use Rattle.answer.specs.Answer.Gives.{ThePointer};
 ghost use Rattle.permission.specs.Codes.{protector, safePointer};
 ghost use Rattle.tables.specs.Encoding.{protectorNumber};
 ghost use Rattle.tables.specs.Held.{Records, Used, Trees, PlaceFor, withNode};
@@ -448,7 +449,7 @@ pub fn reborrow(
 // A retag of a kind that adds no node: the same pointer, but for 4.
 pub fn retag_without_node(allocs: &[u64], p: ThinPointer) -> Answer
     requires { ⌜ ((m : Memory) × Records m (now allocs)) ⌝ }
-    ensures { λ r. ⌜ ((s : State) (words : List ℕ) → Records (s .memory) (now (allocs .entry)) → answerOf r words ≡ retagWithoutNode (thinPointerOf p) s .0) ⌝ }
+    ensures { λ r. ⌜ ((s : State) → Records (s .memory) (now (allocs .entry)) → r ≡ replyTo ThePointer (retagWithoutNode (thinPointerOf p) s .0)) ⌝ }
 {
     let provenance = p.provenance;
     if bounds::never_made(allocs, provenance) {

@@ -9,7 +9,7 @@ use borrow.Author.Tests.{eqb-true, leb-true, eq-eqb, le-leb}
 use lib.Dec.{eqb, leb}
 use lib.ListN.{length, getD, take, set, length-map, length-append}
 use lib.Seq.{length-take-le}
-use Rattle.definition.specs.Notation.{writeAt}
+use Rattle.definition.specs.Notation.{if_then_else_, writeAt}
 use Rattle.definition.specs.Memory.{Memory}
 use Rattle.definition.specs.Memory as definition
 use Rattle.definition.specs.Frame.{State, Frame, entries, frameAt}
@@ -19,9 +19,11 @@ use Rattle.definition.proofs.Writes.{write-none}
 use Rattle.pointer.specs.Pointer.{provenanceOf}
 use Rattle.pointer.specs.declared.Provenance.{Provenance}
 use Rattle.pointer.specs.declared.Provenance.the-variants.{None, Of}
-use Rattle.answer.specs.Answer.{answerOf}
+use Rattle.answer.specs.Answer.{answerOf, replied}
+use Rattle.answer.specs.Answer.Gives.{ThePointer}
 use Rattle.answer.specs.declared.Answer.{Answer}
 use Rattle.answer.specs.declared.Answer.the-variants.{Refused}
+use Rattle.answer.proofs.Replies.{refused-reply}
 use Rattle.tables.specs.Encoding.{Buffers, encode}
 use Rattle.tables.specs.Decoding.{view}
 use Rattle.tables.specs.Held.{buffers, Holds}
@@ -38,7 +40,7 @@ use Rattle.retag.specs.declared.RetagSettings.{RetagSettings}
 use Rattle.retag.specs.declared.RetagOutcome.{RetagOutcome}
 use Rattle.retag.specs.Settings.{retagOf, badFields, protects}
 use Rattle.retag.specs.Entry.{Lent, lent, isLent, stateOf, left, entered, Entered}
-use Rattle.retag.specs.Outcome.{Performed, enteredNode, outcomeOf}
+use Rattle.retag.specs.Outcome.{Performed, enteredNode, outcomeOf, malformedOutcome}
 use Rattle.retag.proofs.Performed.{framesEntered, perform-words, perform-frames}
 
 -- ---- the places
@@ -107,31 +109,55 @@ entered-held request l m h places few =
     ∙ ap (λ (x : Memory). let outcome = request (record { memory = x; frames = Open (firstOf (l .count) (l .places)) ∷ [] }) in (outcome .0, left l (outcome .1)))
     (view-held m (l .memory) h)
 
+-- ---- refused with 1 or 2, for whatever stands in the places
+module _ (len count : ℕ) (b : Buffers) where
+  -- nothing is put in
+  refused-same : (n : ℕ) → (n ≡ 0 → ⊥) → (places : List Entry) → length places ≡ len
+      → _≡_ {A = Answer × Lent} (Refused n, lent (set places len noEntry) count b) (replied ThePointer (definition.refusedWith n, lent places count b))
+  unfolding replied
+  refused-same n z places whole =
+      let same = set-past places len noEntry (omega arith) in
+      let exact = sym (refused-reply ThePointer n z) in
+      λ i. (exact i, lent (same i) count b)
+
+  module _ (places : List Entry) (whole : length places ≡ len) where
+    passes : {t : Bool} → isLent len count b ≡ t → isLent (length places) count b ≡ t
+    passes e = ap (λ (n : ℕ). isLent n count b) whole ∙ e
+
+  module _ (bad : Bool) (request : State → definition.Answer × State) (places : List Entry) (whole : length places ≡ len) where
+    refused-one : isLent len count b ≡ false → _≡_ {A = Answer × Lent} (Refused 1, lent (set places len noEntry) count b) (replied ThePointer (entered bad request (lent places count b)))
+    refused-one e = refused-same 1 (λ z. omega arith) places whole ∙ ap (replied ThePointer) (sym (entered-none bad request (lent places count b) (passes places whole e)))
+
+    refused-two : isLent len count b ≡ true → bad ≡ true → _≡_ {A = Answer × Lent} (Refused 2, lent (set places len noEntry) count b) (replied ThePointer (entered bad request (lent places count b)))
+    refused-two e f = refused-same 2 (λ z. omega arith) places whole ∙ ap (replied ThePointer) (sym (entered-bad bad request (lent places count b) (passes places whole e) f))
+
+  -- where a field falls under 2
+  pub malformed-entered : (request : State → definition.Answer × State) (places : List Entry) → length places ≡ len
+      → let r = malformedOutcome len count b in
+      _≡_ {A = Answer × Lent} (r .answer .answer, lent (set places (r .at) (r .entry)) (r .answer .count) b) (replied ThePointer (entered true request (lent places count b)))
+  malformed-entered request places whole = by (isLent len count b) refl
+    where
+      by : (t : Bool) → isLent len count b ≡ t
+          → _≡_ {A = Answer × Lent} ((if t then Refused 2 else Refused 1), lent (set places len noEntry) count b) (replied ThePointer (entered true request (lent places count b)))
+      by true e = refused-two true request places whole e refl
+      by false e = refused-one true request places whole e
+
 -- ---- a return each, for whatever stands in the places
 module _ (settings : RetagSettings) (p : definition.ThinPointer) (layout : List ℕ) (len count : ℕ) (b : Buffers) where
   -- the entry's promise of an outcome of the code, which leaves b′
   abbrev Promised : RetagOutcome → Buffers → Type 0
   Promised r b′ = (places : List Entry) → length places ≡ len → Entered settings p layout (lent places count b) (r .answer) (set places (r .at) (r .entry)) b′
 
-  -- nothing is put in
-  refused-same : (n : ℕ) (places : List Entry) → length places ≡ len
-      → _≡_ {A = definition.Answer × Lent} (definition.refusedWith n, lent (set places len noEntry) count b) (definition.refusedWith n, lent places count b)
-  refused-same n places whole = ap (λ (xs : List Entry). (definition.refusedWith n, lent xs count b)) (set-past places len noEntry (omega arith))
-
-  module _ (places : List Entry) (whole : length places ≡ len) where
-    passes : {t : Bool} → isLent len count b ≡ t → isLent (length places) count b ≡ t
-    passes e = ap (λ (n : ℕ). isLent n count b) whole ∙ e
-
   pub not-lent : isLent len count b ≡ false → {r : RetagOutcome} → r ≡ outcomeOf (Refused 1) None count len → Promised r b
   not-lent e is =
       subst⁻¹ (λ (r : RetagOutcome). Promised r b) is
-      (λ places whole. refused-same 1 places whole ∙ sym (entered-none (badFields settings layout) (retagOf settings p layout) (lent places count b) (passes places whole e)))
+      (λ places whole. refused-one len count b (badFields settings layout) (retagOf settings p layout) places whole e)
 
   module _ (fine : isLent len count b ≡ true) where
     pub bad-field : badFields settings layout ≡ true → {r : RetagOutcome} → r ≡ outcomeOf (Refused 2) None count len → Promised r b
     bad-field e is =
         subst⁻¹ (λ (r : RetagOutcome). Promised r b) is
-        (λ places whole. refused-same 2 places whole ∙ sym (entered-bad (badFields settings layout) (retagOf settings p layout) (lent places count b) (passes places whole fine) e))
+        (λ places whole. refused-two len count b (badFields settings layout) (retagOf settings p layout) places whole fine e)
 
     -- ---- the retag
     module _ (good : badFields settings layout ≡ false) (places : List Entry) (whole : length places ≡ len) where
@@ -184,10 +210,11 @@ module _ (settings : RetagSettings) (p : definition.ThinPointer) (layout : List 
 
         pub performed : Entered settings p layout (lent places count b) (outcomeOf answer node count len .answer)
             (set places (outcomeOf answer node count len .at) (outcomeOf answer node count len .entry)) (buffers A P R (b .words) C)
+        unfolding replied
         performed =
-            let answered = ap (λ (a : Answer). answerOf a (b .words)) (left-answer answer node) ∙ k .answers (b .words) in
+            let answered = left-answer answer node ∙ k .reply in
             (λ i. (answered i, all-left i))
-            ∙ sym (entered-good (badFields settings layout) (retagOf settings p layout) (lent places count b) (passes places whole fine) good)
+            ∙ ap (replied ThePointer) (sym (entered-good (badFields settings layout) (retagOf settings p layout) (lent places count b) (passes len count b places whole fine) good))
 
     pub retagged : badFields settings layout ≡ false → {answer : Answer} {A P R C : List ℕ}
         → ((s : State) → HoldsMarked (s .memory) (b .allocs) (b .parents) (b .protectors) (b .codes) → count ≡ length (entries (frameAt s 0))

@@ -14,7 +14,8 @@ use Rattle.definition.specs.Retag.{ReborrowSettings, retagWithoutNode, retag}
 use Rattle.definition.specs.Request as request
 use Rattle.definition.specs.Request.{addsNoNode}
 use Rattle.definition.specs.Run.{retagWithMask}
-use Rattle.answer.specs.Answer.{answerOf}
+use Rattle.answer.specs.Answer.{replyTo}
+use Rattle.answer.specs.Answer.Gives.{ThePointer}
 use Rattle.answer.specs.declared.Answer.{Answer}
 use Rattle.answer.specs.declared.Answer.the-variants.{Refused}
 use Rattle.tables.specs.Held.{Trees}
@@ -23,7 +24,7 @@ use Rattle.layout.proofs.Answers.{HasMask}
 use Rattle.reborrow.specs.declared.ReborrowSettings as code
 use Rattle.reborrow.specs.Settings.{maskOf, settingsOf}
 use Rattle.reborrow.specs.Retag.{Retagged}
-use Rattle.reborrow.proofs.Requests.{without-node-same, mask-back}
+use Rattle.reborrow.proofs.Requests.{without-node-same, without-node-answers, mask-back}
 use Rattle.retag.specs.declared.RetagSettings.{RetagSettings}
 use Rattle.retag.specs.Settings.{requestOf, retagOf, fieldsOf}
 use Rattle.retag.specs.Outcome.{Performed}
@@ -50,18 +51,18 @@ module _ (settings : RetagSettings) (p : ThinPointer) (layout : List ℕ) (s : S
       let e : settingsOf w (maskOf (take n filled)) ≡ request.settingsOf (fieldsOf settings) (h .mask) =
       ap (λ (l : List ℕ). settingsOf w (maskOf (take n l))) f ∙ ap (settingsOf w) (mask-read h) ∙ same (h .mask) in
       subst (λ (o : definition.Answer × State). Performed o r A P R C) (ap (λ (x : ReborrowSettings). retag x 0 p s) e ∙ sym (masked settings p layout s (h .mask) (h .defined)))
-      (record { answers = k .answers; trees = k .trees })
+      (record { reply = k .reply; answers = k .answers; trees = k .trees })
 
   pub performed-none : freezeMask layout ≡ none → Trees (s .memory) A P R C → Performed (retagWithMask (freezeMask layout) s (requestOf settings p layout)) (Refused 3) A P R C
   performed-none e t =
-      subst (λ (o : definition.Answer × State). Performed o (Refused 3) A P R C) (sym (unmasked settings p layout s e)) (record { answers = λ words. refl; trees = t })
+      subst (λ (o : definition.Answer × State). Performed o (Refused 3) A P R C) (sym (unmasked settings p layout s e)) (record { reply = refl; answers = λ words. refl; trees = t })
 
   -- ---- without a node, and with
-  pub performed-same : {r : Answer} → addsNoNode (fieldsOf settings) ≡ true → ((words : List ℕ) → answerOf r words ≡ retagWithoutNode p s .0) → Trees (s .memory) A P R C
+  pub performed-same : {r : Answer} → addsNoNode (fieldsOf settings) ≡ true → r ≡ replyTo ThePointer (retagWithoutNode p s .0) → Trees (s .memory) A P R C
       → Performed (retagOf settings p layout s) r A P R C
   performed-same {r} e f t =
       subst (λ (o : definition.Answer × State). Performed o r A P R C) (sym (without-node settings p layout s e))
-      (record { answers = f; trees = subst (λ (x : State). Trees (x .memory) A P R C) (sym (without-node-same p s)) t })
+      (record { reply = f; answers = λ words. without-node-answers p s words f; trees = subst (λ (x : State). Trees (x .memory) A P R C) (sym (without-node-same p s)) t })
 
   pub performed-node : {r : Answer} → addsNoNode (fieldsOf settings) ≡ false → Performed (retagWithMask (freezeMask layout) s (requestOf settings p layout)) r A P R C
       → Performed (retagOf settings p layout s) r A P R C

@@ -13,7 +13,9 @@ use Rattle.definition.specs.Memory as definition
 use Rattle.definition.specs.Frame.{State, entries, frameAt}
 use Rattle.definition.specs.Frame.Frame.{Open}
 use Rattle.definition.specs.Retag.{entryBound}
-use Rattle.answer.specs.Answer.{answerOf}
+use Rattle.answer.specs.Answer.{replied}
+use Rattle.answer.specs.Answer.Gives.{ThePointer}
+use Rattle.answer.specs.declared.Answer.{Answer}
 use Rattle.tables.specs.Encoding.{Buffers, encode}
 use Rattle.tables.specs.Decoding.{view}
 use Rattle.wellformed.specs.WellFormed.{wellFormed}
@@ -59,5 +61,4 @@ entered bad request l =
 -- the entry's promise: it answers r, with the number of entries, and leaves these places and buffers
 abbrev pub Entered : RetagSettings → ThinPointer → List ℕ → Lent → RetagAnswer → List Entry → Buffers → Type 0
 Entered settings p layout l r places b =
-    _≡_ {A = definition.Answer × Lent} (answerOf (r .answer) (b .words), lent places (r .count) b)
-    (entered (badFields settings layout) (retagOf settings p layout) l)
+    _≡_ {A = Answer × Lent} (r .answer, lent places (r .count) b) (replied ThePointer (entered (badFields settings layout) (retagOf settings p layout) l))

@@ -4,18 +4,25 @@ use mathlib.Core.Path.{_≡_}
 use mathlib.Core.Bool.{Bool, true, false}
 use mathlib.Core.Option.{Option, none}
 use mathlib.Core.List.{List}
+use Rattle.definition.specs.Notation.{if_then_else_}
+use Rattle.definition.specs.Refusal.{notWellFormed, malformed}
 use Rattle.definition.specs.Memory as definition
 use Rattle.definition.specs.Frame.{State}
 use Rattle.pointer.specs.declared.Provenance.{Provenance}
 use Rattle.pointer.specs.declared.Provenance.the-variants.{None, Of}
-use Rattle.answer.specs.Answer.{answerOf}
+use Rattle.answer.specs.Answer.{answerOf, replyTo}
+use Rattle.answer.specs.Answer.Gives.{ThePointer}
 use Rattle.answer.specs.declared.Answer.{Answer}
+use Rattle.answer.specs.declared.Answer.the-variants.{Refused}
+use Rattle.tables.specs.Encoding.{Buffers}
 use Rattle.tables.specs.Held.{Trees}
 use Rattle.entries.specs.List.{noEntry}
 use Rattle.retag.specs.declared.RetagOutcome.{RetagOutcome}
+use Rattle.retag.specs.Entry.{isLent}
 
--- an outcome of the definition: its answer, and its memory in all buffers but the words
+-- an outcome of the definition: the answer for it, what that stands for, and its memory in all buffers but the words
 pub record Performed (outcome : definition.Answer × State) (answer : Answer) (A P R C : List ℕ) : Type 0 where
+  pub reply : answer ≡ replyTo ThePointer (outcome .0)
   pub answers : (words : List ℕ) → answerOf answer words ≡ outcome .0
   pub trees : Trees (outcome .1 .memory) A P R C
 
@@ -24,8 +31,12 @@ abbrev pub enteredNode : Bool → Option definition.Provenance → Option defini
 enteredNode true given = given
 enteredNode false given = none
 
--- with so many places, of which so many are taken
+-- the outcome: with so many places, of which so many are taken
 abbrev pub outcomeOf : Answer → Provenance → ℕ → ℕ → RetagOutcome
 outcomeOf answer None count places = record { answer = record { answer = answer; count = count }; at = places; entry = noEntry }
 outcomeOf answer (Of allocation node) count places =
     record { answer = record { answer = answer; count = count + 1 }; at = count; entry = record { allocation = allocation; node = node } }
+
+-- the outcome where a field falls under 2, if 1 was passed
+abbrev pub malformedOutcome : ℕ → ℕ → Buffers → RetagOutcome
+malformedOutcome len count b = outcomeOf (if isLent len count b then Refused malformed else Refused notWellFormed) None count len

@@ -27,11 +27,10 @@ ghost use Rattle.reborrow.specs.Settings.{settingsOf};
 ghost use Rattle.parts.specs.Trees.{HoldsMarked};
 ghost use Rattle.retag.specs.Settings.{requestOf, retagOf, fieldsOf, badFields, protects};
 ghost use Rattle.retag.specs.Entry.{lent, isLent, Entered};
-ghost use Rattle.retag.specs.Outcome.{Performed, enteredNode, outcomeOf};
+ghost use Rattle.retag.specs.Outcome.{Performed, enteredNode, outcomeOf, malformedOutcome};
 
 // What is retagged: extra (0 shared reference, 1 mutable reference, 2 box, 3 raw, 4 function, 5 vtable pointer), and the flags. They are read
-// where they have a use: unpin for a mutable reference, the others where a node is added. It has C's layout.
-#[repr(C)]
+// where they have a use: unpin for a mutable reference, the others where a node is added.
 pub struct RetagSettings {
     pub extra: u32,
     pub function_entry: bool,
@@ -234,6 +233,25 @@ fn is_lent(
         return false;
     }
     wellformed::well_formed(allocs, parents, protectors, words, codes)
+}
+
+// What a retag comes to where one of its fields falls under 2: 1 comes first.
+pub fn malformed(
+    len: usize,
+    count: usize,
+    allocs: &[u64],
+    parents: &[u16],
+    protectors: &[u8],
+    words: &[u32],
+    codes: &[u8],
+) -> RetagOutcome
+    ensures { λ r. ⌜ r ≡ malformedOutcome len count
+        (buffers (now (allocs .entry)) (now (parents .entry)) (now (protectors .entry)) (now (words .entry)) (now (codes .entry))) ⌝ }
+{
+    if is_lent(len, count, allocs, parents, protectors, words, codes) {
+        return without_entry(Answer::Refused(2), count, len);
+    }
+    without_entry(Answer::Refused(1), count, len)
 }
 
 // All of a retag but the store into the frame's list, whatever stands there.

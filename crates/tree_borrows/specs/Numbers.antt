@@ -1,7 +1,7 @@
--- Pointers and answers as the numbers that cross the C interface, in the terms of the definition and of `answer`.
+-- Pointers, settings and answers as the numbers that cross the C interface, in the terms of the definition and of `answer`.
 use Prim.Native.Nat.{ℕ}
 use mathlib.Core.Path.{_≡_}
-use mathlib.Core.Bool.{Bool, true, false}
+use mathlib.Core.Bool.{Bool, true, false, _&&_, _||_}
 use mathlib.Core.Option.{Option, none, some}
 use mathlib.Core.List.{List, [], _++_}
 use lib.Dec.{eqb, ltb}
@@ -9,12 +9,20 @@ use lib.ListN.{length, take, drop}
 use Rattle.definition.specs.Notation.{if_then_else_}
 use Rattle.definition.specs.Refusal.{memoryLeak}
 use Rattle.definition.specs.Memory as definition
+use Rattle.definition.specs.Request.{nonzero}
 use Rattle.pointer.specs.declared.Provenance.{Provenance}
 use Rattle.pointer.specs.declared.Provenance.the-variants.{None, Of}
+use Rattle.answer.specs.Answer.{replied}
+use Rattle.answer.specs.Answer.Gives.{ThePointer}
 use Rattle.answer.specs.declared.Answer.{Answer}
 use Rattle.answer.specs.declared.Answer.the-variants.{Refused, Leak, Accepted, Pointer, Words}
+use Rattle.tables.specs.Encoding.{Buffers}
+use Rattle.entries.specs.declared.Entry.{Entry}
+use Rattle.retag.specs.Entry as retag
+use Rattle.retag.specs.Settings.{badFields, retagOf}
 use Rattle.retag.specs.declared.RetagAnswer.{RetagAnswer}
 use Rattle.retag.specs.declared.RetagOutcome.{RetagOutcome}
+use Rattle.retag.specs.declared.RetagSettings.{RetagSettings}
 use Rattle.run.specs.declared.ListRun.{ListRun}
 use Rattle.run.specs.declared.ListRun.the-variants as ran
 use Rattle.tree_borrows.specs.declared.numbers.ListReply.{ListReply}
@@ -22,6 +30,18 @@ use Rattle.tree_borrows.specs.declared.numbers.Place.{Place}
 use Rattle.tree_borrows.specs.declared.numbers.Reply.{Reply}
 use Rattle.tree_borrows.specs.declared.numbers.RetagReply.{RetagReply}
 use Rattle.tree_borrows.specs.declared.numbers.RetagMade.{RetagMade}
+use Rattle.tree_borrows.specs.declared.numbers.Settings.{Settings}
+
+-- ---- a flag is 0 or 1; any other number falls under 2
+abbrev pub badFlag : ℕ → Bool
+badFlag flag = ltb 1 flag
+
+abbrev pub isSet : ℕ → Bool
+isSet flag = eqb flag 1
+
+abbrev pub flagOf : Bool → ℕ
+flagOf true = 1
+flagOf false = 0
 
 -- ---- a pointer
 abbrev pub provenanceIf : Bool → definition.Provenance → Option definition.Provenance
@@ -32,8 +52,26 @@ abbrev pub pointerOf : Place → definition.ThinPointer
 pointerOf p =
     record {
       address = p .address;
-      provenance = provenanceIf (p .provenance) (record { allocation = p .allocation; node = p .node });
+      provenance = provenanceIf (isSet (p .provenance)) (record { allocation = p .allocation; node = p .node });
     }
+
+-- 2: its flag; and "Fields without a use are zero", as in a run: without provenance it names nothing (decision 3)
+unfoldable pub badPlace : Place → Bool
+badPlace p = badFlag (p .provenance) || (eqb (p .provenance) 0 && (nonzero (p .allocation) || nonzero (p .node)))
+
+-- ---- a retag's settings
+abbrev pub settingsOf : Settings → RetagSettings
+settingsOf s =
+    record {
+      extra = s .extra;
+      «function_entry» = isSet (s .«function_entry»);
+      unpin = isSet (s .unpin);
+      freeze = isSet (s .freeze);
+    }
+
+-- 2: its flags
+abbrev pub badFlags : Settings → Bool
+badFlags s = badFlag (s .«function_entry») || (badFlag (s .unpin) || badFlag (s .freeze))
 
 -- ---- an answer
 abbrev pub pointerReply : Provenance → Reply
@@ -47,6 +85,10 @@ replyOf Accepted = record { refusal = 0; gives = 0; first = 0; second = 0 }
 replyOf (Pointer p) = pointerReply p
 replyOf (Words start len) = record { refusal = 0; gives = 2; first = start; second = len }
 
+-- an entry's promise: it replies r and leaves `left`; the outcome is that of the entry which it calls
+abbrev pub Replied : {X : Type 0} → Reply → X → Answer × X → Type 0
+Replied {X} r left outcome = _≡_ {A = Reply × X} (r, left) (replyOf (outcome .0), outcome .1)
+
 -- the words that a load's reply names; any other names none
 abbrev pub loadedWords : Reply → List ℕ → List ℕ
 loadedWords r words = if eqb (r .gives) 2 then take (r .second) (drop (r .first) words) else []
@@ -55,10 +97,6 @@ loadedWords r words = if eqb (r .gives) 2 then take (r .second) (drop (r .first)
 abbrev pub copiedTo : List ℕ → List ℕ → List ℕ
 copiedTo out words = if ltb (length out) (length words) then out else words ++ drop (length words) out
 
--- the reply is that of an answer which keeps the entry's promise
-abbrev pub Replied : Reply → (Answer → Type 0) → Type 0
-Replied r Promise = (a : Answer) × ((r ≡ replyOf a) × Promise a)
-
 -- ---- a retag's
 abbrev pub retagReplyOf : RetagAnswer → RetagReply
 retagReplyOf a = record { reply = replyOf (a .answer); count = a .count }
@@ -66,13 +104,21 @@ retagReplyOf a = record { reply = replyOf (a .answer); count = a .count }
 abbrev pub madeOf : RetagOutcome → RetagMade
 madeOf o = record { answer = retagReplyOf (o .answer); at = o .at; entry = o .entry }
 
-abbrev pub RetagReplied : RetagReply → (RetagAnswer → Type 0) → Type 0
-RetagReplied r Promise = (a : RetagAnswer) × ((r ≡ retagReplyOf a) × Promise a)
+-- its promise: it replies r, with the number of entries, and leaves these places and buffers
+abbrev pub RetagReplied : Settings → Place → List ℕ → retag.Lent → RetagReply → List Entry → Buffers → Type 0
+RetagReplied settings p layout l r places b =
+    Replied (r .reply) (retag.lent places (r .count) b)
+    (replied ThePointer
+    (retag.entered ((badPlace p || badFlags settings) || badFields (settingsOf settings) layout) (retagOf (settingsOf settings) (pointerOf p) layout) l))
 
 -- ---- a list's
 abbrev pub listReplyOf : ListRun → ListReply
-listReplyOf (ran.Refused n) = record { refusal = n; whole = false; at = 0 }
-listReplyOf (ran.Answered at whole) = record { refusal = 0; whole = whole; at = at }
+listReplyOf (ran.Refused n) = record { refusal = n; whole = 0; at = 0 }
+listReplyOf (ran.Answered at whole) = record { refusal = 0; whole = flagOf whole; at = at }
+
+-- the answer that a reply stands for
+abbrev pub listRunOf : ListReply → ListRun
+listRunOf r = if eqb (r .refusal) 0 then ran.Answered (r .at) (isSet (r .whole)) else ran.Refused (r .refusal)
 
 abbrev pub ListReplied : ListReply → (ListRun → Type 0) → Type 0
-ListReplied r Promise = (a : ListRun) × ((r ≡ listReplyOf a) × Promise a)
+ListReplied r Promise = (r ≡ listReplyOf (listRunOf r)) × Promise (listRunOf r)

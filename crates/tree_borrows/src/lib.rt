@@ -1,30 +1,36 @@
 // The library for C and Rust: its entries under names that a linker finds, with pointers and answers as numbers (specs/Numbers.antt).
-// Each promises what the entry that it calls promises, and none has a `requires`. A slice crosses as its address and its length.
+// Each promises the numbers of what the entry that it calls comes to, and none has a `requires`. A slice crosses as its address and its length,
+// a flag as a number, of which 0 and 1 are in its list (2).
 use crate::numbers::Place;
 use crate::numbers::Reply;
 use crate::numbers::RetagMade;
 use crate::numbers::RetagReply;
+use crate::numbers::Settings;
+use crate::numbers::bad_flags;
+use crate::numbers::bad_place;
 use crate::numbers::reply_of;
 use crate::numbers::retag_made;
+use crate::numbers::retag_settings;
 use crate::numbers::thin_pointer;
 use entries::Entry;
 use entries::load;
 use entries::put_if;
 use frame::end_call_list;
-use retag::RetagSettings;
+use retag::malformed;
 use retag::retag_list;
 ghost use mathlib.Core.Path.{_≡_};
 ghost use mathlib.Core.List.{List};
 ghost use lib.ListN.{length, set};
 ghost use Rattle.entries.specs.List.{firstOf};
 ghost use Rattle.tables.specs.Held.{buffers};
-ghost use Rattle.frame.specs.EndCall.{EndedLent};
+ghost use Rattle.frame.specs.EndCall.{ended};
 ghost use Rattle.retag.specs.Entry as retag;
-ghost use Rattle.tree_borrows.specs.Numbers.{pointerOf, Replied, RetagReplied};
+ghost use Rattle.tree_borrows.specs.Numbers.{Replied, RetagReplied};
 
 pub mod lists;
 pub mod numbers;
 pub mod requests;
+pub mod start;
 
 // ---- kinds 4 and 6. Each has two functions, as in `retag` and `frame`: a lent slice of structs is for one that does nothing else.
 // All of a retag but the store into the frame's list, whatever stands there.
@@ -38,15 +44,20 @@ fn retag_reply(
     codes: &mut [u8],
     layout: &[u32],
     p: Place,
-    settings: RetagSettings,
+    settings: Settings,
 ) -> RetagMade
     ensures { λ r. ⌜ ((places : List Entry) → length places ≡ len
-        → RetagReplied (r .answer) (λ a. retag.Entered settings (pointerOf p) (now (layout .entry))
+        → RetagReplied settings p (now (layout .entry))
         (retag.lent places count (buffers (now (allocs .entry)) (now (parents .entry)) (now (protectors .entry)) (now (words .entry)) (now (codes .entry))))
-        a (set places (r .at) (r .entry))
-        (buffers (now (allocs .exit)) (now (parents .exit)) (now (protectors .exit)) (now (words .entry)) (now (codes .exit))))) ⌝ }
+        (r .answer) (set places (r .at) (r .entry))
+        (buffers (now (allocs .exit)) (now (parents .exit)) (now (protectors .exit)) (now (words .entry)) (now (codes .exit)))) ⌝ }
 {
+    if bad_place(p) | bad_flags(settings) {
+        let outcome = malformed(len, count, allocs, parents, protectors, words, codes);
+        return retag_made(outcome);
+    }
     let pointer = thin_pointer(p);
+    let read = retag_settings(settings);
     let outcome = retag_list(
         len,
         count,
@@ -57,7 +68,7 @@ fn retag_reply(
         codes,
         layout,
         pointer,
-        settings,
+        read,
     );
     retag_made(outcome)
 }
@@ -73,12 +84,12 @@ pub extern "C" fn tree_borrows_retag(
     codes: &mut [u8],
     layout: &[u32],
     p: Place,
-    settings: RetagSettings,
+    settings: Settings,
 ) -> RetagReply
-    ensures { λ r. ⌜ RetagReplied r (λ a. retag.Entered settings (pointerOf p) (now (layout .entry))
+    ensures { λ r. ⌜ RetagReplied settings p (now (layout .entry))
         (retag.lent (now (entries .entry)) count (buffers (now (allocs .entry)) (now (parents .entry)) (now (protectors .entry)) (now (words .entry)) (now (codes .entry))))
-        a (now (entries .exit))
-        (buffers (now (allocs .exit)) (now (parents .exit)) (now (protectors .exit)) (now (words .entry)) (now (codes .exit)))) ⌝ }
+        r (now (entries .exit))
+        (buffers (now (allocs .exit)) (now (parents .exit)) (now (protectors .exit)) (now (words .entry)) (now (codes .exit))) ⌝ }
 {
     let len = entries.len();
     let made = retag_reply(
@@ -109,9 +120,10 @@ fn end_call_reply(
     codes: &mut [u8],
     area: &mut [u8],
 ) -> Reply
-    ensures { λ r. ⌜ Replied r (λ a. EndedLent len count (firstOf count list)
-        (buffers (now (allocs .entry)) (now (parents .entry)) (now (protectors .entry)) (now (words .entry)) (now (codes .entry))) (now (area .entry))
-        a (buffers (now (allocs .entry)) (now (parents .entry)) (now (protectors .exit)) (now (words .entry)) (now (codes .exit))) (now (area .exit))) ⌝ }
+    ensures { λ r. ⌜ Replied r
+        (buffers (now (allocs .entry)) (now (parents .entry)) (now (protectors .exit)) (now (words .entry)) (now (codes .exit)), now (area .exit))
+        (ended len count (firstOf count list)
+        (buffers (now (allocs .entry)) (now (parents .entry)) (now (protectors .entry)) (now (words .entry)) (now (codes .entry))) (now (area .entry))) ⌝ }
 {
     let answer = end_call_list(
         len,
@@ -138,9 +150,10 @@ pub extern "C" fn tree_borrows_end_call(
     codes: &mut [u8],
     area: &mut [u8],
 ) -> Reply
-    ensures { λ r. ⌜ Replied r (λ a. EndedLent (length (now (entries .entry))) count (firstOf count (now (entries .entry)))
-        (buffers (now (allocs .entry)) (now (parents .entry)) (now (protectors .entry)) (now (words .entry)) (now (codes .entry))) (now (area .entry))
-        a (buffers (now (allocs .entry)) (now (parents .entry)) (now (protectors .exit)) (now (words .entry)) (now (codes .exit))) (now (area .exit))) ⌝ }
+    ensures { λ r. ⌜ Replied r
+        (buffers (now (allocs .entry)) (now (parents .entry)) (now (protectors .exit)) (now (words .entry)) (now (codes .exit)), now (area .exit))
+        (ended (length (now (entries .entry))) count (firstOf count (now (entries .entry)))
+        (buffers (now (allocs .entry)) (now (parents .entry)) (now (protectors .entry)) (now (words .entry)) (now (codes .entry))) (now (area .entry))) ⌝ }
 {
     let len = entries.len();
     let list = load(entries);

@@ -4,21 +4,31 @@ use entries::Entry;
 use pointer::Provenance;
 use pointer::ThinPointer;
 use retag::RetagOutcome;
+use retag::RetagSettings;
 use run::ListRun;
 ghost use Prim.Native.Nat.{ℕ};
 ghost use mathlib.Core.Path.{_≡_};
 ghost use mathlib.Core.List.{List};
 ghost use Rattle.answer.specs.Answer.{answerOf};
 ghost use Rattle.pointer.specs.Pointer.{thinPointerOf};
-ghost use Rattle.tree_borrows.specs.Numbers.{pointerOf, pointerReply, replyOf, loadedWords, madeOf, listReplyOf};
+ghost use Rattle.tree_borrows.specs.Numbers.{flagOf, pointerOf, badPlace, settingsOf, badFlags, pointerReply, replyOf, loadedWords, madeOf, listReplyOf};
 
-// A pointer. Allocation and node are read only where it has provenance.
+// A pointer. It has provenance (1) or not (0), and then it names no allocation or node: both are 0.
 #[repr(C)]
 pub struct Place {
     pub address: u64,
-    pub provenance: bool,
+    pub provenance: u8,
     pub allocation: u32,
     pub node: u32,
+}
+
+// What is retagged: extra (0 shared reference, 1 mutable reference, 2 box, 3 raw, 4 function, 5 vtable pointer), and the flags, 0 or 1.
+#[repr(C)]
+pub struct Settings {
+    pub extra: u32,
+    pub function_entry: u8,
+    pub unpin: u8,
+    pub freeze: u8,
 }
 
 // An answer.
@@ -40,11 +50,12 @@ pub struct RetagReply {
     pub count: usize,
 }
 
-// What a list of requests comes to: a refusal of the whole (1), or how far its answers reach in the lent buffer, and whether all of them are there.
+// What a list of requests comes to: a refusal of the whole (1), or how far its answers reach in the lent buffer, and whether all of them are
+// there (1) or not (0).
 #[repr(C)]
 pub struct ListReply {
     pub refusal: u8,
-    pub whole: bool,
+    pub whole: u8,
     pub at: usize,
 }
 
@@ -55,11 +66,24 @@ pub struct RetagMade {
     pub entry: Entry,
 }
 
+// 2, of a pointer.
+pub fn bad_place(p: Place) -> bool
+    ensures { λ r. ⌜ r ≡ badPlace p ⌝ }
+{
+    if p.provenance > 1 {
+        return true;
+    }
+    if p.provenance == 1 {
+        return false;
+    }
+    (p.allocation != 0) | (p.node != 0)
+}
+
 pub fn thin_pointer(p: Place) -> ThinPointer
     ensures { λ r. ⌜ thinPointerOf r ≡ pointerOf p ⌝ }
 {
     let addr = p.address;
-    if p.provenance {
+    if p.provenance == 1 {
         let provenance = Provenance::Of {
             allocation: p.allocation,
             node: p.node,
@@ -68,6 +92,24 @@ pub fn thin_pointer(p: Place) -> ThinPointer
     }
     let provenance = Provenance::None;
     ThinPointer { addr, provenance }
+}
+
+// 2, of a retag's flags.
+pub fn bad_flags(s: Settings) -> bool
+    ensures { λ r. ⌜ r ≡ badFlags s ⌝ }
+{
+    (s.function_entry > 1) | ((s.unpin > 1) | (s.freeze > 1))
+}
+
+pub fn retag_settings(s: Settings) -> RetagSettings
+    ensures { λ r. ⌜ r ≡ settingsOf s ⌝ }
+{
+    RetagSettings {
+        extra: s.extra,
+        function_entry: s.function_entry == 1,
+        unpin: s.unpin == 1,
+        freeze: s.freeze == 1,
+    }
 }
 
 fn pointer_reply(p: Provenance) -> Reply
@@ -150,18 +192,24 @@ pub fn retag_made(outcome: RetagOutcome) -> RetagMade
     }
 }
 
+fn flag(set: bool) -> u8
+    ensures { λ r. ⌜ r ≡ flagOf set ⌝ }
+{
+    if set { 1 } else { 0 }
+}
+
 pub fn list_reply(answer: ListRun) -> ListReply
     ensures { λ r. ⌜ r ≡ listReplyOf answer ⌝ }
 {
     match answer {
         ListRun::Refused(reason) => ListReply {
             refusal: reason,
-            whole: false,
+            whole: 0,
             at: 0,
         },
         ListRun::Answered { at, whole } => ListReply {
             refusal: 0,
-            whole,
+            whole: flag(whole),
             at,
         },
     }

@@ -1,20 +1,24 @@
 // Kinds 0 to 3 and 7 to 9, on five lent buffers.
 use crate::numbers::Place;
 use crate::numbers::Reply;
+use crate::numbers::bad_place;
 use crate::numbers::loaded;
 use crate::numbers::reply_of;
 use crate::numbers::thin_pointer;
+use library::fields::malformed;
 ghost use mathlib.Core.Path.{_≡_};
-ghost use mathlib.Core.Bool.{false};
+ghost use mathlib.Core.Bool.{_||_};
 ghost use lib.ListN.{length};
 ghost use Rattle.definition.specs.Memory as definition;
 ghost use Rattle.pointer.specs.Pointer.{back, ahead};
+ghost use Rattle.answer.specs.Answer.{replied};
+ghost use Rattle.answer.specs.Answer.Gives.{Nothing, ThePointer};
 ghost use Rattle.tables.specs.Decoding.{allocationKind};
 ghost use Rattle.tables.specs.Held.{buffers};
 ghost use Rattle.memory.specs.Access.{loadOf, storeOf};
 ghost use Rattle.library.specs.Fields.{badExponent, badAllocation, badStore};
-ghost use Rattle.library.specs.Entry.{Entered, LeakEntered};
-ghost use Rattle.tree_borrows.specs.Numbers.{pointerOf, loadedWords, copiedTo, Replied};
+ghost use Rattle.library.specs.Entry.{entered, givenBy, leakEntered};
+ghost use Rattle.tree_borrows.specs.Numbers.{pointerOf, badPlace, replyOf, loadedWords, copiedTo, Replied};
 
 // Kind 0.
 #[no_mangle]
@@ -29,10 +33,10 @@ pub extern "C" fn tree_borrows_allocate(
     exponent: u64,
     address: u64,
 ) -> Reply
-    ensures { λ r. ⌜ Replied r (λ a. Entered (badAllocation kind exponent) (definition.allocate (allocationKind kind) len exponent address)
-        (buffers (now (allocs .entry)) (now (parents .entry)) (now (protectors .entry)) (now (words .entry)) (now (codes .entry)))
-        a
-        (buffers (now (allocs .exit)) (now (parents .entry)) (now (protectors .entry)) (now (words .entry)) (now (codes .exit)))) ⌝ }
+    ensures { λ r. ⌜ Replied r
+        (buffers (now (allocs .exit)) (now (parents .entry)) (now (protectors .entry)) (now (words .entry)) (now (codes .exit)))
+        (replied ThePointer (entered (badAllocation kind exponent) (definition.allocate (allocationKind kind) len exponent address)
+        (buffers (now (allocs .entry)) (now (parents .entry)) (now (protectors .entry)) (now (words .entry)) (now (codes .entry))))) ⌝ }
 {
     let answer = library::allocate::allocate(
         allocs,
@@ -61,11 +65,15 @@ pub extern "C" fn tree_borrows_deallocate(
     len: u64,
     exponent: u64,
 ) -> Reply
-    ensures { λ r. ⌜ Replied r (λ a. Entered (badAllocation kind exponent) (definition.deallocate (pointerOf p) (allocationKind kind) len exponent)
-        (buffers (now (allocs .entry)) (now (parents .entry)) (now (protectors .entry)) (now (words .entry)) (now (codes .entry)))
-        a
-        (buffers (now (allocs .exit)) (now (parents .entry)) (now (protectors .entry)) (now (words .entry)) (now (codes .exit)))) ⌝ }
+    ensures { λ r. ⌜ Replied r
+        (buffers (now (allocs .exit)) (now (parents .entry)) (now (protectors .entry)) (now (words .entry)) (now (codes .exit)))
+        (replied Nothing (entered (badPlace p || badAllocation kind exponent) (definition.deallocate (pointerOf p) (allocationKind kind) len exponent)
+        (buffers (now (allocs .entry)) (now (parents .entry)) (now (protectors .entry)) (now (words .entry)) (now (codes .entry))))) ⌝ }
 {
+    if bad_place(p) {
+        let answer = malformed(allocs, parents, protectors, words, codes);
+        return reply_of(answer);
+    }
     let pointer = thin_pointer(p);
     let answer = library::deallocate::deallocate(
         allocs,
@@ -81,7 +89,7 @@ pub extern "C" fn tree_borrows_deallocate(
     reply_of(answer)
 }
 
-// Kind 2: the reply names the loaded words, a part of the lent data.
+// Kind 2: the reply names the loaded words, the part of the lent data where the pointer points.
 #[no_mangle]
 pub extern "C" fn tree_borrows_load(
     allocs: &[u64],
@@ -93,11 +101,17 @@ pub extern "C" fn tree_borrows_load(
     len: u64,
     exponent: u64,
 ) -> Reply
-    ensures { λ r. ⌜ Replied r (λ a. Entered (badExponent exponent) (definition.performAccess (loadOf (pointerOf p) len exponent))
-        (buffers (now (allocs .entry)) (now (parents .entry)) (now (protectors .entry)) (now (words .entry)) (now (codes .entry)))
-        a
-        (buffers (now (allocs .entry)) (now (parents .entry)) (now (protectors .entry)) (now (words .entry)) (now (codes .exit)))) ⌝ }
+    ensures { λ r. ⌜ Replied r
+        (buffers (now (allocs .entry)) (now (parents .entry)) (now (protectors .entry)) (now (words .entry)) (now (codes .exit)))
+        (replied (givenBy (loadOf (pointerOf p) len exponent)
+        (buffers (now (allocs .entry)) (now (parents .entry)) (now (protectors .entry)) (now (words .entry)) (now (codes .entry))))
+        (entered (badPlace p || badExponent exponent) (definition.performAccess (loadOf (pointerOf p) len exponent))
+        (buffers (now (allocs .entry)) (now (parents .entry)) (now (protectors .entry)) (now (words .entry)) (now (codes .entry))))) ⌝ }
 {
+    if bad_place(p) {
+        let answer = malformed(allocs, parents, protectors, words, codes);
+        return reply_of(answer);
+    }
     let pointer = thin_pointer(p);
     let answer = library::load::load(
         allocs,
@@ -139,11 +153,15 @@ pub extern "C" fn tree_borrows_store(
     bytes: &[u32],
     exponent: u64,
 ) -> Reply
-    ensures { λ r. ⌜ Replied r (λ a. Entered (badStore (now (bytes .entry)) exponent) (definition.performAccess (storeOf (pointerOf p) (now (bytes .entry)) exponent))
-        (buffers (now (allocs .entry)) (now (parents .entry)) (now (protectors .entry)) (now (words .entry)) (now (codes .entry)))
-        a
-        (buffers (now (allocs .entry)) (now (parents .entry)) (now (protectors .entry)) (now (words .exit)) (now (codes .exit)))) ⌝ }
+    ensures { λ r. ⌜ Replied r
+        (buffers (now (allocs .entry)) (now (parents .entry)) (now (protectors .entry)) (now (words .exit)) (now (codes .exit)))
+        (replied Nothing (entered (badPlace p || badStore (now (bytes .entry)) exponent) (definition.performAccess (storeOf (pointerOf p) (now (bytes .entry)) exponent))
+        (buffers (now (allocs .entry)) (now (parents .entry)) (now (protectors .entry)) (now (words .entry)) (now (codes .entry))))) ⌝ }
 {
+    if bad_place(p) {
+        let answer = malformed(allocs, parents, protectors, words, codes);
+        return reply_of(answer);
+    }
     let pointer = thin_pointer(p);
     let answer = library::store::store(
         allocs,
@@ -169,11 +187,15 @@ pub extern "C" fn tree_borrows_dereferenceable(
     p: Place,
     len: u64,
 ) -> Reply
-    ensures { λ r. ⌜ Replied r (λ a. Entered false (definition.dereferenceable (pointerOf p) 0 len)
+    ensures { λ r. ⌜ Replied r
         (buffers (now (allocs .entry)) (now (parents .entry)) (now (protectors .entry)) (now (words .entry)) (now (codes .entry)))
-        a
-        (buffers (now (allocs .entry)) (now (parents .entry)) (now (protectors .entry)) (now (words .entry)) (now (codes .entry)))) ⌝ }
+        (replied Nothing (entered (badPlace p) (definition.dereferenceable (pointerOf p) 0 len)
+        (buffers (now (allocs .entry)) (now (parents .entry)) (now (protectors .entry)) (now (words .entry)) (now (codes .entry))))) ⌝ }
 {
+    if bad_place(p) {
+        let answer = malformed(allocs, parents, protectors, words, codes);
+        return reply_of(answer);
+    }
     let pointer = thin_pointer(p);
     let answer = library::dereferenceable::dereferenceable(
         allocs,
@@ -198,11 +220,15 @@ pub extern "C" fn tree_borrows_signed_dereferenceable(
     p: Place,
     len: i64,
 ) -> Reply
-    ensures { λ r. ⌜ Replied r (λ a. Entered false (definition.dereferenceable (pointerOf p) (back len) (ahead len))
+    ensures { λ r. ⌜ Replied r
         (buffers (now (allocs .entry)) (now (parents .entry)) (now (protectors .entry)) (now (words .entry)) (now (codes .entry)))
-        a
-        (buffers (now (allocs .entry)) (now (parents .entry)) (now (protectors .entry)) (now (words .entry)) (now (codes .entry)))) ⌝ }
+        (replied Nothing (entered (badPlace p) (definition.dereferenceable (pointerOf p) (back len) (ahead len))
+        (buffers (now (allocs .entry)) (now (parents .entry)) (now (protectors .entry)) (now (words .entry)) (now (codes .entry))))) ⌝ }
 {
+    if bad_place(p) {
+        let answer = malformed(allocs, parents, protectors, words, codes);
+        return reply_of(answer);
+    }
     let pointer = thin_pointer(p);
     let answer = library::dereferenceable::signed_dereferenceable(
         allocs,
@@ -225,7 +251,7 @@ pub extern "C" fn tree_borrows_leak_check(
     words: &[u32],
     codes: &[u8],
 ) -> Reply
-    ensures { λ r. ⌜ Replied r (LeakEntered (buffers (now (allocs .entry)) (now (parents .entry)) (now (protectors .entry)) (now (words .entry)) (now (codes .entry)))) ⌝ }
+    ensures { λ r. ⌜ r ≡ replyOf (leakEntered (buffers (now (allocs .entry)) (now (parents .entry)) (now (protectors .entry)) (now (words .entry)) (now (codes .entry)))) ⌝ }
 {
     let answer = library::leak_check::leak_check(allocs, parents, protectors, words, codes);
     reply_of(answer)

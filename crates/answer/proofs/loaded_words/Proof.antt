@@ -34,19 +34,19 @@ words-at-requires-5 : tie.Need-words-at-requires-5
 words-at-requires-5 c κs = search needs
 
 returns : tie.Need-returns
-returns c = rw (c .before .before .answer .given .1) (c .words-at .ensures)
+returns c = rw (c .before .before .answer .given .1) (record { loaded = c .words-at .ensures .0; place = c .words-at .ensures .1 })
 
 returns-2 : tie.Need-returns-2
-returns-2 c = search needs
+returns-2 c = rw (c .before .enum-told .given .1) (record { loaded = c .words-at2 .ensures .0; place = c .words-at2 .ensures .1 })
 
 returns-3 : tie.Need-returns-3
-returns-3 c = search needs
+returns-3 c = rw (c .before .enum-told2 .given .1) (record { loaded = c .words-at3 .ensures .0; place = c .words-at3 .ensures .1 })
 
 returns-4 : tie.Need-returns-4
-returns-4 c = search needs
+returns-4 c = rw (c .before .enum-told3 .given .1) (record { loaded = c .words-at4 .ensures .0; place = c .words-at4 .ensures .1 })
 
 returns-5 : tie.Need-returns-5
-returns-5 c = search needs
+returns-5 c = rw (c .before .enum-told4 .given .1) (record { loaded = c .words-at5 .ensures .0; place = c .words-at5 .ensures .1 })
 
 pub loaded-words-spec : {M : Type 1} → statement M
 loaded-words-spec =

@@ -5,6 +5,7 @@ use mathlib.Core.Path.{_≡_, ap, _∙_}
 use borrow.Author.Needs.{needs}
 use lib.ListN.{take, drop}
 use Rattle.definition.proofs.Parts.{part-cut}
+use Rattle.answer.specs.Answer.{wordAddress}
 use Rattle.answer.proofs.words_at.Statement.{statement}
 use Rattle.answer.proofs.words_at.Tie as tie
 
@@ -37,9 +38,11 @@ returns c =
     let a = c .before .before .before .before .args in
     let from = c .before .before .smaller .result in
     let count = c .before .smaller2 .result in
-    let e : from + count - from ≡ count = omega arith in
-    ap (λ (n : ℕ). take n (drop from (a .words .now))) e
-    ∙ part-cut (a .words .now) (a .start) (a .len) from count (c .before .before .smaller .ensures) (c .before .smaller2 .ensures)
+    let e : from + count - from ≡ count = omega arith in (
+      ap (λ (n : ℕ). take n (drop from (a .words .now))) e
+          ∙ part-cut (a .words .now) (a .start) (a .len) from count (c .before .before .smaller .ensures) (c .before .smaller2 .ensures),
+      ap (wordAddress (a .words)) (c .before .before .smaller .ensures),
+    )
 
 pub words-at-spec : {M : Type 1} → statement M
 words-at-spec =

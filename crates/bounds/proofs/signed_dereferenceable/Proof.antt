@@ -16,10 +16,10 @@ within-reach-requires : tie.Need-within-reach-requires
 within-reach-requires c κs = search needs
 
 returns : tie.Need-returns
-returns c = λ m words h.
+returns c = λ m h.
     let s = c .before .before .before .before in
     let same = toZ-ofZ (s .fits .len) in
-    rw (← ap back same, ← ap ahead same, ← c .before .before .bytes-back .ensures, ← c .before .bytes-ahead .ensures) (c .within-reach .ensures m words h)
+    rw (← ap back same, ← ap ahead same, ← c .before .before .bytes-back .ensures, ← c .before .bytes-ahead .ensures) (c .within-reach .ensures m h)
 
 pub signed-dereferenceable-spec : {M : Type 1} → statement M
 signed-dereferenceable-spec =

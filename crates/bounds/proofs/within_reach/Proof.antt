@@ -1,7 +1,10 @@
 -- 4 is passed before `check_ptr` is called.
+use Prim.Native.Nat.{ℕ}
 use mathlib.Core.Path.{_∙_, sym, ap}
 use borrow.Author.Needs.{needs}
 use Rattle.definition.specs.Memory.{dereferenceable, refusedWith}
+use Rattle.answer.specs.Answer.{replyTo}
+use Rattle.answer.specs.Answer.Gives.{Nothing}
 use Rattle.bounds.proofs.within_reach.Statement.{statement}
 use Rattle.bounds.proofs.within_reach.Tie as tie
 
@@ -10,7 +13,7 @@ never-made-requires c κs = search needs
 
 returns : tie.Need-returns
 unfolding dereferenceable
-returns c = λ m words h. rw (sym (c .before .never-made .ensures m h) ∙ c .if1 .taken)
+returns c = λ m h. rw (sym (c .before .never-made .ensures m h) ∙ c .if1 .taken)
 
 check-ptr-requires : tie.Need-check-ptr-requires
 check-ptr-requires c κs = let (m, h) = c .before .before .before .pre in (m, record { records = h; made = sym (c .before .never-made .ensures m h) ∙ c .if1 .left })
@@ -20,9 +23,9 @@ refused-with-requires c κs = search needs
 
 returns-2 : tie.Need-returns-2
 unfolding dereferenceable
-returns-2 c = λ m words h.
+returns-2 c = λ m h.
     let e = sym (c .before .before .before .never-made .ensures m h) ∙ c .before .before .if1 .left in
-    rw e (c .refused-with .ensures words ∙ ap refusedWith (c .before .check-ptr .ensures m (record { records = h; made = e })))
+    rw e (c .refused-with .ensures ∙ ap (λ (n : ℕ). replyTo Nothing (refusedWith n)) (c .before .check-ptr .ensures m (record { records = h; made = e })))
 
 pub within-reach-spec : {M : Type 1} → statement M
 within-reach-spec =

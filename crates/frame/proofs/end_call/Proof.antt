@@ -1,6 +1,6 @@
 -- `frame::end_call` meets its contract: a walk of its MIR. The count is read, the lent list is loaded by value, and both go to `end_call_list`, with the other parameters: each `&mut` is given up for good, at its own lifetime, share and name.
 -- All that the proof knows of `load` and `end_call_list` is that they meet their contracts.
-use mathlib.Core.Path.{_≡_, refl}
+use mathlib.Core.Path.{_≡_, refl, _∙_}
 use Prim.Native.Nat.{ℕ, _<_, _^_}
 use mathlib.Core.List.{List, [], _∷_}
 use lib.ListN.{length}
@@ -41,7 +41,7 @@ use denote.Exit.{yes}
 use Rattle.entries.specs.List.{firstOf, loaded}
 use Rattle.tables.specs.Held.{buffers}
 use Rattle.frame.specs.EndCall.{EndedLent}
-use Rattle.frame.proofs.LentCall.{loaded-ended}
+use Rattle.frame.proofs.LentCall.{loaded-same}
 use Rattle.answer.specs.declared.Answer.{Answer}
 use Rattle.answer.proofs.Answer as X
 use Rattle.answer.proofs.Answer.Laws as X′
@@ -161,7 +161,7 @@ module _ {M : Type 1} (𝓤 : URA M) (H : Heap 𝓤) (A : Atoms 𝓤) (W : Given
         land ! (from ! (stop !)) (init ! 50 refl (EL.lawful X.the-type X′.the-laws 𝓤 H A W tt .typed r _ is′ .0)) $
         returns ! (look ! 50 refl) $ forget ! 18 refl $ forget ! 20 refl $ forget ! 22 refl $ forget ! 24 refl $ forget ! 26 refl $ forget ! 28 refl $ forget ! 30 refl $ forget ! 32 refl $ forget ! 34 refl $ forget ! 36 refl $ forget ! 38 refl $ forget ! 40 refl $ forget ! 42 refl $ forget ! 44 refl $ forget ! 46 refl $ forget ! 48 refl $ forget ! 50 refl $
         move ! (50 ∷ 51 ∷ []) $ free1 ! $ move ! (48 ∷ 49 ∷ []) $ free1 ! $ move ! (46 ∷ 47 ∷ []) $ free1 ! $ move ! (44 ∷ 45 ∷ []) $ free1 ! $ move ! (42 ∷ 43 ∷ []) $ free1 ! $ move ! (40 ∷ 41 ∷ []) $ free1 ! $ move ! (38 ∷ 39 ∷ []) $ free1 ! $ move ! (36 ∷ 37 ∷ []) $ free1 ! $ move ! (34 ∷ 35 ∷ []) $ free1 ! $ move ! (32 ∷ 33 ∷ []) $ free1 ! $ move ! (30 ∷ 31 ∷ []) $ free1 ! $ move ! (28 ∷ 29 ∷ []) $ free1 ! $ move ! (26 ∷ 27 ∷ []) $ free1 ! $ move ! (24 ∷ 25 ∷ []) $ free1 ! $ move ! (22 ∷ 23 ∷ []) $ free1 ! $ move ! (20 ∷ 21 ∷ []) $ free1 ! $ move ! (18 ∷ 19 ∷ []) $ free1 ! $ free0 ! $
-        keep ! (11 ∷ 7 ∷ 6 ∷ 5 ∷ 4 ∷ 3 ∷ 1 ∷ 15 ∷ 14 ∷ 13 ∷ 12 ∷ 10 ∷ 9 ∷ 8 ∷ 0 ∷ []) $ by ! (exits r w (zs .1 .1 .1 .1 .1 .0) (zs .1 .1 .1 .1 .1 .1 .1 .0) (zs .1 .1 .1 .1 .1 .1 .1 .1 .0) (loaded-ended (entries .now) _ e n (ends)) l-protectors l-codes l-area))))))))))))))))))))))))))))))
+        keep ! (11 ∷ 7 ∷ 6 ∷ 5 ∷ 4 ∷ 3 ∷ 1 ∷ 15 ∷ 14 ∷ 13 ∷ 12 ∷ 10 ∷ 9 ∷ 8 ∷ 0 ∷ []) $ by ! (exits r w (zs .1 .1 .1 .1 .1 .0) (zs .1 .1 .1 .1 .1 .1 .1 .0) (zs .1 .1 .1 .1 .1 .1 .1 .1 .0) (ends ∙ loaded-same (entries .now) _ e n _ _) l-protectors l-codes l-area))))))))))))))))))))))))))))))
 
 module _ {M : Type 1} (𝓤 : URA M) (H : Heap 𝓤) (A : Atoms 𝓤) (W : Given 𝓤 H A) (mem : Memory → SProp 𝓤) (run : Routine → Fun 𝓤) (𝓣 : Tables 𝓤 H)
     (known-load : Triple 𝓤 (𝓣 .C #load) (Load 𝓤 H A mem run)) (known-work : Triple 𝓤 (𝓣 .C #work) (Work 𝓤 H A mem run)) where

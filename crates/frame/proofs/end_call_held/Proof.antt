@@ -1,7 +1,10 @@
 -- The answer is the refusal's, and the whole area is filled with zeros.
+use Prim.Native.Nat.{ℕ}
 use mathlib.Core.Path.{ap, _∙_}
 use borrow.Author.Needs.{needs}
 use Rattle.definition.specs.Memory.{refusedWith}
+use Rattle.answer.specs.Answer.{replyTo}
+use Rattle.answer.specs.Answer.Gives.{Nothing}
 use Rattle.frame.proofs.EndCall.{all-zero}
 use Rattle.frame.proofs.end_call_held.Statement.{statement}
 use Rattle.frame.proofs.end_call_held.Tie as tie
@@ -28,7 +31,7 @@ returns : tie.Need-returns
 returns c = let s = c .before .before .before .before .before .before .before .before .before .before .before .before .before .before .before .before .before .before .before .before in (
   λ m h.
       let k = c .before .before .before .before .before .before .before .before .before .before .before .end-call-refusal .ensures m h in
-      record { answers = λ words. c .refused-with .ensures words ∙ ap refusedWith (k .refusal); nodes = k .nodes },
+      record { reply = c .refused-with .ensures ∙ ap (λ (n : ℕ). replyTo Nothing (refusedWith n)) (k .refusal); nodes = k .nodes },
   all-zero 32768 _ (c .before .before .before .before .before .before .before .before .before .before .before .end-call-refusal .last .1 .1 .1 .1 .0) (c .before .before .before .before .before .before .before .before .before .before .before .end-call-refusal .kept .1 .1 .1 .1 .0 ∙ s .pre .1 .1) (c .before .before .before .fill .ensures),
 )
 

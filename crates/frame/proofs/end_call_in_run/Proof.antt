@@ -1,7 +1,10 @@
 -- No entry is refused with 4, and all are released (EndCall).
+use Prim.Native.Nat.{ℕ}
 use mathlib.Core.Path.{ap, _∙_}
 use borrow.Author.Needs.{needs}
 use Rattle.definition.specs.Memory.{refusedWith}
+use Rattle.answer.specs.Answer.{replyTo}
+use Rattle.answer.specs.Answer.Gives.{Nothing}
 use Rattle.frame.proofs.EndCall.{all-released}
 use Rattle.frame.proofs.end_call_in_run.Statement.{statement}
 use Rattle.frame.proofs.end_call_in_run.Tie as tie
@@ -21,7 +24,7 @@ same-length-2 c = search needs
 returns : tie.Need-returns
 returns c = λ m h made.
     let k = all-released (c .before .before .before .before .before .release-list .ensures m h made) made in
-    record { answers = λ words. c .refused-with .ensures words ∙ ap refusedWith (k .refusal); nodes = k .nodes }
+    record { reply = c .refused-with .ensures ∙ ap (λ (n : ℕ). replyTo Nothing (refusedWith n)) (k .refusal); nodes = k .nodes }
 
 pub end-call-in-run-spec : {M : Type 1} → statement M
 end-call-in-run-spec =

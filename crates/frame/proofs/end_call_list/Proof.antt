@@ -53,7 +53,7 @@ returns-2 c = let s = c .before .before .before .before .before .before .before 
     let area = s .args .area .now in
     let e : isLent len count area b ≡ true = sym (c .before .before .before .before .before .before .before .before .before .before .before .is-lent .ensures) ∙ not-false _ (c .before .before .before .before .before .before .before .before .before .before .if1 .left) in
     let k = c .before .before .before .before .before .before .end-call-held .ensures in
-    ended-lent len count area e (k .0 (view b) (holds-marked (lent-holds len count area b e))) (k .1)
+    ended-lent len count area b e (k .0 (view b) (holds-marked (lent-holds len count area b e))) (k .1)
 
 pub end-call-list-spec : {M : Type 1} → statement M
 end-call-list-spec =

@@ -63,7 +63,7 @@ returns c = λ s frame mask h a.
     let w = settingsOf (t .args .settings) mask in
     let p = thinPointerOf (t .args .p) in
     retagged w frame p s (givesPointer none, s) (nowhere w frame p s (ap provenanceOf (c .before .enum-told .given .1)) (sym (inside-length (t .args .settings) mask (a .inside)) ∙ c .if1 .taken))
-    (Pointer None) (λ words. refl) (h .trees)
+    (Pointer None) refl (λ words. refl) (h .trees)
 
 enum-known-provenance : tie.Need-enum-known-provenance
 enum-known-provenance c = search needs
@@ -138,7 +138,7 @@ returns-4 c = λ s frame mask h a.
     let w = settingsOf (t .args .settings) mask in
     let p = thinPointerOf (t .args .p) in
     retagged w frame p s (refusedWith 7, s) (nowhere-refused w frame p s (ap provenanceOf (c .before .enum-told .given .1)) (λ z. c .if1 .left (inside-length (t .args .settings) mask (a .inside) ∙ z)))
-    (Refused 7) (λ words. refl) (h .trees)
+    (Refused 7) refl (λ words. refl) (h .trees)
 
 same-length-5 : tie.Need-same-length-5
 same-length-5 c = search needs

@@ -1,7 +1,9 @@
 -- 4, or the same pointer.
-use mathlib.Core.Path.{sym, _∙_}
+use mathlib.Core.Path.{sym, ap, _∙_}
 use borrow.Author.Needs.{needs}
 use Rattle.definition.specs.Retag.{retagWithoutNode}
+use Rattle.answer.specs.declared.Answer.the-variants.{Pointer}
+use Rattle.answer.proofs.Replies.{provenance-back}
 use Rattle.reborrow.proofs.retag_without_node.Statement.{statement}
 use Rattle.reborrow.proofs.retag_without_node.Tie as tie
 
@@ -10,11 +12,11 @@ never-made-requires c κs = search needs
 
 returns : tie.Need-returns
 unfolding retagWithoutNode
-returns c = λ s words h. rw (sym (c .before .never-made .ensures (s .memory) h) ∙ c .if1 .taken)
+returns c = λ s h. rw (sym (c .before .never-made .ensures (s .memory) h) ∙ c .if1 .taken)
 
 returns-2 : tie.Need-returns-2
 unfolding retagWithoutNode
-returns-2 c = λ s words h. rw (sym (c .before .never-made .ensures (s .memory) h) ∙ c .if1 .left)
+returns-2 c = λ s h. rw (sym (c .before .never-made .ensures (s .memory) h) ∙ c .if1 .left) (ap Pointer (provenance-back _))
 
 pub retag-without-node-spec : {M : Type 1} → statement M
 retag-without-node-spec = tie.close (tie.spec never-made-requires returns returns-2)

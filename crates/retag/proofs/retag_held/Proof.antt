@@ -21,7 +21,7 @@ returns c =
     let t = c .before .before .before .before .before .before .before .before .before .args in
     λ s held count.
     performed-same (t .settings) (thinPointerOf (t .p)) (t .layout .now) s (sym (c .before .before .before .adds-no-node .ensures) ∙ c .before .before .if1 .taken)
-    (λ words. c .retag-without-node .ensures s words (records-of held)) (held .trees)
+    (c .retag-without-node .ensures s (records-of held)) (held .trees)
 
 retag-with-mask-requires : tie.Need-retag-with-mask-requires
 retag-with-mask-requires c κs = search needs

@@ -19,13 +19,13 @@ put-fitting-requires c κs =
     let s = c .before .before .before .before .before .before .before in
     let loaded = c .before .before .before .before .loaded-words in
     let room = c .before .before .has-room in
-    (omega (arith, ap length (loaded .ensures)), leb-true (s .args .w .at + (5 + length (loaded .result .now))) (length (s .args .out .now)) (sym (room .ensures) ∙ c .before .if1 .taken))
+    (omega (arith, ap length (loaded .ensures .loaded)), leb-true (s .args .w .at + (5 + length (loaded .result .now))) (length (s .args .out .now)) (sym (room .ensures) ∙ c .before .if1 .taken))
 
 same-length : tie.Need-same-length
 same-length c = search needs
 
 returns : tie.Need-returns
-returns c = λ text before h. c .before .before .put-fitting .ensures (c .before .before .before .before .before .before .before .before .before .before .args .words .now) text before (c .before .before .before .before .before .before .before .before .before .before .args .w .whole) (c .before .before .before .before .before .before .before .loaded-words .ensures) h
+returns c = λ text before h. c .before .before .put-fitting .ensures (c .before .before .before .before .before .before .before .before .before .before .args .words .now) text before (c .before .before .before .before .before .before .before .before .before .before .args .w .whole) (c .before .before .before .before .before .before .before .loaded-words .ensures .loaded) h
 
 put-cut-requires : tie.Need-put-cut-requires
 put-cut-requires c κs = search needs

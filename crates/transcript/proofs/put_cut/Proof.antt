@@ -13,7 +13,7 @@ loaded-words-requires : tie.Need-loaded-words-requires
 loaded-words-requires c κs = search needs
 
 cast-heading-of : tie.Need-cast-heading-of
-cast-heading-of c = omega (arith, ap length (c .loaded-words .ensures))
+cast-heading-of c = omega (arith, ap length (c .loaded-words .ensures .loaded))
 
 heading-of-requires : tie.Need-heading-of-requires
 heading-of-requires c κs = search needs
@@ -37,7 +37,7 @@ returns c =
     let loaded = c .before .before .before .before .before .before .before .before .before .before .loaded-words in
     let head = c .before .before .before .before .before .before .before .before .before .heading-of in
     λ text before h.
-    rw (answer-behind text (answerOf (s .args .answer) words) (loaded .result .now) (head .result) (loaded .ensures) (head .ensures words)) at
+    rw (answer-behind text (answerOf (s .args .answer) words) (loaded .result .now) (head .result) (loaded .ensures .loaded) (head .ensures words)) at
     (c .before .before .put-each2 .ensures (text ++ head .result) before (c .before .before .before .before .before .before .put-each .ensures text before h))
 
 pub put-cut-spec : {M : Type 1} → statement M

@@ -1,5 +1,6 @@
 -- The answer of `frame`, as numbers.
 use borrow.Author.Needs.{needs}
+use Rattle.tree_borrows.proofs.Replies.{in-numbers}
 use Rattle.tree_borrows.proofs.end_call_reply.Statement.{statement}
 use Rattle.tree_borrows.proofs.end_call_reply.Tie as tie
 
@@ -21,7 +22,7 @@ same-length-3 c = search needs
 returns : tie.Need-returns
 returns c =
     let at = c .before .before .before .before .before .before .before in
-    (at .end-call-list .result, (c .reply-of .ensures, at .end-call-list .ensures))
+    in-numbers (c .reply-of .ensures) (at .end-call-list .ensures)
 
 pub end-call-reply-spec : {M : Type 1} → statement M
 end-call-reply-spec =

@@ -1,15 +1,20 @@
--- The outcome of `retag`, with its answer as numbers.
-use mathlib.Core.Path.{ap}
-use Rattle.tree_borrows.specs.declared.numbers.RetagMade.{RetagMade}
+-- 2 for what only C hands over, after 1; or the outcome of `retag`. The answer is in numbers.
+use mathlib.Core.Path.{sym, ap₂, _∙_}
+use mathlib.Core.Bool.{_||_}
+use Rattle.tables.specs.Held.{buffers}
+use Rattle.tree_borrows.proofs.Replies.{bad-retag, good-retag}
 use borrow.Author.Needs.{needs}
 use Rattle.tree_borrows.proofs.retag_reply.Statement.{statement}
 use Rattle.tree_borrows.proofs.retag_reply.Tie as tie
 
-thin-pointer-requires : tie.Need-thin-pointer-requires
-thin-pointer-requires c κs = search needs
+bad-place-requires : tie.Need-bad-place-requires
+bad-place-requires c κs = search needs
 
-retag-list-requires : tie.Need-retag-list-requires
-retag-list-requires c κs = search needs
+bad-flags-requires : tie.Need-bad-flags-requires
+bad-flags-requires c κs = search needs
+
+malformed-requires : tie.Need-malformed-requires
+malformed-requires c κs = search needs
 
 retag-made-requires : tie.Need-retag-made-requires
 retag-made-requires c κs = search needs
@@ -27,24 +32,70 @@ same-length-4 : tie.Need-same-length-4
 same-length-4 c = search needs
 
 returns : tie.Need-returns
-returns c = λ places same.
-    let at = c .before .before .before .before .before .before .before .before .before in (
-      at .retag-list .result .answer,
-      (
-        ap (λ (made : RetagMade). made .answer) (c .retag-made .ensures),
-        rw (c .retag-made .ensures, ← at .before .before .before .before .before .thin-pointer .ensures) (at .retag-list .ensures places same),
-      ),
-    )
+returns c = λ places whole.
+    let test = c .before .before .before .before .before .before in
+    let lent = test .before .before .before in
+    let s = lent .before .before .before .before .before .before in
+    bad-retag (s .args .settings) (s .args .p) (s .args .layout .now) (s .args .len) (s .args .count)
+    (buffers (s .args .allocs .now) (s .args .parents .now) (s .args .protectors .now) (s .args .words .now) (s .args .codes .now)) _ (c .retag-made .ensures) places whole
+    (sym (ap₂ _||_ (test .before .before .bad-place .ensures) (test .before .bad-flags .ensures)) ∙ test .if1 .taken) (c .before .malformed .ensures)
+
+thin-pointer-requires : tie.Need-thin-pointer-requires
+thin-pointer-requires c κs = search needs
+
+retag-settings-requires : tie.Need-retag-settings-requires
+retag-settings-requires c κs = search needs
+
+retag-list-requires : tie.Need-retag-list-requires
+retag-list-requires c κs = search needs
+
+retag-made-requires-2 : tie.Need-retag-made-requires-2
+retag-made-requires-2 c κs = search needs
+
+same-length-5 : tie.Need-same-length-5
+same-length-5 c = search needs
+
+same-length-6 : tie.Need-same-length-6
+same-length-6 c = search needs
+
+same-length-7 : tie.Need-same-length-7
+same-length-7 c = search needs
+
+same-length-8 : tie.Need-same-length-8
+same-length-8 c = search needs
+
+returns-2 : tie.Need-returns-2
+returns-2 c = λ places whole.
+    let kept = c .before .before .before .before in
+    let at = kept .before .before .before .before .before in
+    let read = at .before .before .before .before .before in
+    let test = read .before .before in
+    let lent = test .before .before .before in
+    let s = lent .before .before .before .before .before .before in
+    good-retag (s .args .settings) (s .args .p) (s .args .layout .now) (s .args .len) (s .args .count)
+    (buffers (s .args .allocs .now) (s .args .parents .now) (s .args .protectors .now) (s .args .words .now) (s .args .codes .now)) (at .retag-list .result) (c .retag-made2 .ensures) places whole
+    (sym (ap₂ _||_ (test .before .before .bad-place .ensures) (test .before .bad-flags .ensures)) ∙ test .if1 .left)
+    (rw (← read .before .thin-pointer .ensures, ← read .retag-settings .ensures) (at .retag-list .ensures places whole))
 
 pub retag-reply-spec : {M : Type 1} → statement M
 retag-reply-spec =
     tie.close
     (tie.spec
-    thin-pointer-requires
-    retag-list-requires
+    bad-place-requires
+    bad-flags-requires
+    malformed-requires
     retag-made-requires
     same-length
     same-length-2
     same-length-3
     same-length-4
-    returns)
+    returns
+    thin-pointer-requires
+    retag-settings-requires
+    retag-list-requires
+    retag-made-requires-2
+    same-length-5
+    same-length-6
+    same-length-7
+    same-length-8
+    returns-2)

@@ -1,6 +1,6 @@
 -- `tree_borrows::tree_borrows_end_call` meets its contract: a walk of its MIR. The count is read, the lent list is loaded by value, and both go to `end_call_reply`, with the other parameters: each `&mut` is given up for good, at its own lifetime, share and name.
 -- All that the proof knows of `load` and `end_call_reply` is that they meet their contracts.
-use mathlib.Core.Path.{_≡_, refl}
+use mathlib.Core.Path.{_≡_, refl, ap, _∙_}
 use Prim.Native.Nat.{ℕ, _<_, _^_}
 use mathlib.Core.List.{List, [], _∷_}
 use lib.ListN.{length}
@@ -38,10 +38,12 @@ use denote.Triple.Table.{entered, cited}
 use denote.Triple.Walked.{says, Stays, stay-none-slice, stay-none, gave-slice, walkOf, goes-none-slice, goes-none, goes-gave-slice, Walks, ends-at, walked, walk-meets}
 use denote.Exit.{yes}
 use Rattle.entries.specs.List.{firstOf, loaded}
+use Rattle.tables.specs.Encoding.{Buffers}
 use Rattle.tables.specs.Held.{buffers}
-use Rattle.frame.specs.EndCall.{EndedLent}
-use Rattle.frame.proofs.LentCall.{loaded-ended}
-use Rattle.tree_borrows.specs.Numbers.{Replied}
+use Rattle.answer.specs.declared.Answer.{Answer}
+use Rattle.frame.specs.EndCall.{ended}
+use Rattle.frame.proofs.LentCall.{loaded-same}
+use Rattle.tree_borrows.specs.Numbers.{replyOf, Replied}
 use Rattle.tree_borrows.specs.declared.numbers.Reply.{Reply}
 use Rattle.tree_borrows.proofs.numbers.Reply as X
 use Rattle.tree_borrows.proofs.numbers.Reply.Laws as X′
@@ -90,10 +92,10 @@ module _ {M : Type 1} (𝓤 : URA M) (H : Heap 𝓤) (A : Atoms 𝓤) (W : Given
 
   -- what the worker ensures at a list, and what this function does
   abbrev Ends : List Entry → Reply → List ℕ → List ℕ → List ℕ → Type 0
-  Ends list r z-protectors z-codes z-area = Replied r (λ a. EndedLent (length (entries .now)) n (firstOf n list) (buffers (allocs .now) (parents .now) (protectors .now) (words .now) (codes .now)) (area .now) a (buffers (allocs .now) (parents .now) z-protectors (words .now) z-codes) z-area)
+  Ends list r z-protectors z-codes z-area = Replied r (buffers (allocs .now) (parents .now) z-protectors (words .now) z-codes, z-area) (ended (length (entries .now)) n (firstOf n list) (buffers (allocs .now) (parents .now) (protectors .now) (words .now) (codes .now)) (area .now))
 
   abbrev Said : Reply → List ℕ → List ℕ → List ℕ → Type 0
-  Said r z-protectors z-codes z-area = Replied r (λ a. EndedLent (length (entries .now)) n (firstOf n (entries .now)) (buffers (allocs .now) (parents .now) (protectors .now) (words .now) (codes .now)) (area .now) a (buffers (allocs .now) (parents .now) z-protectors (words .now) z-codes) z-area)
+  Said r z-protectors z-codes z-area = Replied r (buffers (allocs .now) (parents .now) z-protectors (words .now) z-codes, z-area) (ended (length (entries .now)) n (firstOf n (entries .now)) (buffers (allocs .now) (parents .now) (protectors .now) (words .now) (codes .now)) (area .now))
 
   exits : (r : Reply) (w : Val) (z-protectors : List ℕ) (z-codes : List ℕ) (z-area : List ℕ) → Said r z-protectors z-codes z-area → length z-protectors ≡ length (protectors .now) → length z-codes ≡ length (codes .now) → length z-area ≡ length (area .now)
       → ent 𝓤 (⋆ 𝓤 H A (‵ (flft κ₀ q₀) ∷ ‵ (flft κ₁ q₁) ∷ ‵ (flft κ₂ q₂) ∷ ‵ (flft κ₃ q₃) ∷ ‵ (flft κ₄ q₄) ∷ ‵ (flft κ₅ q₅) ∷ ‵ (flft κ₆ q₆) ∷ ‵ (ShrSlice (named 0) κ₀ E.the-row .own entries (sliceVal (entries .ptr) (length (entries .now)) ∷ [])) ∷ ‵ (ShrSlice (named 1) κ₁ u64 .own allocs (sliceVal (allocs .ptr) (length (allocs .now)) ∷ [])) ∷ ‵ (ShrSlice (named 2) κ₂ u16 .own parents (sliceVal (parents .ptr) (length (parents .now)) ∷ [])) ∷ ‵ (ShrSlice (named 4) κ₄ u32 .own words (sliceVal (words .ptr) (length (words .now)) ∷ [])) ∷ ‵ (finally u8 (protectors .name) z-protectors) ∷ ‵ (finally u8 (codes .name) z-codes) ∷ ‵ (finally u8 (area .name) z-area) ∷ ‵ (X.the-row .own r (w ∷ [])) ∷ [])) (Post w)
@@ -161,7 +163,7 @@ module _ {M : Type 1} (𝓤 : URA M) (H : Heap 𝓤) (A : Atoms 𝓤) (W : Given
         land ! (from ! (stop !)) (init ! 50 refl (LL.lawful X.the-type X′.the-laws 𝓤 H A W .typed r _ is′ .0)) $
         returns ! (look ! 50 refl) $ forget ! 18 refl $ forget ! 20 refl $ forget ! 22 refl $ forget ! 24 refl $ forget ! 26 refl $ forget ! 28 refl $ forget ! 30 refl $ forget ! 32 refl $ forget ! 34 refl $ forget ! 36 refl $ forget ! 38 refl $ forget ! 40 refl $ forget ! 42 refl $ forget ! 44 refl $ forget ! 46 refl $ forget ! 48 refl $ forget ! 50 refl $
         move ! (50 ∷ 51 ∷ []) $ free1 ! $ move ! (48 ∷ 49 ∷ []) $ free1 ! $ move ! (46 ∷ 47 ∷ []) $ free1 ! $ move ! (44 ∷ 45 ∷ []) $ free1 ! $ move ! (42 ∷ 43 ∷ []) $ free1 ! $ move ! (40 ∷ 41 ∷ []) $ free1 ! $ move ! (38 ∷ 39 ∷ []) $ free1 ! $ move ! (36 ∷ 37 ∷ []) $ free1 ! $ move ! (34 ∷ 35 ∷ []) $ free1 ! $ move ! (32 ∷ 33 ∷ []) $ free1 ! $ move ! (30 ∷ 31 ∷ []) $ free1 ! $ move ! (28 ∷ 29 ∷ []) $ free1 ! $ move ! (26 ∷ 27 ∷ []) $ free1 ! $ move ! (24 ∷ 25 ∷ []) $ free1 ! $ move ! (22 ∷ 23 ∷ []) $ free1 ! $ move ! (20 ∷ 21 ∷ []) $ free1 ! $ move ! (18 ∷ 19 ∷ []) $ free1 ! $ free0 ! $
-        keep ! (11 ∷ 7 ∷ 6 ∷ 5 ∷ 4 ∷ 3 ∷ 1 ∷ 15 ∷ 14 ∷ 13 ∷ 12 ∷ 10 ∷ 9 ∷ 8 ∷ 0 ∷ []) $ by ! (exits r w (zs .1 .1 .1 .1 .1 .0) (zs .1 .1 .1 .1 .1 .1 .1 .0) (zs .1 .1 .1 .1 .1 .1 .1 .1 .0) (ends .0, (ends .1 .0, loaded-ended (entries .now) _ e n (ends .1 .1))) l-protectors l-codes l-area))))))))))))))))))))))))))))))
+        keep ! (11 ∷ 7 ∷ 6 ∷ 5 ∷ 4 ∷ 3 ∷ 1 ∷ 15 ∷ 14 ∷ 13 ∷ 12 ∷ 10 ∷ 9 ∷ 8 ∷ 0 ∷ []) $ by ! (exits r w (zs .1 .1 .1 .1 .1 .0) (zs .1 .1 .1 .1 .1 .1 .1 .0) (zs .1 .1 .1 .1 .1 .1 .1 .1 .0) (ends ∙ ap (λ (o : Answer × (Buffers × List ℕ)). (replyOf (o .0), o .1)) (loaded-same (entries .now) _ e n _ _)) l-protectors l-codes l-area))))))))))))))))))))))))))))))
 
 module _ {M : Type 1} (𝓤 : URA M) (H : Heap 𝓤) (A : Atoms 𝓤) (W : Given 𝓤 H A) (mem : Memory → SProp 𝓤) (run : Routine → Fun 𝓤) (𝓣 : Tables 𝓤 H)
     (known-load : Triple 𝓤 (𝓣 .C #load) (Load 𝓤 H A mem run)) (known-work : Triple 𝓤 (𝓣 .C #work) (Work 𝓤 H A mem run)) where

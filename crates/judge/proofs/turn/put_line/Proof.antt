@@ -16,7 +16,7 @@ load-view-requires : tie.Need-load-view-requires
 load-view-requires c κs = search needs
 
 answer-line-requires : tie.Need-answer-line-requires
-answer-line-requires c κs = let s = c .before .before .before .before in omega (arith, ap length (c .before .load-view .ensures), loaded-length (s .args .answer) (s .args .words .now), s .pre .0, s .pre .1)
+answer-line-requires c κs = let s = c .before .before .before .before in omega (arith, ap length (c .before .load-view .ensures .loaded), loaded-length (s .args .answer) (s .args .words .now), s .pre .0, s .pre .1)
 
 same-length : tie.Need-same-length
 same-length c = search needs
@@ -25,7 +25,7 @@ returns : tie.Need-returns
 returns c = let s = c .before .before .before .before .before .before .before in
     let answer = s .args .answer in
     subst (λ (a : definition.Answer). WrittenInside (s .args .out .now) (s .args .at) (answerLine (s .args .index) (named answer) a) (c .before .before .answer-line .last .0) (c .before .before .answer-line .result))
-    (ap (giving answer) (c .before .before .before .before .load-view .ensures) ∙ giving-loaded answer (s .args .words .now)) (c .before .before .answer-line .ensures)
+    (ap (giving answer) (c .before .before .before .before .load-view .ensures .loaded) ∙ giving-loaded answer (s .args .words .now)) (c .before .before .answer-line .ensures)
 
 pub put-line-spec : {M : Type 1} → statement M
 put-line-spec = tie.close (tie.spec load-view-requires answer-line-requires same-length returns)

@@ -13,7 +13,7 @@ well-formed-requires : tie.Need-well-formed-requires
 well-formed-requires c κs = search needs
 
 returns : tie.Need-returns
-returns c = not-formed _ _ _ (sym (c .before .well-formed .ensures .0) ∙ not-true _ (c .if1 .taken))
+returns c = not-formed _ _ _ _ (sym (c .before .well-formed .ensures .0) ∙ not-true _ (c .if1 .taken))
 
 dereferenceable-requires : tie.Need-dereferenceable-requires
 dereferenceable-requires c κs = (_, holds-records (sound _ (sym (c .before .well-formed .ensures .0) ∙ not-false _ (c .if1 .left))))
@@ -21,7 +21,7 @@ dereferenceable-requires c κs = (_, holds-records (sound _ (sym (c .before .wel
 returns-2 : tie.Need-returns-2
 returns-2 c =
     let formed = sym (c .before .before .well-formed .ensures .0) ∙ not-false _ (c .before .if1 .left) in
-    dereferenced _ _ _ _ formed (c .dereferenceable .ensures _ _ (holds-records (sound _ formed)))
+    dereferenced _ _ _ _ formed (c .dereferenceable .ensures _ (holds-records (sound _ formed)))
 
 pub dereferenceable-spec : {M : Type 1} → statement M
 dereferenceable-spec = tie.close (tie.spec well-formed-requires returns dereferenceable-requires returns-2)

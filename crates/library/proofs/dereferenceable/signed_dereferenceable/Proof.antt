@@ -15,7 +15,7 @@ well-formed-requires : tie.Need-well-formed-requires
 well-formed-requires c κs = search needs
 
 returns : tie.Need-returns
-returns c = not-formed _ _ _ (sym (c .before .well-formed .ensures .0) ∙ not-true _ (c .if1 .taken))
+returns c = not-formed _ _ _ _ (sym (c .before .well-formed .ensures .0) ∙ not-true _ (c .if1 .taken))
 
 signed-dereferenceable-requires : tie.Need-signed-dereferenceable-requires
 signed-dereferenceable-requires c κs = (_, holds-records (sound _ (sym (c .before .well-formed .ensures .0) ∙ not-false _ (c .if1 .left))))
@@ -25,7 +25,7 @@ returns-2 c =
     let formed = sym (c .before .before .well-formed .ensures .0) ∙ not-false _ (c .before .if1 .left) in
     let same = toZ-ofZ (c .before .before .before .before .before .before .before .before .fits .len) in
     rw (← ap back same, ← ap ahead same)
-    (dereferenced _ _ _ _ formed (c .signed-dereferenceable .ensures _ _ (holds-records (sound _ formed))))
+    (dereferenced _ _ _ _ formed (c .signed-dereferenceable .ensures _ (holds-records (sound _ formed))))
 
 pub signed-dereferenceable-spec : {M : Type 1} → statement M
 signed-dereferenceable-spec = tie.close (tie.spec well-formed-requires returns signed-dereferenceable-requires returns-2)

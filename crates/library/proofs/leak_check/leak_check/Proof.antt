@@ -19,8 +19,8 @@ leak-check-requires c κs = (_, holds-records (sound _ (sym (c .before .well-for
 
 returns-2 : tie.Need-returns-2
 returns-2 c =
-    leak-answered _ (sym (c .before .before .well-formed .ensures .0) ∙ not-false _ (c .before .if1 .left))
-    (λ m h. c .leak-check .ensures m (holds-records h))
+    let formed = sym (c .before .before .well-formed .ensures .0) ∙ not-false _ (c .before .if1 .left) in
+    leak-answered _ formed (c .leak-check .ensures _ (holds-records (sound _ formed)))
 
 pub leak-check-spec : {M : Type 1} → statement M
 leak-check-spec = tie.close (tie.spec well-formed-requires returns leak-check-requires returns-2)

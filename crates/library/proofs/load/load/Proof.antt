@@ -17,7 +17,7 @@ same-length : tie.Need-same-length
 same-length c = search needs
 
 returns : tie.Need-returns
-returns c = not-formed _ _ _ (sym (c .before .well-formed .ensures .0) ∙ not-true _ (c .if1 .taken))
+returns c = not-formed _ _ _ _ (sym (c .before .well-formed .ensures .0) ∙ not-true _ (c .if1 .taken))
 
 bad-exponent-requires : tie.Need-bad-exponent-requires
 bad-exponent-requires c κs = search needs
@@ -27,7 +27,7 @@ same-length-2 c = search needs
 
 returns-2 : tie.Need-returns-2
 returns-2 c =
-    bad-field _ _ _ (sym (c .before .before .before .well-formed .ensures .0) ∙ not-false _ (c .before .before .if1 .left))
+    bad-field _ _ _ _ (sym (c .before .before .before .well-formed .ensures .0) ∙ not-false _ (c .before .before .if1 .left))
     (sym (c .before .bad-exponent .ensures) ∙ c .if2 .taken)
 
 load-requires : tie.Need-load-requires

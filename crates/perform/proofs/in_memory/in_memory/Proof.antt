@@ -4,6 +4,8 @@ use mir.Syntax.{w64}
 use mir.Facts.{toZ-ofZ}
 use borrow.Author.Needs.{needs, sfits-of}
 use Rattle.pointer.specs.Pointer.{back, ahead}
+use Rattle.bounds.proofs.Reach.{reach-answers}
+use Rattle.bounds.proofs.Leak.{leak-answer}
 use Rattle.memory.proofs.Afterwards.{holds-bytes}
 use Rattle.parts.proofs.Lent.{holds-trees, holds-marked}
 use Rattle.tables.proofs.ReadBack.{holds-records}
@@ -123,19 +125,19 @@ same-length-10 : tie.Need-same-length-10
 same-length-10 c = search needs
 
 returns-5 : tie.Need-returns-5
-returns-5 c = λ s h. dereferenceable-left h (c .before .before .before .before .pointer .ensures) (c .before .before .enum-told5 .given .1) (c .before .before .before .before .before .before .wide2 .ensures) (c .dereferenceable .ensures (s .memory) _ (holds-records (h .holds)))
+returns-5 c = λ s h. dereferenceable-left h (c .before .before .before .before .pointer .ensures) (c .before .before .enum-told5 .given .1) (c .before .before .before .before .before .before .wide2 .ensures) (reach-answers _ _ _ (s .memory) _ (c .dereferenceable .ensures (s .memory) (holds-records (h .holds))))
 
 same-length-11 : tie.Need-same-length-11
 same-length-11 c = search needs
 
 returns-6 : tie.Need-returns-6
-returns-6 c = λ s h. let a = c .before .before .before .before .before .before .before .before .before .before .before .before .before .before .before in let same = toZ-ofZ {w = w64} {z = c .before .signed-length .result} (sfits-of (c .before .signed-length .ok)) in signed-left h (c .before .before .before .before .before .pointer .ensures) (c .before .before .before .enum-told6 .given .1) (c .before .signed-length .result) (c .before .signed-length .ensures) {r = c .signed-dereferenceable .result} (rw (← ap back same, ← ap ahead same) (c .signed-dereferenceable .ensures (s .memory) (a .args .words .now) (holds-records (h .holds))))
+returns-6 c = λ s h. let a = c .before .before .before .before .before .before .before .before .before .before .before .before .before .before .before in let same = toZ-ofZ {w = w64} {z = c .before .signed-length .result} (sfits-of (c .before .signed-length .ok)) in signed-left h (c .before .before .before .before .before .pointer .ensures) (c .before .before .before .enum-told6 .given .1) (c .before .signed-length .result) (c .before .signed-length .ensures) {r = c .signed-dereferenceable .result} (rw (← ap back same, ← ap ahead same) (reach-answers _ _ _ (s .memory) (a .args .words .now) (c .signed-dereferenceable .ensures (s .memory) (holds-records (h .holds)))))
 
 same-length-12 : tie.Need-same-length-12
 same-length-12 c = search needs
 
 returns-7 : tie.Need-returns-7
-returns-7 c = λ s h. leak-left h (c .before .before .enum-told7 .given .1) (c .leak-check .ensures (s .memory) (holds-records (h .holds)))
+returns-7 c = λ s h. leak-left h (c .before .before .enum-told7 .given .1) (leak-answer (s .memory) (c .leak-check .ensures (s .memory) (holds-records (h .holds))))
 
 returns-8 : tie.Need-returns-8
 returns-8 c = λ s h. absurd (not-alone h (c .enum-told8 .given .1) refl)

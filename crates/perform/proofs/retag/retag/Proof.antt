@@ -4,6 +4,7 @@ use borrow.Author.Needs.{needs}
 use Rattle.layout.specs.Filled.{PlainMask}
 use Rattle.layout.specs.declared.Mask.the-variants.{Of}
 use Rattle.request.specs.Fields.{requestOf}
+use Rattle.reborrow.proofs.Requests.{without-node-answers}
 use Rattle.definition.specs.Retag.{retagWithoutNode}
 use Rattle.definition.specs.Memory.{ThinPointer}
 use Rattle.perform.proofs.States.{records-held}
@@ -24,7 +25,7 @@ same-length : tie.Need-same-length
 same-length c = search needs
 
 returns : tie.Need-returns
-returns c = λ s h. let a = c .before .before .before .before .before .before .before .before .before .before .before in left-without-node h (requestOf (a .args .q) (a .args .following .now)) (sym (c .before .before .before .before .adds-no-node .ensures) ∙ c .before .before .before .if1 .taken) (λ words. c .retag-without-node .ensures s words (records-held h) ∙ ap (λ (p : ThinPointer). retagWithoutNode p s .0) (c .before .pointer .ensures))
+returns c = λ s h. let a = c .before .before .before .before .before .before .before .before .before .before .before in left-without-node h (requestOf (a .args .q) (a .args .following .now)) (sym (c .before .before .before .before .adds-no-node .ensures) ∙ c .before .before .before .if1 .taken) (λ words. without-node-answers _ s words (c .retag-without-node .ensures s (records-held h)) ∙ ap (λ (p : ThinPointer). retagWithoutNode p s .0) (c .before .pointer .ensures))
 
 plain-mask-requires : tie.Need-plain-mask-requires
 plain-mask-requires c κs = search needs

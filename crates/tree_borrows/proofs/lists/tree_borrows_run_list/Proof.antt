@@ -1,5 +1,6 @@
 -- The list's answer, as numbers.
 use borrow.Author.Needs.{needs}
+use Rattle.tree_borrows.proofs.Replies.{list-replied}
 use Rattle.tree_borrows.proofs.lists.tree_borrows_run_list.Statement.{statement}
 use Rattle.tree_borrows.proofs.lists.tree_borrows_run_list.Tie as tie
 
@@ -31,7 +32,11 @@ same-length-7 : tie.Need-same-length-7
 same-length-7 c = search needs
 
 returns : tie.Need-returns
-returns c = (c .before .before .before .before .before .before .before .before .before .before .before .before .before .before .before .run-list .result, (c .list-reply .ensures, c .before .before .before .before .before .before .before .before .before .before .before .before .before .before .before .run-list .ensures))
+returns c =
+    let kept = c .before .before .before .before .before in
+    let lent = kept .before .before .before .before .before in
+    let ran = lent .before .before .before .before .before in
+    list-replied (ran .run-list .ensures) (c .list-reply .ensures)
 
 pub tree-borrows-run-list-spec : {M : Type 1} → statement M
 tree-borrows-run-list-spec =

@@ -9,11 +9,15 @@ enum-known-answer c = search needs
 enum-known-answer-2 : tie.Need-enum-known-answer-2
 enum-known-answer-2 c = search needs
 
+flag-requires : tie.Need-flag-requires
+flag-requires c κs = search needs
+
 returns : tie.Need-returns
 returns c = rw (c .before .answer .given .1)
 
 returns-2 : tie.Need-returns-2
-returns-2 c = rw (c .before .answer2 .given .1)
+returns-2 c = rw (c .before .before .answer2 .given .1, c .flag .ensures)
 
 pub list-reply-spec : {M : Type 1} → statement M
-list-reply-spec = tie.close (tie.spec enum-known-answer enum-known-answer-2 returns returns-2)
+list-reply-spec =
+    tie.close (tie.spec enum-known-answer enum-known-answer-2 flag-requires returns returns-2)

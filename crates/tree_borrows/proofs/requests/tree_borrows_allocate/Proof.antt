@@ -1,5 +1,6 @@
 -- The answer of `library`, as numbers.
 use borrow.Author.Needs.{needs}
+use Rattle.tree_borrows.proofs.Replies.{in-numbers}
 use Rattle.tree_borrows.proofs.requests.tree_borrows_allocate.Statement.{statement}
 use Rattle.tree_borrows.proofs.requests.tree_borrows_allocate.Tie as tie
 
@@ -18,7 +19,7 @@ same-length-2 c = search needs
 returns : tie.Need-returns
 returns c =
     let at = c .before .before .before .before .before in
-    (at .allocate .result, (c .reply-of .ensures, at .allocate .ensures))
+    in-numbers (c .reply-of .ensures) (at .allocate .ensures)
 
 pub tree-borrows-allocate-spec : {M : Type 1} → statement M
 tree-borrows-allocate-spec =

@@ -1,7 +1,21 @@
--- The answer of `library` at the pointer that the place stands for, as numbers.
+-- 2 for the pointer that the place stands for, after 1; or the answer of `library` at it, as numbers.
+use mathlib.Core.Path.{sym, _∙_}
+use Rattle.tree_borrows.proofs.Replies.{bad-place, good-place}
 use borrow.Author.Needs.{needs}
 use Rattle.tree_borrows.proofs.requests.tree_borrows_dereferenceable.Statement.{statement}
 use Rattle.tree_borrows.proofs.requests.tree_borrows_dereferenceable.Tie as tie
+
+bad-place-requires : tie.Need-bad-place-requires
+bad-place-requires c κs = search needs
+
+malformed-requires : tie.Need-malformed-requires
+malformed-requires c κs = search needs
+
+reply-of-requires : tie.Need-reply-of-requires
+reply-of-requires c κs = search needs
+
+returns : tie.Need-returns
+returns c = bad-place _ _ _ _ (sym (c .before .before .before .bad-place .ensures) ∙ c .before .before .if1 .taken) (c .reply-of .ensures) (c .before .malformed .ensures)
 
 thin-pointer-requires : tie.Need-thin-pointer-requires
 thin-pointer-requires c κs = search needs
@@ -9,14 +23,25 @@ thin-pointer-requires c κs = search needs
 dereferenceable-requires : tie.Need-dereferenceable-requires
 dereferenceable-requires c κs = search needs
 
-reply-of-requires : tie.Need-reply-of-requires
-reply-of-requires c κs = search needs
+reply-of-requires-2 : tie.Need-reply-of-requires-2
+reply-of-requires-2 c κs = search needs
 
-returns : tie.Need-returns
-returns c =
+returns-2 : tie.Need-returns-2
+returns-2 c =
     let at = c .before in
-    (at .dereferenceable .result, (c .reply-of .ensures, rw (← at .before .thin-pointer .ensures) (at .dereferenceable .ensures)))
+    let read = at .before in
+    let test = read .before in
+    rw (← read .thin-pointer .ensures) (good-place _ _ _ _ _ (sym (test .before .bad-place .ensures) ∙ test .if1 .left) (c .reply-of2 .ensures) (at .dereferenceable .ensures))
 
 pub tree-borrows-dereferenceable-spec : {M : Type 1} → statement M
 tree-borrows-dereferenceable-spec =
-    tie.close (tie.spec thin-pointer-requires dereferenceable-requires reply-of-requires returns)
+    tie.close
+    (tie.spec
+    bad-place-requires
+    malformed-requires
+    reply-of-requires
+    returns
+    thin-pointer-requires
+    dereferenceable-requires
+    reply-of-requires-2
+    returns-2)

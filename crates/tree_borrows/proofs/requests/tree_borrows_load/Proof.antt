@@ -1,13 +1,15 @@
--- The answer of `library` at the pointer that the place stands for, as numbers.
+-- 2 for the pointer that the place stands for, after 1; or the answer of `library` at it, as numbers.
+use mathlib.Core.Path.{sym, _∙_}
+use Rattle.tree_borrows.proofs.Replies.{or-true, or-false, bad-place, good-place}
 use borrow.Author.Needs.{needs}
 use Rattle.tree_borrows.proofs.requests.tree_borrows_load.Statement.{statement}
 use Rattle.tree_borrows.proofs.requests.tree_borrows_load.Tie as tie
 
-thin-pointer-requires : tie.Need-thin-pointer-requires
-thin-pointer-requires c κs = search needs
+bad-place-requires : tie.Need-bad-place-requires
+bad-place-requires c κs = search needs
 
-load-requires : tie.Need-load-requires
-load-requires c κs = search needs
+malformed-requires : tie.Need-malformed-requires
+malformed-requires c κs = search needs
 
 reply-of-requires : tie.Need-reply-of-requires
 reply-of-requires c κs = search needs
@@ -17,9 +19,39 @@ same-length c = search needs
 
 returns : tie.Need-returns
 returns c =
+    let test = c .before .before .before in
+    bad-place _ _ _ _ (or-true _ (sym (test .before .bad-place .ensures) ∙ test .if1 .taken)) (c .reply-of .ensures) (c .before .malformed .ensures)
+
+thin-pointer-requires : tie.Need-thin-pointer-requires
+thin-pointer-requires c κs = search needs
+
+load-requires : tie.Need-load-requires
+load-requires c κs = search needs
+
+reply-of-requires-2 : tie.Need-reply-of-requires-2
+reply-of-requires-2 c κs = search needs
+
+same-length-2 : tie.Need-same-length-2
+same-length-2 c = search needs
+
+returns-2 : tie.Need-returns-2
+returns-2 c =
     let at = c .before .before .before in
-    (at .load .result, (c .reply-of .ensures, rw (← at .before .before .thin-pointer .ensures) (at .load .ensures)))
+    let read = at .before .before in
+    let test = read .before in
+    rw (← read .thin-pointer .ensures) (good-place _ _ _ _ _ (or-false _ (sym (test .before .bad-place .ensures) ∙ test .if1 .left)) (c .reply-of2 .ensures) (at .load .ensures))
 
 pub tree-borrows-load-spec : {M : Type 1} → statement M
 tree-borrows-load-spec =
-    tie.close (tie.spec thin-pointer-requires load-requires reply-of-requires same-length returns)
+    tie.close
+    (tie.spec
+    bad-place-requires
+    malformed-requires
+    reply-of-requires
+    same-length
+    returns
+    thin-pointer-requires
+    load-requires
+    reply-of-requires-2
+    same-length-2
+    returns-2)

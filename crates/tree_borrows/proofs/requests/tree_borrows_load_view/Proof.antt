@@ -16,7 +16,7 @@ load-view-requires c κs = search needs
 
 returns : tie.Need-returns
 returns c =
-    let same = c .before .load-view .ensures ∙ c .before .before .loaded .ensures _ in
+    let same = c .before .load-view .ensures .loaded ∙ c .before .before .loaded .ensures _ in
     let out = now (c .before .before .before .before .before .args .out) in
     (ap length same, too-short out (c .before .load-view .result .now) (c .if1 .taken) ∙ ap (copiedTo out) same)
 
@@ -29,7 +29,7 @@ same-length c = search needs
 returns-2 : tie.Need-returns-2
 returns-2 c =
     let at = c .before .before .before .before in
-    let same = at .before .load-view .ensures ∙ at .before .before .loaded .ensures _ in
+    let same = at .before .load-view .ensures .loaded ∙ at .before .before .loaded .ensures _ in
     let out = now (at .before .before .before .before .before .args .out) in
     (ap length same, c .before .before .copy-words .ensures ∙ copied out (at .before .load-view .result .now) (at .if1 .left) ∙ ap (copiedTo out) same)
 

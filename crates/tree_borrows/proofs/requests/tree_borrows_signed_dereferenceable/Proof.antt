@@ -1,10 +1,25 @@
--- The answer of `library` at the pointer that the place stands for, as numbers.
-use mathlib.Core.Path.{ap}
+-- 2 for the pointer that the place stands for, after 1; or the answer of `library` at it, as numbers.
+use mathlib.Core.Path.{sym, ap, _∙_}
 use mir.Facts.{toZ-ofZ}
 use Rattle.pointer.specs.Pointer.{back, ahead}
+use Rattle.tree_borrows.proofs.Replies.{bad-place, good-place}
 use borrow.Author.Needs.{needs}
-use Rattle.tree_borrows.proofs.requests.tree_borrows_signed_dereferenceable.Statement.{statement}
+use Rattle.tree_borrows.proofs.requests.tree_borrows_signed_dereferenceable.Statement.{
+  statement,
+}
 use Rattle.tree_borrows.proofs.requests.tree_borrows_signed_dereferenceable.Tie as tie
+
+bad-place-requires : tie.Need-bad-place-requires
+bad-place-requires c κs = search needs
+
+malformed-requires : tie.Need-malformed-requires
+malformed-requires c κs = search needs
+
+reply-of-requires : tie.Need-reply-of-requires
+reply-of-requires c κs = search needs
+
+returns : tie.Need-returns
+returns c = bad-place _ _ _ _ (sym (c .before .before .before .bad-place .ensures) ∙ c .before .before .if1 .taken) (c .reply-of .ensures) (c .before .malformed .ensures)
 
 thin-pointer-requires : tie.Need-thin-pointer-requires
 thin-pointer-requires c κs = search needs
@@ -12,20 +27,26 @@ thin-pointer-requires c κs = search needs
 signed-dereferenceable-requires : tie.Need-signed-dereferenceable-requires
 signed-dereferenceable-requires c κs = search needs
 
-reply-of-requires : tie.Need-reply-of-requires
-reply-of-requires c κs = search needs
+reply-of-requires-2 : tie.Need-reply-of-requires-2
+reply-of-requires-2 c κs = search needs
 
-returns : tie.Need-returns
-returns c =
-    let same = toZ-ofZ (c .before .before .before .before .before .before .before .before .fits .len) in (
-      c .before .signed-dereferenceable .result,
-      (
-        c .reply-of .ensures,
-        rw (← c .before .before .thin-pointer .ensures, ← ap back same, ← ap ahead same) (c .before .signed-dereferenceable .ensures),
-      ),
-    )
+returns-2 : tie.Need-returns-2
+returns-2 c =
+    let at = c .before in
+    let read = at .before in
+    let test = read .before in
+    let same = toZ-ofZ (test .before .before .before .before .before .before .before .fits .len) in
+    rw (← read .thin-pointer .ensures, ← ap back same, ← ap ahead same) (good-place _ _ _ _ _ (sym (test .before .bad-place .ensures) ∙ test .if1 .left) (c .reply-of2 .ensures) (at .signed-dereferenceable .ensures))
 
 pub tree-borrows-signed-dereferenceable-spec : {M : Type 1} → statement M
 tree-borrows-signed-dereferenceable-spec =
     tie.close
-    (tie.spec thin-pointer-requires signed-dereferenceable-requires reply-of-requires returns)
+    (tie.spec
+    bad-place-requires
+    malformed-requires
+    reply-of-requires
+    returns
+    thin-pointer-requires
+    signed-dereferenceable-requires
+    reply-of-requires-2
+    returns-2)

@@ -1,0 +1,33 @@
+-- What a memory and a call start from, on what is lent: 1 for another length, and nothing changes. mem.rs: `new`, `new_call`.
+use Prim.Native.Nat.{ℕ}
+use mathlib.Core.Bool.{Bool, _&&_}
+use mathlib.Core.List.{List, [], _∷_}
+use lib.Dec.{eqb}
+use lib.ListN.{length, replicate}
+use Rattle.definition.specs.Notation.{if_then_else_}
+use Rattle.definition.specs.Refusal.{notWellFormed}
+use Rattle.definition.specs.Frame.{empty}
+use Rattle.definition.specs.Retag.{entryBound}
+use Rattle.answer.specs.declared.Answer.{Answer}
+use Rattle.answer.specs.declared.Answer.the-variants.{Refused, Accepted}
+use Rattle.tables.specs.Encoding.{Buffers, encode}
+
+-- ---- a memory
+abbrev pub haveLengths : Buffers → Bool
+haveLengths b =
+    eqb (length (b .allocs)) 768
+    && (eqb (length (b .parents)) 1024
+    && (eqb (length (b .protectors)) 1024 && (eqb (length (b .words)) 4096 && eqb (length (b .codes)) 32768)))
+
+-- "no allocation made"
+unfoldable pub renewed : Buffers → Answer × Buffers
+renewed b = if haveLengths b then (Accepted, encode (empty .memory)) else (Refused notWellFormed, b)
+
+-- ---- a frame, whose places are lent as two numbers each: allocation and node
+abbrev pub noPlace : List ℕ
+noPlace = 0 ∷ 0 ∷ []
+
+-- none of the places is taken
+unfoldable pub opened : List (List ℕ) → Answer × List (List ℕ)
+opened places =
+    if eqb (length places) entryBound then (Accepted, replicate entryBound noPlace) else (Refused notWellFormed, places)

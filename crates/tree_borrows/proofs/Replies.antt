@@ -1,0 +1,86 @@
+-- From what the called entry comes to, with its fields that fall under 2, to the promise in numbers.
+use Prim.Native.Nat.{ℕ}
+use mathlib.Core.Path.{_≡_, refl, ap, sym, subst⁻¹, _∙_}
+use mathlib.Core.Bool.{Bool, true, false, _||_}
+use mathlib.Core.List.{List}
+use lib.ListN.{length, set}
+use Rattle.definition.specs.Memory as definition
+use Rattle.definition.specs.Memory.{Memory}
+use Rattle.answer.specs.Answer.{Gives, replied}
+use Rattle.answer.specs.Answer.Gives.{ThePointer}
+use Rattle.answer.specs.declared.Answer.{Answer}
+use Rattle.tables.specs.Encoding.{Buffers}
+use Rattle.entries.specs.declared.Entry.{Entry}
+use Rattle.library.specs.Entry.{entered, Entered, malformedAnswer}
+use Rattle.library.proofs.Entered.{malformed-entered}
+use Rattle.retag.specs.Entry as retag
+use Rattle.retag.specs.Settings.{badFields, retagOf}
+use Rattle.retag.specs.Outcome.{malformedOutcome}
+use Rattle.retag.specs.declared.RetagOutcome.{RetagOutcome}
+use Rattle.retag.proofs.Lent as retags
+use Rattle.step.specs.Lengths.{haveLengths}
+use Rattle.run.specs.Lists.{ListRan}
+use Rattle.run.specs.declared.ListRun.{ListRun}
+use Rattle.run.specs.declared.ListRun.the-variants as ran
+use Rattle.tree_borrows.specs.declared.numbers.ListReply.{ListReply}
+use Rattle.tree_borrows.specs.declared.numbers.Place.{Place}
+use Rattle.tree_borrows.specs.declared.numbers.Reply.{Reply}
+use Rattle.tree_borrows.specs.declared.numbers.RetagMade.{RetagMade}
+use Rattle.tree_borrows.specs.declared.numbers.Settings.{Settings}
+use Rattle.tree_borrows.specs.Numbers.{pointerOf, badPlace, settingsOf, badFlags, replyOf, Replied, madeOf, RetagReplied, listReplyOf, listRunOf, ListReplied}
+
+-- an outcome of the called entry, in numbers
+pub in-numbers : {X : Type 0} {r : Reply} {a : Answer} {left : X} {outcome : Answer × X} → r ≡ replyOf a → _≡_ {A = Answer × X} (a, left) outcome → Replied r left outcome
+in-numbers {X} {left = left} q k = (λ i. (q i, left)) ∙ ap (λ (o : Answer × X). (replyOf (o .0), o .1)) k
+
+-- two tests of fields, where the first is known
+pub or-true : {t : Bool} (more : Bool) → t ≡ true → t || more ≡ true
+or-true more e = ap (λ (t : Bool). t || more) e
+
+pub or-false : {t : Bool} (more : Bool) → t ≡ false → t || more ≡ more
+or-false more e = ap (λ (t : Bool). t || more) e
+
+-- the fields: `all` is the test of all of them
+module _ (gives : Gives) (all : Bool) (request : Memory → definition.Answer × Memory) (b : Buffers) where
+  -- one that only C has falls under 2
+  pub bad-place : all ≡ true → {a : Answer} {r : Reply} → r ≡ replyOf a → a ≡ malformedAnswer b → Replied r b (replied gives (entered all request b))
+  bad-place e {a} q f = rw e (in-numbers (q ∙ ap replyOf f) (malformed-entered gives request b))
+
+  -- none does
+  pub good-place : (bad : Bool) → all ≡ bad → {a : Answer} {r : Reply} {b′ : Buffers} → r ≡ replyOf a → Entered gives bad request b a b′
+      → Replied r b′ (replied gives (entered all request b))
+  good-place bad e q k = rw e (in-numbers q k)
+
+-- ---- a retag
+module _ (settings : Settings) (p : Place) (layout : List ℕ) (len count : ℕ) (b : Buffers) {made : RetagMade} (o : RetagOutcome) (is : made ≡ madeOf o)
+    (places : List Entry) (whole : length places ≡ len) where
+  abbrev Promised : RetagMade → Buffers → Type 0
+  Promised made b′ = RetagReplied settings p layout (retag.lent places count b) (made .answer) (set places (made .at) (made .entry)) b′
+
+  pub bad-retag : badPlace p || badFlags settings ≡ true → o ≡ malformedOutcome len count b → Promised made b
+  bad-retag e f =
+      rw (is, f, e)
+      (ap (λ (x : Answer × retag.Lent). (replyOf (x .0), x .1)) (retags.malformed-entered len count b (retagOf (settingsOf settings) (pointerOf p) layout) places whole))
+
+  pub good-retag : badPlace p || badFlags settings ≡ false → {b′ : Buffers}
+      → retag.Entered (settingsOf settings) (pointerOf p) layout (retag.lent places count b) (o .answer) (set places (o .at) (o .entry)) b′ → Promised made b′
+  good-retag e k = rw (is, e) (ap (λ (x : Answer × retag.Lent). (replyOf (x .0), x .1)) k)
+
+-- ---- a list
+module _ {l : List (List ℕ)} {lent : Buffers} {lentF before : List ℕ} {a : ListRun} {b : Buffers} {F out : List ℕ} (k : ListRan l lent lentF before a b F out) where
+  answered-back : (at : ℕ) (whole : Bool) → listRunOf (listReplyOf (ran.Answered at whole)) ≡ ran.Answered at whole
+  answered-back at true = refl
+  answered-back at false = refl
+
+  -- the reply stands for its answer
+  list-back : listRunOf (listReplyOf a) ≡ a
+  list-back = by (haveLengths lent lentF) refl
+    where
+      by : (t : Bool) → haveLengths lent lentF ≡ t → listRunOf (listReplyOf a) ≡ a
+      by true e = subst⁻¹ (λ (x : ListRun). listRunOf (listReplyOf x) ≡ x) (k .ran e .1 .0) (answered-back (k .ran e .0 .at) (k .ran e .0 .whole))
+      by false e = subst⁻¹ (λ (x : ListRun). listRunOf (listReplyOf x) ≡ x) (k .refused e .0) refl
+
+  pub list-replied : {r : ListReply} → r ≡ listReplyOf a → ListReplied r (λ x. ListRan l lent lentF before x b F out)
+  list-replied q =
+      let back = ap listRunOf q ∙ list-back in
+      (q ∙ ap listReplyOf (sym back), subst⁻¹ (λ (x : ListRun). ListRan l lent lentF before x b F out) back k)
