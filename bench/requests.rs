@@ -4,41 +4,23 @@ use std::hint::black_box;
 use std::io::Write;
 use std::process::{Command, Stdio};
 use std::time::Instant;
-
-#[path = "../oracle/lent/src/run_list.rs"]
-mod run_list;
-
-use run_list::{ListReply, run_list};
+use tree_borrows::Buffers;
+use tree_borrows::raw::{FRAMES, ListReply};
 
 /// The buffers of a run.
 struct Lent {
-    allocs: Vec<u64>,
-    parents: Vec<u16>,
-    protectors: Vec<u8>,
-    words: Vec<u32>,
-    codes: Vec<u8>,
+    memory: Buffers,
     frames: Vec<u32>,
     answers: Vec<u32>,
 }
 
 impl Lent {
     fn new() -> Lent {
-        Lent {
-            allocs: vec![0; 768],
-            parents: vec![0; 1024],
-            protectors: vec![0; 1024],
-            words: vec![0; 4096],
-            codes: vec![0; 32768],
-            frames: vec![0; 2080],
-            answers: vec![0; 1 << 22],
-        }
+        Lent { memory: Buffers::new(), frames: vec![0; FRAMES], answers: vec![0; 1 << 22] }
     }
 
     fn run(&mut self, list: &List) -> ListReply {
-        run_list(
-            &mut self.allocs, &mut self.parents, &mut self.protectors, &mut self.words, &mut self.codes, &mut self.frames, &list.words, &list.ends,
-            &mut self.answers,
-        )
+        self.memory.run_list(&mut self.frames, &list.words, &list.ends, &mut self.answers)
     }
 
     /// Some answer of the last list is a refusal.

@@ -3,9 +3,8 @@
 // lent for them is empty.
 use std::hint::black_box;
 use std::time::Instant;
-
-#[path = "../oracle/lent/src/run_list.rs"]
-mod run_list;
+use tree_borrows::Buffers;
+use tree_borrows::raw::FRAMES;
 
 const BYTES: usize = 4096;
 const LOADS: usize = 100;
@@ -32,33 +31,19 @@ fn look_up(codes: &[u8]) -> u8 {
 
 // The buffers of a run.
 struct Lent {
-    allocs: Vec<u64>,
-    parents: Vec<u16>,
-    protectors: Vec<u8>,
-    words: Vec<u32>,
-    codes: Vec<u8>,
+    memory: Buffers,
     frames: Vec<u32>,
 }
 
 impl Lent {
     fn new() -> Lent {
-        Lent {
-            allocs: vec![0; 768],
-            parents: vec![0; 1024],
-            protectors: vec![0; 1024],
-            words: vec![0; 4096],
-            codes: vec![0; 32768],
-            frames: vec![0; 2080],
-        }
+        Lent { memory: Buffers::new(), frames: vec![0; FRAMES] }
     }
 
     // The nanoseconds that a list takes; none of its answers is written.
     fn time(&mut self, words: &[u32], ends: &[u32]) -> f64 {
         let start = Instant::now();
-        let reply = black_box(run_list::run_list(
-            &mut self.allocs, &mut self.parents, &mut self.protectors, &mut self.words, &mut self.codes, &mut self.frames,
-            black_box(words), black_box(ends), &mut [],
-        ));
+        let reply = black_box(self.memory.run_list(&mut self.frames, black_box(words), black_box(ends), &mut []));
         let taken = start.elapsed().as_nanos() as f64;
         assert!(reply.refusal == 0 && reply.at == 0);
         taken
@@ -93,9 +78,9 @@ fn compare(name: &str, before: &[Vec<u32>], node: u32) {
     let (one_words, one_ends) = list(&[before.to_vec(), vec![load(node)]].concat());
     lent.time(&words, &ends);
     lent.time(&one_words, &one_ends);
-    let codes = lent.codes.clone();
+    let codes = lent.memory.codes.clone();
     lent.time(&all_words, &all_ends);
-    assert_eq!(lent.codes, codes, "{name}: a load changed a code");
+    assert_eq!(lent.memory.codes, codes, "{name}: a load changed a code");
     let count = BYTES * (node as usize + 1);
     let (mut with, mut without, mut plain) = (f64::INFINITY, f64::INFINITY, f64::INFINITY);
     for _ in 0..RUNS {

@@ -6,9 +6,10 @@ cd "$(dirname "$0")/.."
 export RUSTC_BOOTSTRAP=1
 export TREE_BORROWS_LIB="${TREE_BORROWS_LIB:-$PWD/../target/staticlib}"
 work=target/lent-slips
-rm -rf "$work/src"
-mkdir -p "$work/src"
+rm -rf "$work/src" "$work/examples"
+mkdir -p "$work/src" "$work/examples"
 cp -r runs tools lent "$work/src/"
+cp -r ../examples/rust "$work/examples/"
 printf '[workspace]\nresolver = "2"\nmembers = ["runs", "tools", "lent"]\n' > "$work/src/Cargo.toml"
 missed=0
 
@@ -65,6 +66,11 @@ slip "the working area stays" call.rs 's/Call::EndCall => after.area.fill(0)/Cal
 slip "1 clears the working area" call.rs 's/return (refused(1), lent.clone());/return (refused(1), Lent { area: vec![0; lent.area.len()], ..lent.clone() });/'
 slip "a retag enters nothing" call.rs 's/Call::Retag { .. } => after.frame.write(.*/Call::Retag { .. } => {}/'
 slip "loaded words one place late" call.rs 's/+ at.address - own\[3\];/+ at.address - own[3] + 1;/'
+slip "a pointer's flag of 2" call.rs 's/at.provenance > 1/at.provenance > 2/'
+slip "a retag's flag of 2" call.rs 's/|flag| \*flag > 1/|flag| *flag > 2/'
+slip "a name without provenance" call.rs 's/ || at.provenance == 0 && (at.allocation, at.node) != (0, 0)//'
+slip "new leaves the memory" call.rs 's/Lent { buffers: encode(&Reference::new()), ..lent.clone() }/lent.clone()/'
+slip "new_call leaves the places" call.rs 's/Lent { frame: Frame::of(&\[\]), ..lent.clone() }/lent.clone()/'
 
 echo "not found: $missed"
 [ "$missed" = 0 ]

@@ -2,21 +2,12 @@
 //! from the table of buffers in the project's decisions, not from the library.
 
 use runs::reference::{Alloc, Node, Reference};
+use tree_borrows::Buffers;
 
 pub const ALLOCS: usize = 128 * 6;
 pub const NODES: usize = 1024;
 pub const WORDS: usize = 4096;
 pub const CODES: usize = 32768;
-
-#[derive(Clone, PartialEq)]
-pub struct Buffers {
-    /// For each allocation: state (1 live, 2 dead), kind, exponent, address, size, number of nodes.
-    pub allocs: Vec<u64>,
-    pub parents: Vec<u16>,
-    pub protectors: Vec<u8>,
-    pub words: Vec<u32>,
-    pub codes: Vec<u8>,
-}
 
 /// One allocation's part after the other's, and zeros behind the last.
 pub fn encode(m: &Reference) -> Buffers {
@@ -40,17 +31,14 @@ pub fn encode(m: &Reference) -> Buffers {
     b
 }
 
-impl Buffers {
-    pub fn have_their_lengths(&self) -> bool {
-        let b = self;
-        let lengths = [b.allocs.len(), b.parents.len(), b.protectors.len(), b.words.len(), b.codes.len()];
-        lengths == [ALLOCS, NODES, NODES, WORDS, CODES]
-    }
+pub fn have_lengths(b: &Buffers) -> bool {
+    let lengths = [b.allocs.len(), b.parents.len(), b.protectors.len(), b.words.len(), b.codes.len()];
+    lengths == [ALLOCS, NODES, NODES, WORDS, CODES]
 }
 
 /// The memory that the buffers hold, if they are well formed.
 pub fn decode(b: &Buffers) -> Option<Reference> {
-    if !b.have_their_lengths() {
+    if !have_lengths(b) {
         return None;
     }
     let mut m = Reference::new();

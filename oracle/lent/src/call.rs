@@ -1,22 +1,22 @@
 //! One call of an entry: drawn, made, and answered by the reference.
 
-use crate::buffers::{decode, encode, valid_word};
+use crate::buffers::{decode, encode, have_lengths, valid_word};
 use crate::lent::{Frame, Lent, AREA, PLACES};
-use crate::library::{self, Place, Reply, RetagSettings};
 use runs::deep::{self, Style};
 use runs::random::Random;
 use runs::reference::{Answer, Reference, Third};
 use runs::words::{self, Flags, Ptr, Words};
+use tree_borrows::raw::{Place, Reply, RetagSettings};
 
 #[derive(Clone, Debug, PartialEq)]
 pub enum Call {
     New,
-    NewCall,
     Allocate { kind: u64, len: u64, exponent: u64, address: u64 },
     Deallocate { at: Place, kind: u64, len: u64, exponent: u64 },
     Load { at: Place, len: u64, exponent: u64 },
     Store { at: Place, bytes: Vec<u32>, exponent: u64 },
     Retag { at: Place, settings: RetagSettings, layout: Vec<u32> },
+    NewCall,
     EndCall,
     Dereferenceable { at: Place, len: u64 },
     SignedDereferenceable { at: Place, len: i64 },
@@ -41,9 +41,6 @@ pub fn draw(r: &mut Random, m: &Reference, kinds: [u64; 10]) -> (Call, Frame) {
         let frame = named.map_or_else(|| Frame::draw(r, m), Frame::of);
         if r.one_in(8) {
             call.widen(r);
-        }
-        if r.one_in(40) {
-            call = r.pick(&[Call::New, Call::NewCall].each_ref()).clone();
         }
         return (call, frame);
     }
@@ -103,7 +100,7 @@ impl Call {
             Call::SignedDereferenceable { len, .. } if field < 1 => *len = number as i64,
             Call::Retag { settings, .. } if field < 1 => match r.below(3) {
                 0 => settings.extra = number as u32,
-                1 => settings.unpin = 1 - settings.unpin,
+                1 => settings.unpin ^= 1,
                 _ => settings.function_entry = 1,
             },
             Call::Retag { layout, .. } if field < 2 => layout.resize(4097 + r.index(3), 0),
@@ -116,44 +113,43 @@ impl Call {
                 _ => {}
             }
         }
-        if r.one_in(4) {
-            self.spoil_flag(r);
-        }
     }
 
-    /// A flag becomes a number that is none.
-    fn spoil_flag(&mut self, r: &mut Random) {
-        let wrong = r.pick(&[2, 3, 128, 255]) as u8;
+    /// A flag is neither 0 nor 1, or a pointer without provenance names something.
+    fn is_outside_lists(&self) -> bool {
+        let bad_place =
+            |at: &Place| at.provenance > 1 || at.provenance == 0 && (at.allocation, at.node) != (0, 0);
         match self {
-            Call::Retag { settings, .. } if r.one_in(2) => {
-                let flags = [&mut settings.function_entry, &mut settings.unpin, &mut settings.freeze];
-                *flags.into_iter().nth(r.index(3)).expect("one of three") = wrong;
+            Call::Deallocate { at, .. } | Call::Load { at, .. } | Call::Store { at, .. } => bad_place(at),
+            Call::Dereferenceable { at, .. } | Call::SignedDereferenceable { at, .. } => bad_place(at),
+            Call::Retag { at, settings: s, .. } => {
+                bad_place(at) || [s.function_entry, s.unpin, s.freeze].iter().any(|flag| *flag > 1)
             }
-            _ => {
-                if let Some(at) = self.place() {
-                    at.provenance = wrong;
-                }
-            }
+            Call::New | Call::Allocate { .. } | Call::NewCall | Call::EndCall | Call::LeakCheck => false,
         }
     }
 
-    /// 2, of what no run holds: a flag other than 0 and 1.
-    fn has_a_bad_flag(&self) -> bool {
-        let mut call = self.clone();
-        let place = call.place().is_some_and(|at| at.provenance > 1);
-        let flags = match self {
-            Call::Retag { settings, .. } => {
-                [settings.function_entry, settings.unpin, settings.freeze].iter().any(|&flag| flag > 1)
-            }
-            _ => false,
-        };
-        place || flags
-    }
-
-    /// 2, of a pointer without provenance: it names an allocation or node.
-    fn names_without_provenance(&self) -> bool {
-        let mut call = self.clone();
-        call.place().is_some_and(|at| at.provenance == 0 && (at.allocation, at.node) != (0, 0))
+    /// Takes a flag or a name out of its list, where the call has one, and says how.
+    pub fn leave_lists(&mut self, r: &mut Random) -> Option<&'static str> {
+        let other = r.pick(&[2, 3, 128, 254, 255]);
+        if let (Call::Retag { settings, .. }, true) = (&mut *self, r.one_in(2)) {
+            let (flag, name) = match r.below(3) {
+                0 => (&mut settings.function_entry, "function entry neither 0 nor 1"),
+                1 => (&mut settings.unpin, "unpin neither 0 nor 1"),
+                _ => (&mut settings.freeze, "freeze neither 0 nor 1"),
+            };
+            *flag = other;
+            return Some(name);
+        }
+        let at = self.place()?;
+        if r.one_in(2) {
+            at.provenance = other;
+            return Some("provenance neither 0 nor 1");
+        }
+        let name = r.range(1, 5) as u32;
+        let (allocation, node) = r.pick(&[(name, 0), (0, name), (name, name), (u32::MAX, 0), (0, 1 << 31)]);
+        *at = Place { provenance: 0, allocation, node, ..*at };
+        Some("a name without provenance")
     }
 
     fn place(&mut self) -> Option<&mut Place> {
@@ -167,48 +163,58 @@ impl Call {
 
     pub fn name(&self) -> &'static str {
         match self {
+            Call::New => "new",
             Call::Allocate { .. } => "allocate",
             Call::Deallocate { .. } => "deallocate",
             Call::Load { .. } => "load",
             Call::Store { .. } => "store",
             Call::Retag { .. } => "retag",
+            Call::NewCall => "new_call",
             Call::EndCall => "end_call",
             Call::Dereferenceable { .. } => "dereferenceable",
             Call::SignedDereferenceable { .. } => "signed_dereferenceable",
             Call::LeakCheck => "leak_check",
-            Call::New => "new",
-            Call::NewCall => "new_call",
         }
     }
 
-    /// Calls the entry.
+    /// Calls the entry. A frame has as many entries after a retag as the library says.
     pub fn make(&self, lent: &mut Lent) -> Reply {
-        let b = &mut lent.buffers;
+        let (b, frame) = (&mut lent.buffers, &mut lent.frame);
         match *self {
-            Call::Allocate { kind, len, exponent, address } => {
-                library::allocate(b, kind, len, exponent, address)
-            }
-            Call::Deallocate { at, kind, len, exponent } => library::deallocate(b, at, kind, len, exponent),
-            Call::Load { at, len, exponent } => library::load(b, at, len, exponent),
-            Call::Store { at, ref bytes, exponent } => library::store(b, at, bytes, exponent),
+            Call::New => b.empty(),
+            Call::Allocate { kind, len, exponent, address } => b.allocate(kind, len, exponent, address),
+            Call::Deallocate { at, kind, len, exponent } => b.deallocate(at, kind, len, exponent),
+            Call::Load { at, len, exponent } => b.load(at, len, exponent),
+            Call::Store { at, ref bytes, exponent } => b.store(at, bytes, exponent),
             Call::Retag { at, settings, ref layout } => {
-                library::retag(b, &mut lent.frame, layout, at, settings)
+                let made = b.retag(&mut frame.places, frame.count, layout, at, settings);
+                frame.count = made.count;
+                made.reply
             }
-            Call::EndCall => library::end_call(b, &lent.frame, &mut lent.area),
-            Call::Dereferenceable { at, len } => library::dereferenceable(b, at, len),
-            Call::SignedDereferenceable { at, len } => library::signed_dereferenceable(b, at, len),
-            Call::LeakCheck => library::leak_check(b),
-            Call::New => library::new(b),
-            Call::NewCall => library::new_call(&mut lent.frame),
+            Call::NewCall => {
+                let made = tree_borrows::new_call(&mut frame.places);
+                assert_eq!(made.count, 0);
+                frame.count = if made.reply.refusal == 0 { 0 } else { frame.count };
+                made.reply
+            }
+            Call::EndCall => b.end_call(&frame.places, frame.count, &mut lent.area),
+            Call::Dereferenceable { at, len } => b.dereferenceable(at, len),
+            Call::SignedDereferenceable { at, len } => b.signed_dereferenceable(at, len),
+            Call::LeakCheck => b.leak_check(),
         }
     }
 
     /// What document 01 says of the call, and what is lent afterwards: 1, and nothing changes; else what the reference
     /// answers on the memory that the buffers hold, with the frame as number 0.
     pub fn outcome(&self, lent: &Lent) -> (Answer, Lent) {
-        if let Some(started) = self.started(lent) {
-            return started;
+        match self {
+            Call::New => new(lent),
+            Call::NewCall => new_call(lent),
+            _ => self.outcome_on_memory(lent),
         }
+    }
+
+    fn outcome_on_memory(&self, lent: &Lent) -> (Answer, Lent) {
         let memory = if self.has_its_lengths(lent) { decode(&lent.buffers) } else { None };
         let Some(mut m) = memory else {
             return (refused(1), lent.clone());
@@ -223,23 +229,6 @@ impl Call {
             _ => {}
         }
         (answer, after)
-    }
-
-    /// What a memory and a call start from, whatever was there: 1 for another length, else zeros.
-    fn started(&self, lent: &Lent) -> Option<(Answer, Lent)> {
-        let mut after = lent.clone();
-        let has_its_length = match self {
-            Call::New => {
-                after.buffers = encode(&Reference::new());
-                lent.buffers.have_their_lengths()
-            }
-            Call::NewCall => {
-                after.frame = Frame::of(&[]);
-                lent.frame.places.len() == PLACES
-            }
-            _ => return None,
-        };
-        Some(if has_its_length { (refused(0), after) } else { (refused(1), lent.clone()) })
     }
 
     /// Of what is lent beside the memory.
@@ -266,7 +255,7 @@ impl Call {
 
     fn answer(&self, m: &mut Reference) -> Answer {
         match self {
-            _ if self.has_a_bad_flag() || self.names_without_provenance() => refused(2),
+            _ if self.is_outside_lists() => refused(2),
             Call::Allocate { kind, len, exponent, address } if *len > u32::MAX as u64 => {
                 let bad = *kind > 4 || *exponent > 29;
                 let pick = || could_be_picked(m, *address as u128, *len as u128, *exponent);
@@ -287,7 +276,7 @@ impl Call {
 
     /// A run can make the request, and means the same by it.
     pub fn fits_a_run(&self) -> bool {
-        Call::of(&self.words()).as_ref() == Some(self)
+        !matches!(self, Call::New | Call::NewCall) && Call::of(&self.words()).as_ref() == Some(self)
     }
 
     /// The request that has the call's answer. Where a number of the call fits no run, another one stands for it:
@@ -323,20 +312,37 @@ impl Call {
                 let flags = Flags { frame, unpin: settings.unpin == 1, freeze: settings.freeze == 1 };
                 words::retag(ptr(at), settings.extra, flags, &layout[..layout.len().min(4096)])
             }
+            Call::New => Words::new(),
+            Call::NewCall => words::new_call(0),
             Call::EndCall => words::end_call(0),
             Call::Dereferenceable { at, len } => words::dereferenceable(ptr(at), length(*len)),
             Call::SignedDereferenceable { at, len } => {
                 let len = (*len).clamp(i32::MIN as i64, i32::MAX as i64) as i32;
                 words::signed_dereferenceable(ptr(at), len)
             }
-            // no run has words for the first; a new call's say nothing of what is lent
-            Call::New | Call::NewCall | Call::LeakCheck => words::leak_check(),
+            Call::LeakCheck => words::leak_check(),
         }
     }
 }
 
 fn refused(refusal: u8) -> Answer {
     Answer { refusal, third: Third::None }
+}
+
+/// The empty memory, whatever the buffers hold; 1 for another length.
+fn new(lent: &Lent) -> (Answer, Lent) {
+    if !have_lengths(&lent.buffers) {
+        return (refused(1), lent.clone());
+    }
+    (refused(0), Lent { buffers: encode(&Reference::new()), ..lent.clone() })
+}
+
+/// No entries, and places that are zero, whatever they hold; 1 for another number of places.
+fn new_call(lent: &Lent) -> (Answer, Lent) {
+    if lent.frame.places.len() != PLACES {
+        return (refused(1), lent.clone());
+    }
+    (refused(0), Lent { frame: Frame::of(&[]), ..lent.clone() })
 }
 
 /// `pick`'s test, for lengths that no run holds.
@@ -359,7 +365,8 @@ pub fn third(reply: &Reply, lent: &Lent) -> Third {
     }
 }
 
-/// Does the reply to the call say what the answer says? An accepted load of no bytes names none of the data, from its start.
+/// Does the reply to the call say what the answer says? An accepted load of no bytes names none of the data, from its
+/// start.
 pub fn agrees(call: &Call, reply: &Reply, answer: &Answer, lent: &Lent) -> bool {
     let given = |gives, first, second| Reply { refusal: answer.refusal, gives, first, second };
     match (&answer.third, call) {

@@ -1,11 +1,12 @@
 //! Damage to what is lent: one number of a buffer or its length, or what is wrong with a frame. Each kind has a name.
 
-use crate::buffers::{valid_word, Buffers};
+use crate::buffers::valid_word;
 use crate::call::Call;
 use crate::lent::{Lent, AREA, PLACES};
-use crate::library::Entry;
 use runs::random::Random;
 use runs::reference::Reference;
+use tree_borrows::raw::Entry;
+use tree_borrows::Buffers;
 
 /// Damages the buffers, which hold the memory, and says how.
 pub fn damage(r: &mut Random, m: &Reference, b: &mut Buffers) -> String {
@@ -308,7 +309,7 @@ fn wrong_entry(r: &mut Random, m: &Reference, lent: &mut Lent) -> &'static str {
     name
 }
 
-fn wrong_list(r: &mut Random, lent: &mut Lent) -> &'static str {
+pub fn wrong_list(r: &mut Random, lent: &mut Lent) -> &'static str {
     let frame = &mut lent.frame;
     match r.below(5) {
         0 => {

@@ -1,9 +1,9 @@
 //! What a caller lends: the five buffers, a frame's entries, and an end call's working area.
 
-use crate::buffers::Buffers;
-use crate::library::Entry;
 use runs::random::Random;
 use runs::reference::Reference;
+use tree_borrows::raw::Entry;
+use tree_borrows::Buffers;
 
 pub const AREA: usize = 32768;
 pub const PLACES: usize = 64;

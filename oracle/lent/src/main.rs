@@ -6,13 +6,11 @@ mod call;
 mod counts;
 mod damage;
 mod lent;
-mod library;
 
 use buffers::{decode, encode};
 use call::{agrees, Call};
 use counts::Counts;
 use lent::{Lent, AREA};
-use library::Reply;
 use runs::random::Random;
 use runs::reference::{next_request, Reference, Third};
 use runs::{generate, start, words};
@@ -20,6 +18,7 @@ use std::collections::VecDeque;
 use std::time::{Duration, Instant};
 use tools::arguments::Arguments;
 use tools::program::Program;
+use tree_borrows::raw::Reply;
 
 const USAGE: &str = "usage: lent [--seed S] [--count N] [--from I] [--damages D] [--no-oracle] [--show N]
   Memories I to I + N - 1 of the seed. Each is lent once as it is, D times damaged in one number (4), and once with a
@@ -63,6 +62,7 @@ struct Comparison {
     as_they_are: Counts,
     damaged: Counts,
     wrong_frames: Counts,
+    at_boundary: Counts,
     damaged_but_formed: u64,
     views: u64,
     with_oracle: u64,
@@ -85,6 +85,7 @@ impl Comparison {
             as_they_are: Counts::default(),
             damaged: Counts::default(),
             wrong_frames: Counts::default(),
+            at_boundary: Counts::default(),
             damaged_but_formed: 0,
             views: 0,
             with_oracle: 0,
@@ -114,7 +115,27 @@ impl Comparison {
         let name = damage::wrong_frame(r, &m, &call, &mut lent);
         let (reply, after) = self.compare(index, &name, &call, &lent);
         self.wrong_frames.add(&name, reply.refusal);
-        self.ask_oracle(&m, &call, &lent, &reply, &after)
+        self.ask_oracle(&m, &call, &lent, &reply, &after)?;
+        self.boundary(&m, seed, index);
+        Ok(())
+    }
+
+    /// Numbers that only the boundary to C can hand over, and the two entries that no request stands for.
+    fn boundary(&mut self, m: &Reference, seed: u64, index: u64) {
+        let r = &mut Random::new(seed.rotate_left(32), index);
+        let (mut call, lent) = lend(r, m, KINDS);
+        if let Some(name) = call.leave_lists(r) {
+            let (reply, _) = self.compare(index, name, &call, &lent);
+            self.at_boundary.add(&format!("{}: {name}", call.name()), reply.refusal);
+        }
+        let (_, mut lent) = lend(r, m, KINDS);
+        let name = damage::damage(r, m, &mut lent.buffers);
+        let (reply, _) = self.compare(index, &name, &Call::New, &lent);
+        self.at_boundary.add("new", reply.refusal);
+        let (_, mut lent) = lend(r, m, FRAMES);
+        let name = damage::wrong_list(r, &mut lent);
+        let (reply, _) = self.compare(index, name, &Call::NewCall, &lent);
+        self.at_boundary.add(&format!("new_call: {name}"), reply.refusal);
     }
 
     /// Calls the entry, and holds its reply and all that was lent against what the reference says.
@@ -148,7 +169,7 @@ impl Comparison {
         if words.len() <= out.len() {
             expected[..words.len()].copy_from_slice(&words);
         }
-        let count = library::load_view(&after.buffers.words, *reply, &mut out);
+        let count = after.buffers.load_view(*reply, &mut out);
         self.views += 1;
         if count != words.len() || out != expected {
             self.differences += 1;
@@ -206,7 +227,9 @@ impl Comparison {
         self.damaged.print("memories damaged, by damage and refusal");
         println!("  still well formed by document 01: {}", self.damaged_but_formed);
         self.wrong_frames.print("frames that are wrong, by what is wrong and refusal");
-        let calls = self.as_they_are.total() + self.damaged.total() + self.wrong_frames.total();
+        self.at_boundary.print("at the boundary to C, by what is wrong and refusal");
+        let counts = [&self.as_they_are, &self.damaged, &self.wrong_frames, &self.at_boundary];
+        let calls: u64 = counts.iter().map(|count| count.total()).sum();
         println!(
             "{:.1} microseconds in the library for a call",
             self.in_library.as_secs_f64() * 1e6 / calls as f64

@@ -4,31 +4,14 @@
 #[allow(dead_code)]
 #[path = "../buffers.rs"]
 mod buffers;
-#[path = "../run_list.rs"]
-mod run_list;
 
-use buffers::Buffers;
-use run_list::run_list;
 use runs::reference::next_request;
 use std::cell::RefCell;
 use std::fmt::Write;
 use tools::framing;
+use tree_borrows::Buffers;
 
 const FRAMES: usize = 32 * 65;
-
-#[repr(C)]
-struct Reply {
-    refusal: u8,
-    gives: u8,
-    first: u64,
-    second: u64,
-}
-
-extern "C" {
-    fn tree_borrows_leak_check(
-        allocs: *const u64, _: usize, parents: *const u16, _: usize, protectors: *const u8, _: usize, words: *const u32, _: usize, codes: *const u8, _: usize,
-    ) -> Reply;
-}
 
 /// Everything that is lent.
 struct Lent {
@@ -52,22 +35,13 @@ impl Lent {
 
     fn run(&mut self, words: &[u32], ends: &[u32]) {
         self.answers.resize(ends.len() * (5 + buffers::WORDS), 0);
-        let m = &mut self.memory;
-        let reply = run_list(
-            &mut m.allocs, &mut m.parents, &mut m.protectors, &mut m.words, &mut m.codes, &mut self.frames, words, ends, &mut self.answers,
-        );
+        let reply = self.memory.run_list(&mut self.frames, words, ends, &mut self.answers);
         assert!(reply.refusal == 0 && reply.whole == 1 && reply.at <= self.answers.len());
     }
 
     /// The allocation that a leak check names.
     fn leak(&self) -> u64 {
-        let m = &self.memory;
-        let reply = unsafe {
-            tree_borrows_leak_check(
-                m.allocs.as_ptr(), m.allocs.len(), m.parents.as_ptr(), m.parents.len(), m.protectors.as_ptr(), m.protectors.len(), m.words.as_ptr(), m.words.len(),
-                m.codes.as_ptr(), m.codes.len(),
-            )
-        };
+        let reply = self.memory.leak_check();
         assert_eq!((reply.refusal, reply.gives, reply.second), (25, 3, 0));
         reply.first
     }

@@ -1,0 +1,73 @@
+//! An argument of a call is protected, so a write through another pointer is refused while the call lasts.
+//! First request by request on a memory of our own, then a whole run as one list. examples/c/protected.c is
+//! the same in C, and prints the same.
+
+use tree_borrows::{
+    byte, Align, FrameNumber, Given, List, Memory, MemoryKind, Pointee, Pointer, PointerKind,
+};
+use tree_borrows::{Provenance, Refusal};
+
+const ADDRESS: u64 = 0x10;
+
+fn main() -> Result<(), Refusal> {
+    request_by_request()?;
+    as_one_list();
+    Ok(())
+}
+
+fn request_by_request() -> Result<(), Refusal> {
+    let mut memory = Memory::new();
+    println!("new: 0");
+    let root = memory.allocate(MemoryKind::Heap, 1, Align::ONE, ADDRESS)?;
+    println!("allocate: 0, {}", name(root));
+
+    let mut frame = memory.new_call();
+    println!("new call: 0");
+    let x = memory.retag_argument(&mut frame, root, PointerKind::MutableReference, &Pointee::of::<u8>())?;
+    println!("retag: 0, {}", name(x));
+
+    memory.store(x, &[byte(1)], Align::ONE)?;
+    println!("store through the argument: 0");
+    let refused = memory.store(root, &[byte(2)], Align::ONE).expect_err("the argument has written the byte");
+    println!("store through the root: {}", refused.number());
+    memory.end_call(&mut frame)?;
+    println!("end call: 0");
+    memory.store(root, &[byte(2)], Align::ONE)?;
+    println!("store through the root: 0");
+
+    let words = memory.load(root, 1, Align::ONE)?;
+    println!("load: 0\nloaded: {:08x}", words[0]);
+
+    let leak = memory.leak().expect("the allocation is live");
+    println!("leak check: {}\nleaks: allocation {leak}", Refusal::MemoryLeak.number());
+    memory.deallocate(root, MemoryKind::Heap, 1, Align::ONE)?;
+    println!("deallocate: 0");
+    assert_eq!(memory.leak(), None);
+    println!("leak check: 0");
+    Ok(())
+}
+
+/// Allocation and node of a pointer.
+fn name(pointer: Pointer) -> String {
+    pointer.provenance.map_or("-".into(), |named| format!("{}.{}", named.allocation, named.node))
+}
+
+fn as_one_list() {
+    let named = |node| Pointer { address: ADDRESS, provenance: Some(Provenance { allocation: 0, node }) };
+    let (root, x) = (named(0), named(1));
+    let call = FrameNumber::new(0).expect("there are 32");
+
+    let mut list = List::new();
+    list.allocate(MemoryKind::Heap, 1, Align::ONE, ADDRESS);
+    list.new_call(call);
+    list.retag_argument(call, root, PointerKind::MutableReference, &Pointee::of::<u8>());
+    list.store(x, &[byte(1)], Align::ONE);
+    list.store(root, &[byte(2)], Align::ONE);
+    list.end_call(call);
+    list.load(x, 1, Align::ONE);
+
+    let outcome = list.run();
+    let numbers = outcome.answers.iter().map(|answer| answer.as_ref().map_or_else(|r| r.number(), |_| 0));
+    println!("list: {}", numbers.map(|number| number.to_string()).collect::<Vec<_>>().join(" "));
+    assert_eq!(outcome.answers.last(), Some(&Ok(Given::Words(vec![byte(1)]))));
+}

@@ -1,0 +1,285 @@
+//! The wrapper against what docs/FORMAT.md and include/tree_borrows.h say.
+
+#![allow(clippy::single_range_in_vec_init, clippy::reversed_empty_ranges)]
+
+use std::mem::{offset_of, size_of};
+use tree_borrows::raw::{Entry, ListReply, Place, Reply, RetagReply, RetagSettings};
+use tree_borrows::{
+    byte, Align, Buffers, FrameNumber, Given, List, Memory, MemoryKind, Metadata, Part, Pointee,
+};
+use tree_borrows::{Pointer, PointerKind, Provenance, Refusal, Shape, UNINITIALISED};
+
+fn pointer(address: u64, allocation: u32, node: u32) -> Pointer {
+    Pointer { address, provenance: Some(Provenance { allocation, node }) }
+}
+
+fn words(list: &List) -> Vec<u32> {
+    let bytes = list.to_bytes();
+    bytes.chunks_exact(4).map(|word| u32::from_be_bytes(word.try_into().unwrap())).collect()
+}
+
+fn frame(number: u32) -> FrameNumber {
+    FrameNumber::new(number).unwrap()
+}
+
+/// The first run of docs/FORMAT.md.
+fn aliasing_write() -> List {
+    let mut list = List::new();
+    list.allocate(MemoryKind::Heap, 2, Align::ONE, 16);
+    list.retag(pointer(16, 0, 0), PointerKind::MutableReference, &Pointee::of::<u16>());
+    list.store(pointer(16, 0, 1), &[byte(7)], Align::ONE);
+    list.load(pointer(16, 0, 0), 1, Align::ONE);
+    list.store(pointer(16, 0, 1), &[byte(8)], Align::ONE);
+    list
+}
+
+#[test]
+fn a_list_is_the_run_of_the_page() {
+    let list = aliasing_write();
+    let run = [
+        0x00000001, 0, 0x10, 2, // allocate
+        0x40000101, 0, 0x10, 0x60000002, 0, 2, // retag
+        0x30000300, 0, 0x10, 1, 0x80000007, // store
+        0x20000100, 0, 0x10, 1, // load
+        0x30000300, 0, 0x10, 1, 0x80000008, // store
+    ];
+    assert_eq!(words(&list), run);
+    let outcome = list.run();
+    let made = |node| Ok(Given::Pointer(Provenance { allocation: 0, node }));
+    let loaded = Ok(Given::Words(vec![byte(7)]));
+    let expected = [made(0), made(1), Ok(Given::Nothing), loaded, Err(Refusal::LocalWriteOfFrozen)];
+    assert_eq!(outcome.answers, expected);
+    let buffers = outcome.memory.buffers();
+    assert_eq!(buffers.allocs[..7], [1, 1, 0, 16, 2, 2, 0]);
+    assert_eq!(buffers.words[..3], [byte(7), UNINITIALISED, 0]);
+    assert_eq!(buffers.codes[..5], [3, 3, 4, 1, 0]);
+}
+
+/// The first run of docs/FORMAT.md, and a memory with an allocation that is dead and one without bytes.
+#[test]
+fn a_memory_prints_as_the_program_does() {
+    let printed = "a 0 live heap 16 2 0\nd 0 80000007 00000000\nn 0 0 - no 33\nn 0 1 0 no 41\n";
+    assert_eq!(aliasing_write().run().memory.to_string(), printed);
+    let mut memory = Memory::new();
+    let root = memory.allocate(MemoryKind::Global, 1, Align::of::<u64>(), 8).unwrap();
+    let mut call = memory.new_call();
+    memory.retag_argument(&mut call, root, PointerKind::Box, &Pointee::of::<u8>()).unwrap();
+    memory.end_call(&mut call).unwrap();
+    memory.deallocate(root, MemoryKind::Global, 1, Align::of::<u64>()).unwrap();
+    let empty = memory.allocate(MemoryKind::VTable, 0, Align::ONE, 8).unwrap();
+    let child = memory.retag_argument(&mut call, empty, PointerKind::Box, &Pointee::of::<()>()).unwrap();
+    memory.retag(child, PointerKind::SharedReference, &Pointee::of::<()>()).unwrap();
+    let printed = "a 0 dead global 8 1 3\nd 0 00000000\nn 0 0 - no 3\nn 0 1 0 no 5\n\
+        a 1 live vtable 8 0 0\nd 1 -\nn 1 0 - no -\nn 1 1 0 weak -\nn 1 2 1 no -\n";
+    assert_eq!(memory.to_string(), printed);
+}
+
+#[test]
+fn a_memory_answers_as_a_list_does() {
+    let mut memory = Memory::new();
+    let root = memory.allocate(MemoryKind::Heap, 2, Align::ONE, 16).unwrap();
+    let r = memory.retag(root, PointerKind::MutableReference, &Pointee::of::<u16>()).unwrap();
+    memory.store(r, &[byte(7)], Align::ONE).unwrap();
+    assert_eq!(memory.load(root, 1, Align::ONE), Ok(&[byte(7)][..]));
+    let before = memory.clone();
+    assert_eq!(memory.store(r, &[byte(8)], Align::ONE), Err(Refusal::LocalWriteOfFrozen));
+    assert_eq!(memory, before);
+    assert_eq!(memory, aliasing_write().run().memory);
+}
+
+#[test]
+fn loads_stand_behind_those_of_earlier_allocations() {
+    let mut memory = Memory::new();
+    memory.allocate(MemoryKind::Stack, 3, Align::ONE, 16).unwrap();
+    let second = memory.allocate(MemoryKind::Stack, 3, Align::ONE, 32).unwrap();
+    memory.store(second.offset(1), &[byte(1), byte(2)], Align::ONE).unwrap();
+    assert_eq!(memory.load(second, 3, Align::ONE), Ok(&[UNINITIALISED, byte(1), byte(2)][..]));
+    assert_eq!(memory.load(second.offset(2), 1, Align::of_bytes(2).unwrap()), Ok(&[byte(2)][..]));
+    assert_eq!(memory.load(second.offset(1), 1, Align::of::<u16>()), Err(Refusal::Misaligned));
+    assert_eq!(memory.load(second.offset(3), 0, Align::ONE), Ok(&[][..]));
+}
+
+/// The four types of docs/FORMAT.md.
+#[test]
+fn layouts_are_those_of_the_page() {
+    let word_list = |kind, pointee: &Pointee| {
+        let mut list = List::new();
+        list.retag(pointer(0, 0, 0), kind, pointee);
+        words(&list)[3..].to_vec()
+    };
+    let plain = Pointee::of::<u32>();
+    assert_eq!(word_list(PointerKind::MutableReference, &plain), [0x60000002, 0, 4]);
+    let slot = Pointee::sized(Part { size: 4, cells: vec![2..3] });
+    assert_eq!(word_list(PointerKind::SharedReference, &slot), [0x40000003, 0, 0x00400004, 0x00020001]);
+    let slice = Pointee::slice(3, Part::without_cells(2));
+    assert_eq!(word_list(PointerKind::MutableReference, &slice), [0x60000002, 0x40000003, 0x40000002]);
+    let tail = Shape::TraitObject(Part::without_cells(4));
+    let counted =
+        Pointee::new(Metadata::VTable, Shape::Tuple(Part { size: 4, cells: vec![0..2] }, Box::new(tail)));
+    assert_eq!(
+        word_list(PointerKind::Box, &counted),
+        [0x40000004, 0x80000000, 0xc0400004, 0x00000002, 0x80000004]
+    );
+    assert_eq!(word_list(PointerKind::Raw, &counted), [0]);
+}
+
+#[test]
+fn layouts_that_do_not_fit_have_no_mask() {
+    let mut memory = Memory::new();
+    let root = memory.allocate(MemoryKind::Heap, 4096, Align::ONE, 4096).unwrap();
+    let refusal = |pointee: Pointee| memory.clone().retag(root, PointerKind::SharedReference, &pointee).err();
+    let cells = |count: u16| Part { size: 4096, cells: (0..count).map(|at| 2 * at..2 * at + 1).collect() };
+    assert_eq!(refusal(Pointee::sized(cells(255))), None);
+    assert_eq!(refusal(Pointee::sized(cells(256))), Some(Refusal::WithoutMask));
+    let inside = Shape::Tuple(cells(256), Box::new(Shape::Sized(Part::without_cells(0))));
+    assert_eq!(refusal(Pointee::new(Metadata::None, inside)), Some(Refusal::WithoutMask));
+    assert_eq!(refusal(Pointee::sized(Part::without_cells(u32::MAX))), Some(Refusal::WithoutMask));
+    assert_eq!(refusal(Pointee::slice(u32::MAX, Part::without_cells(1))), Some(Refusal::WithoutMask));
+    assert_eq!(refusal(Pointee::slice(u32::MAX, Part::without_cells(0))), None);
+    assert_eq!(refusal(Pointee::slice(0, Part::without_cells(u32::MAX))), None);
+    assert_eq!(refusal(Pointee::sized(Part { size: 4, cells: vec![3..2] })), None);
+}
+
+#[test]
+fn a_call_protects_until_it_ends() {
+    let mut memory = Memory::new();
+    let root = memory.allocate(MemoryKind::Heap, 1, Align::ONE, 16).unwrap();
+    let mut call = memory.new_call();
+    let x =
+        memory.retag_argument(&mut call, root, PointerKind::MutableReference, &Pointee::of::<u8>()).unwrap();
+    assert_eq!(call.entries(), [Entry { allocation: 0, node: 1 }]);
+    memory.store(x, &[byte(1)], Align::ONE).unwrap();
+    assert_eq!(memory.load(root, 1, Align::ONE), Err(Refusal::ForeignReadOfUnique));
+    assert_eq!(memory.deallocate(x, MemoryKind::Heap, 1, Align::ONE), Err(Refusal::StrongProtector));
+    assert_eq!(Memory::new().end_call(&mut call), Err(Refusal::NeverMade));
+    assert_eq!(call.entries().len(), 1);
+    memory.end_call(&mut call).unwrap();
+    assert!(call.entries().is_empty());
+    assert_eq!(memory.load(root, 1, Align::ONE), Ok(&[byte(1)][..]));
+    memory.deallocate(root, MemoryKind::Heap, 1, Align::ONE).unwrap();
+    assert_eq!(memory.leak(), None);
+}
+
+/// A frame that a list leaves open is gone on with in its memory.
+#[test]
+fn a_frame_outlives_its_list() {
+    let mut list = List::new();
+    list.allocate(MemoryKind::Heap, 1, Align::ONE, 16);
+    list.new_call(frame(31));
+    list.retag_argument(frame(31), pointer(16, 0, 0), PointerKind::SharedReference, &Pointee::of::<u8>());
+    let mut outcome = list.run();
+    assert_eq!(outcome.frame(frame(30)), None);
+    let mut call = outcome.frame(frame(31)).unwrap();
+    assert_eq!(call.entries(), [Entry { allocation: 0, node: 1 }]);
+    let root = pointer(16, 0, 0);
+    assert_eq!(outcome.memory.store(root, &[byte(1)], Align::ONE), Err(Refusal::ForeignWriteOfRead));
+    outcome.memory.end_call(&mut call).unwrap();
+    outcome.memory.store(root, &[byte(1)], Align::ONE).unwrap();
+}
+
+#[test]
+fn dereference_tests_reach_ahead_and_back() {
+    let mut memory = Memory::new();
+    let root = memory.allocate(MemoryKind::Stack, 4, Align::of::<u32>(), 16).unwrap();
+    assert_eq!(memory.dereferenceable(root, 4), Ok(()));
+    assert_eq!(memory.dereferenceable(root, 5), Err(Refusal::OutOfBounds));
+    assert_eq!(memory.signed_dereferenceable(root.offset(4), -4), Ok(()));
+    assert_eq!(memory.signed_dereferenceable(root, -1), Err(Refusal::OutOfBounds));
+    assert_eq!(
+        memory.dereferenceable(Pointer { address: 16, provenance: None }, 1),
+        Err(Refusal::MissingProvenance)
+    );
+}
+
+#[test]
+fn names_that_fit_no_request_were_never_made() {
+    let refused = |named| {
+        let mut list = List::new();
+        list.allocate(MemoryKind::Stack, 1, Align::ONE, 16);
+        list.load(named, 1, Align::ONE);
+        list.run().answers[1].clone()
+    };
+    assert_eq!(refused(pointer(16, 128, 0)), Err(Refusal::NeverMade));
+    assert_eq!(refused(pointer(16, 0, 4096)), Err(Refusal::NeverMade));
+    assert_eq!(refused(pointer(16, 0, 0)), Ok(Given::Words(vec![UNINITIALISED])));
+    assert_eq!(FrameNumber::new(32), None);
+}
+
+#[test]
+fn a_list_goes_on_after_a_refusal() {
+    let mut list = List::new();
+    list.push(&[]);
+    list.push(&[0xffff_ffff; 4]);
+    list.leak_check();
+    let answers = list.run().answers;
+    assert_eq!(answers, [Err(Refusal::Malformed), Err(Refusal::Malformed), Ok(Given::Nothing)]);
+    assert_eq!(List::new().run().answers, []);
+}
+
+/// Buffers of another length are refused, and nothing changes.
+#[test]
+fn other_lengths_are_not_well_formed() {
+    let resized: [fn(&mut Buffers); 5] = [
+        |b| b.allocs.truncate(767),
+        |b| b.parents.push(0),
+        |b| b.protectors.truncate(1023),
+        |b| b.words.push(0),
+        |b| b.codes.clear(),
+    ];
+    for resize in resized {
+        let mut buffers = Buffers::new();
+        resize(&mut buffers);
+        let before = buffers.clone();
+        assert_eq!(buffers.empty().refusal, 1);
+        assert_eq!(buffers.allocate(0, 1, 0, 16).refusal, 1);
+        assert_eq!(buffers.leak_check().refusal, 1);
+        let (mut frames, mut answers) = ([0; 2080], [7; 5]);
+        assert_eq!(buffers.run_list(&mut frames, &[], &[], &mut answers).refusal, 1);
+        assert_eq!(buffers, before);
+    }
+}
+
+#[test]
+fn whatever_the_buffers_hold_new_empties_them() {
+    let mut buffers = Buffers::new();
+    buffers.codes.fill(0xff);
+    buffers.allocs.fill(u64::MAX);
+    assert_eq!(buffers.leak_check().refusal, 1);
+    assert_eq!(buffers.empty(), Reply { refusal: 0, gives: 0, first: 0, second: 0 });
+    assert_eq!(buffers, Buffers::new());
+}
+
+/// At the boundary a flag is 0 or 1, and a pointer without provenance names nothing.
+#[test]
+fn other_flags_are_malformed() {
+    let mut buffers = Buffers::new();
+    assert_eq!(buffers.allocate(0, 1, 0, 16).refusal, 0);
+    let root = Place { address: 16, provenance: 1, allocation: 0, node: 0 };
+    let load = |place| buffers.clone().load(place, 1, 0).refusal;
+    assert_eq!(load(root), 0);
+    assert_eq!(load(Place { provenance: 2, ..root }), 2);
+    assert_eq!(load(Place { provenance: 255, ..root }), 2);
+    assert_eq!(load(Place { provenance: 0, ..root }), 7);
+    assert_eq!(load(Place { provenance: 0, node: 1, ..root }), 2);
+    assert_eq!(load(Place { provenance: 0, allocation: 1, ..root }), 2);
+    let plain = RetagSettings { extra: 0, function_entry: 0, unpin: 1, freeze: 1 };
+    let retag = |settings| {
+        let mut entries = [Entry::default(); 64];
+        buffers.clone().retag(&mut entries, 0, &[0, 1], root, settings).reply.refusal
+    };
+    assert_eq!(retag(plain), 0);
+    assert_eq!(retag(RetagSettings { function_entry: 2, ..plain }), 2);
+    assert_eq!(retag(RetagSettings { unpin: 3, ..plain }), 2);
+    assert_eq!(retag(RetagSettings { freeze: 128, ..plain }), 2);
+}
+
+/// The sizes and offsets that C gives the same structs: examples/c/layout.c asserts these numbers.
+#[test]
+fn structs_have_the_layout_of_c() {
+    assert_eq!((size_of::<Place>(), offset_of!(Place, allocation), offset_of!(Place, node)), (24, 12, 16));
+    assert_eq!((size_of::<Entry>(), offset_of!(Entry, node)), (8, 4));
+    assert_eq!((size_of::<RetagSettings>(), offset_of!(RetagSettings, freeze)), (8, 6));
+    assert_eq!((size_of::<Reply>(), offset_of!(Reply, first), offset_of!(Reply, second)), (24, 8, 16));
+    assert_eq!((size_of::<RetagReply>(), offset_of!(RetagReply, count)), (32, 24));
+    assert_eq!((size_of::<ListReply>(), offset_of!(ListReply, whole), offset_of!(ListReply, at)), (16, 1, 8));
+}
