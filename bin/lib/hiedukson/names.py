@@ -1,0 +1,37 @@
+"""What the nodes of a card are called.
+
+    of_steps(steps, given)    the names of a replay's nodes; `given` are the card's, by request index
+    Names.of(pointer)         a node's name, or its number, 0.1, where the card has none
+    Names.with_others(pointer)  the same with the other names that the card has for it
+"""
+
+
+class Names:
+    def __init__(self):
+        self._names = {}
+        self._owners = {}
+
+    def add(self, pointer, name):
+        """Gives a node a name. A name that another node has already is told apart by the number."""
+        if self._owners.setdefault(name, pointer) != pointer:
+            name = f"{name} ({pointer})"
+        held = self._names.setdefault(pointer, [])
+        if name not in held:
+            held.append(name)
+
+    def of(self, pointer):
+        return self._names.get(pointer, [str(pointer)])[0]
+
+    def with_others(self, pointer):
+        first, *others = self._names.get(pointer, [str(pointer)])
+        return f"{first} (also {', '.join(others)})" if others else first
+
+
+def of_steps(steps, given):
+    """The names of the nodes that the steps answered."""
+    names = Names()
+    for step in steps:
+        name = given.get(step.request.index)
+        if name is not None and step.made is not None:
+            names.add(step.made, name)
+    return names

@@ -1,0 +1,135 @@
+"""A card replayed and put in words: what `why` prints and the index's pages show.
+
+    of_source(source, judge)    the report of a card
+    lines(report, place)        the report as lines of text, up to and with the request at a place
+"""
+
+import textwrap
+from typing import NamedTuple, Optional
+
+from . import changes, drawing, explanations, memories, names, refusals, replay, words
+
+WIDTH = 100
+
+
+class Entry(NamedTuple):
+    """One request: where it stands, itself, what it answered and what it changed, all in words."""
+
+    index: int
+    line: Optional[int]
+    said: str
+    answer: str
+    changes: tuple
+
+
+class Report(NamedTuple):
+    """`explanation` is None for an accepted run."""
+
+    entries: tuple
+    steps: tuple
+    names: names.Names
+    explanation: Optional[explanations.Explanation]
+
+    @property
+    def verdict(self):
+        if self.explanation is None:
+            return "accepted"
+        refusal = self.explanation.refusal
+        return f"refused, {refusal} at {self.explanation.index}: {refusals.name(refusal)}"
+
+    def memory_after(self, place):
+        """The memory after the request with this index; -1 is the empty memory."""
+        return self.steps[place].after if place >= 0 else memories.EMPTY
+
+    def spot_at(self, place):
+        """The spot that refused the request with this index; None where none did."""
+        if self.explanation is None or place != self.explanation.index:
+            return None
+        return self.explanation.spot
+
+
+def of_source(source, judge):
+    """The report of a card."""
+    steps = replay.replay(source.run, judge)
+    known = names.of_steps(steps, source.names)
+
+    def say(step):
+        return source.said.get(step.request.index) or words.in_words(step.request)
+
+    entries = tuple(_entry(step, known, source.lines.get(step.request.index), say(step)) for step in steps)
+    is_refused = bool(steps) and steps[-1].is_refused
+    explanation = explanations.explain(steps, known, say) if is_refused else None
+    return Report(entries, tuple(steps), known, explanation)
+
+
+def _entry(step, known, line, said):
+    changed = [changes.in_words(change, step.after, known) for change in changes.between(step.before, step.after)]
+    return Entry(step.request.index, line, said, _answer(step), tuple(changed))
+
+
+def _answer(step):
+    if step.is_refused:
+        return f"refused, {step.answer.refusal}: {refusals.name(step.answer.refusal)}"
+    if step.request.kind is words.LOAD and step.answer.given != replay.NOTHING:
+        return "loads " + " ".join(_byte(int(word, 16)) for word in step.answer.given.split(" "))
+    return ""
+
+
+def _byte(word):
+    """A loaded byte: two digits, -- for an uninitialised one, and whose pointer's byte it is."""
+    byte = words.byte_of(word)
+    if byte.value is None:
+        return "--"
+    if byte.provenance is None:
+        return f"{byte.value:02x}"
+    return f"{byte.value:02x}@{memories.Pointer(*byte.provenance)}[{byte.position}]"
+
+
+# ---- as text
+
+
+def lines(report, place=None):
+    """The report as lines; with a place, only up to the request of this index, and without the rest."""
+    last = len(report.entries) - 1 if place is None else place
+    shown = [line for entry in report.entries[: last + 1] for line in _entry_lines(entry)]
+    explanation = report.explanation
+    if explanation is not None and last == explanation.index:
+        shown += ["", *_explanation_lines(explanation)]
+    return shown + ["", *tree_lines(report, last)]
+
+
+def _entry_lines(entry):
+    line = "" if entry.line is None else f"line {entry.line}  "
+    yield f"#{entry.index}  {line}{entry.said}"
+    if entry.answer:
+        yield f"      {entry.answer}"
+    for change in entry.changes:
+        yield f"      {change}"
+
+
+def _explanation_lines(explanation):
+    yield explanation.headline
+    if explanation.met:
+        yield f"  met: {explanation.met}"
+    width = max((len(event.what) for event in explanation.events), default=0)
+    for event in explanation.events:
+        yield f"    {event.what:{width}}  #{event.index}  {event.said}"
+    for fact in explanation.facts:
+        yield f"  {fact}"
+    yield from _wrapped("  rule: ", explanation.rule)
+    yield from _wrapped("  advice: ", explanation.advice)
+
+
+def _wrapped(label, sentence):
+    return textwrap.wrap(sentence, WIDTH, initial_indent=label, subsequent_indent=" " * len(label))
+
+
+def tree_lines(report, place):
+    """The trees after the request at a place, an empty line between them."""
+    memory = report.memory_after(place)
+    if not memory.allocations:
+        return ["no allocation was made"]
+    shown = []
+    for allocation in memory.allocations:
+        shown += ["", *drawing.text(allocation, report.names, report.spot_at(place))]
+    return shown[1:]
