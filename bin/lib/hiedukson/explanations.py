@@ -156,7 +156,7 @@ def _dead(steps, step, names, say):
 
 
 def _beside_allocation(steps, step, names, say):
-    yield f"the request: {words.in_words(step.request)}"
+    yield f"the request: {words.in_words(step.request, names.of)}"
     yield drawing.heading(step.before.allocation(step.pointer.allocation), names)
 
 

@@ -22,9 +22,6 @@ class Pointer(NamedTuple):
     allocation: int
     node: int
 
-    def __str__(self):
-        return f"{self.allocation}.{self.node}"
-
 
 class Node(NamedTuple):
     """`parent` is None for the root; `codes` has a character for each byte of the allocation."""

@@ -5,6 +5,8 @@
     Names.with_others(pointer)  the same with the other names that the card has for it
 """
 
+from . import words
+
 
 class Names:
     def __init__(self):
@@ -14,17 +16,20 @@ class Names:
     def add(self, pointer, name):
         """Gives a node a name. A name that another node has already is told apart by the number."""
         if self._owners.setdefault(name, pointer) != pointer:
-            name = f"{name} ({pointer})"
+            name = f"{name} ({words.numbers(pointer)})"
         held = self._names.setdefault(pointer, [])
         if name not in held:
             held.append(name)
 
     def of(self, pointer):
-        return self._names.get(pointer, [str(pointer)])[0]
+        return self._all(pointer)[0]
 
     def with_others(self, pointer):
-        first, *others = self._names.get(pointer, [str(pointer)])
+        first, *others = self._all(pointer)
         return f"{first} (also {', '.join(others)})" if others else first
+
+    def _all(self, pointer):
+        return self._names.get(pointer) or [words.numbers(pointer)]
 
 
 def of_steps(steps, given):

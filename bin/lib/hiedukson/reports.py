@@ -30,9 +30,13 @@ class Report(NamedTuple):
     names: names.Names
     explanation: Optional[explanations.Explanation]
 
-    @property
-    def verdict(self):
-        if self.explanation is None:
+    def is_refused_at(self, place):
+        """Whether the request with this index is the refused one."""
+        return self.explanation is not None and place == self.explanation.index
+
+    def verdict_at(self, place):
+        """The verdict of the requests up to and with the one of this index, in words."""
+        if not self.is_refused_at(place):
             return "accepted"
         refusal = self.explanation.refusal
         return f"refused, {refusal} at {self.explanation.index}: {refusals.name(refusal)}"
@@ -43,9 +47,7 @@ class Report(NamedTuple):
 
     def spot_at(self, place):
         """The spot that refused the request with this index; None where none did."""
-        if self.explanation is None or place != self.explanation.index:
-            return None
-        return self.explanation.spot
+        return self.explanation.spot if self.is_refused_at(place) else None
 
 
 def of_source(source, judge):
@@ -54,7 +56,7 @@ def of_source(source, judge):
     known = names.of_steps(steps, source.names)
 
     def say(step):
-        return source.said.get(step.request.index) or words.in_words(step.request)
+        return source.said.get(step.request.index) or words.in_words(step.request, known.of)
 
     entries = tuple(_entry(step, known, source.lines.get(step.request.index), say(step)) for step in steps)
     is_refused = bool(steps) and steps[-1].is_refused
@@ -82,20 +84,18 @@ def _byte(word):
         return "--"
     if byte.provenance is None:
         return f"{byte.value:02x}"
-    return f"{byte.value:02x}@{memories.Pointer(*byte.provenance)}[{byte.position}]"
+    return f"{byte.value:02x}@{words.numbers(byte.provenance)}[{byte.position}]"
 
 
 # ---- as text
 
 
-def lines(report, place=None):
-    """The report as lines; with a place, only up to the request of this index, and without the rest."""
-    last = len(report.entries) - 1 if place is None else place
-    shown = [line for entry in report.entries[: last + 1] for line in _entry_lines(entry)]
-    explanation = report.explanation
-    if explanation is not None and last == explanation.index:
-        shown += ["", *_explanation_lines(explanation)]
-    return shown + ["", *tree_lines(report, last)]
+def lines(report, place):
+    """The report as lines, up to and with the request of this index."""
+    shown = [line for entry in report.entries[: place + 1] for line in _entry_lines(entry)]
+    if report.is_refused_at(place):
+        shown += ["", *_explanation_lines(report.explanation)]
+    return shown + ["", *tree_lines(report, place)]
 
 
 def _entry_lines(entry):

@@ -1,0 +1,67 @@
+"""Folders that are replaced whole.
+
+    replace(path, files, is_ours)   write files into a folder, in place of what was there
+"""
+
+import os
+import shutil
+import tempfile
+
+from .command import printable
+from .errors import CardError
+
+
+def replace(path, files, is_ours):
+    """Write files, a dictionary from paths to bytes, into a folder. The folder may be missing or empty, or
+    be one that `is_ours` knows; what stood there stays until all is written."""
+    path = os.path.abspath(path)
+    part = None
+    try:
+        _may_be_replaced(path, is_ours)
+        part = tempfile.mkdtemp(prefix=".", suffix=".part", dir=os.path.dirname(path))
+        for name, data in files.items():
+            _write(os.path.join(part, name), data)
+        _open_to_all(part)
+        _exchange(path, part)
+    except OSError as error:
+        raise CardError(f"{printable(path)}: {error.strerror}") from None
+    finally:
+        if part is not None:
+            shutil.rmtree(part, ignore_errors=True)
+
+
+def _may_be_replaced(path, is_ours):
+    if not os.path.lexists(path):
+        return
+    if not os.path.isdir(path) or os.path.islink(path):
+        raise CardError(f"{printable(path)}: not a folder")
+    if os.listdir(path) and not is_ours(path):
+        raise CardError(f"{printable(path)}: the folder has other files in it, and is left as it is")
+
+
+def _write(path, data):
+    os.makedirs(os.path.dirname(path), exist_ok=True)
+    with open(path, "wb") as file:
+        file.write(data)
+
+
+def _open_to_all(folder):
+    """The mode of a folder that is made in the usual way."""
+    mask = os.umask(0)
+    os.umask(mask)
+    os.chmod(folder, 0o777 & ~mask)
+
+
+def _exchange(path, part):
+    """Put the new folder in the place of the old one, which is put back where that fails."""
+    old = part + ".old"
+    if not os.path.lexists(path):
+        os.rename(part, path)
+        return
+    os.rename(path, old)
+    try:
+        os.rename(part, path)
+    except OSError:
+        os.rename(old, path)
+        raise
+    shutil.rmtree(old, ignore_errors=True)
