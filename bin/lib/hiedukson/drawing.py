@@ -61,7 +61,7 @@ def _row(allocation, node):
 
 def dot(memory, names, marked=None):
     """A memory as one graph: an allocation a cluster, nodes in order of making, then the edges."""
-    lines = ["digraph card {", "  node [shape=box, fontname=monospace];", "  graph [fontname=monospace];"]
+    lines = ["digraph card {", "  graph [fontname=monospace, fontsize=11];", "  node [shape=box, fontname=monospace, fontsize=11];"]
     for allocation in memory.allocations:
         lines += _cluster(allocation, names, marked)
     return "\n".join(lines + ["}", ""])

@@ -159,7 +159,7 @@ def _row(entry, names):
     return (
         f'<tr data-refusal="{refusal}" data-state="{entry.state}">'
         f'<td><a href="{quote(_page_of(name))}">{_text(_title(entry, names))}</a>'
-        f'<span class="file quiet">{_text(name)}</span></td>'
+        f"{_file(entry, name)}</td>"
         f"<td>{_text(_library(entry))}</td>"
         f'<td data-key="{refusal}">{_verdict_badge(entry)}</td>'
         f'<td class="reason" data-key="{refusal}">{_text(entry.reason)}</td>'
@@ -167,16 +167,21 @@ def _row(entry, names):
     )
 
 
+def _file(entry, name):
+    """The card's name, where its title stands above it."""
+    return f'<span class="file quiet">{_text(name)}</span>' if entry.said.title else ""
+
+
 # ---- a card
 
 
 def _card(entry, report, names, around, version):
     root = "../" * (names[entry.path].count("/") + 1)
-    facts = [f"<code>{_text(names[entry.path])}</code>", _text(_library(entry))]
+    facts = [_file(entry, names[entry.path]), _text(_library(entry))]
     title = _title(entry, names)
     body = f"""<p><a href="{root}{START}">All cards</a></p>
 <h1>{_text(title)}</h1>
-<p class="quiet">{' · '.join(fact for fact in facts if fact)}</p>
+<p class="quiet">{' '.join(fact for fact in facts if fact)}</p>
 <p>{_verdict_badge(entry)} {_text(entry.reason)} {_state_badge(entry)} <span class="quiet">{_text(entry.note)}</span></p>
 {_told(entry, report) if report else ''}
 {_ways(around, names, root)}"""
