@@ -4,9 +4,12 @@
     refusals   the numbers of the refusals and their names
     words      a run's words, cut into requests and their fields; what is malformed in one
     layouts    a retag's layout words; why there is no mask
+    pointers   which pointer a request gives
     text       hexadecimal text to a run, and which line a word stands on
     notation   the notation for people, to words and back
-    cards      a card of any form: bytes, hexadecimal text or the notation
+    card       a card of any form: bytes, hexadecimal text or the notation
     program    the proved program: found, built when it is missing or stale, and run
+    progress   a long check, followed
     verdicts   what the program printed: the answers, the refusal, and the refusal in words
+    command    what every command does alike: streams, errors, statuses, files replaced whole
 """

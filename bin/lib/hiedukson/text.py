@@ -1,9 +1,8 @@
 """Hexadecimal text: words of eight digits, white space, and comments from '#' to the end of the line.
 
     run_of(data)            the run's bytes; raises CardError with line and column
-    text_of(run, notes)     backwards: a request a line
     place_of(data, word)    line and column of a run's word, by its number
-    lines_of(data)          the number of the line of every word
+    lines(data)             which request and which comment stand on each line
 """
 
 import re
@@ -27,11 +26,7 @@ def without_mark(data):
 
 def run_of(data):
     """The bytes of a run from its text."""
-    data = without_mark(data)
-    parts = []
-    for start, end in _pieces(data):
-        parts.append(_bytes_of(data, start, end))
-    return b"".join(parts)
+    return b"".join(_bytes_of(data, start, end) for start, end in _pieces(data))
 
 
 def _bytes_of(data, start, end):
@@ -94,7 +89,6 @@ def _line_and_column(data, at):
 
 def place_of(data, word):
     """Line and column of the run's word with this number; of the text's end where there are fewer."""
-    data = without_mark(data)
     left = word
     for start, end in _pieces(data):
         here = len(_tokens(data, start, end))
@@ -107,22 +101,25 @@ def place_of(data, word):
     return _line_and_column(data, len(data))
 
 
-def lines_of(data):
-    """The number of the line on which each word of the text stands."""
-    lines = []
-    for number, line in enumerate(without_mark(data).split(b"\n"), 1):
-        lines.extend([number] * len(_TOKEN.findall(line.split(b"#")[0])))
-    return lines
-
-
-def text_of(run, notes=None):
-    """The text of a run: a request a line, with a note behind it where there is one.
-    `notes` are a sentence for each request, by its index."""
-    lines = []
-    for request in w.requests(run):
-        if request.rest:
-            raise CardError("the run ends inside a word, which hexadecimal text cannot say")
-        words = " ".join(f"{word:08x}" for word in request.words)
-        note = notes[request.index] if notes else ""
-        lines.append(f"{words}  # {note}\n" if note else f"{words}\n")
-    return "".join(lines)
+def lines(data):
+    """The text's lines, as pairs: the index of a request that starts on the line, or None, and a comment that starts with '#',
+    or ''. A request stands where it starts, a line's comment with the last request on it; requests that
+    share a line have one each."""
+    starts = [request.start for request in w.requests(run_of(data))]
+    found = []
+    index = 0
+    word = 0
+    for line in data.decode("utf-8", "replace").split("\n"):
+        said, mark, comment = line.partition("#")
+        comment = (mark + comment).rstrip()
+        word += len(said.split())
+        first = index
+        while index < len(starts) and starts[index] < word:
+            index += 1
+        if index == first:
+            if comment or not said.strip():
+                found.append((None, comment))
+            continue
+        found.extend((request, "") for request in range(first, index - 1))
+        found.append((index - 1, comment))
+    return found if found[-1] != (None, "") else found[:-1]

@@ -11,7 +11,7 @@ A run is bytes, four a word, most significant first. What this module offers:
     join(..)                   the words of a request from its fields: Request backwards
     malformed(request, open)   which test of refusal 2 fails, in words; None where none does
     no_mask(request)           which reason of refusal 3 holds, in words; None where none does
-    in_words(request)          the request as a short sentence: 'store of 1 byte at 0x10 through 0.1'
+    in_words(request, name)    the request as a short sentence: 'store of 1 byte at 0x10 through 0.1'
     Byte, byte_of, byte_word   byte words: initialised, provenance and position, value
 
 `layouts` has a retag's layout words, `text` the hexadecimal text and its lines.
@@ -30,7 +30,7 @@ FRAMES = 32
 WORD_BITS = 32
 
 ALLOCATION_KINDS = ("stack", "heap", "global", "function", "vtable")
-POINTER_KINDS = ("&", "&mut", "box", "raw", "fn", "vtable")
+POINTER_KINDS = ("&", "&mut", "box", "raw", "fn-ptr", "vtable-ptr")
 SAFE_POINTERS = 3
 
 # The fields of a first word: name, how far it is shifted, how many bits it has.
@@ -383,54 +383,58 @@ def no_mask(request):
 # ---- a request in words
 
 
-def in_words(request):
-    """The request as a short sentence, from its fields alone."""
+def numbers(pointer):
+    """(allocation, node) as the program prints it."""
+    return "{}.{}".format(*pointer)
+
+
+def in_words(request, name=numbers):
+    """The request as a short sentence, from its fields alone. `name` says what (allocation, node) is called."""
     kind = request.kind
     if request.is_cut and len(request.words) < 4:
         return "unfinished request"
     if kind is None:
         return f"kind {request.kind_number}"
-    if kind is ALLOCATE:
-        return f"allocate {count(request.fourth, 'byte')}{_kind_of_memory(request)} at {request.address:#x}{_alignment(request)}"
-    if kind is DEALLOCATE:
-        return f"deallocate {count(request.fourth, 'byte')}{_kind_of_memory(request)} at {_place(request)}{_alignment(request)}"
-    if kind is RETAG:
-        return _retag_in_words(request)
     if kind.fourth == FRAME:
         return f"{kind.name}, frame {request.fourth}"
-    if kind.fourth == LENGTH:
-        return f"{kind.name} of {count(request.fourth, 'byte')} at {_place(request)}{_alignment(request)}"
-    if kind.fourth == SIGNED:
-        return f"{kind.name} of {count(request.signed_length, 'byte')} at {_place(request)}"
-    return kind.name
+    if kind.fourth == NOTHING:
+        return kind.name
+    return f"{kind.name} {_what(request)} at {request.address:#x}{_through(request, name)}{_settings(request)}"
 
 
-def _retag_in_words(request):
-    name = POINTER_KINDS[request.extra] if request.extra < len(POINTER_KINDS) else f"extra {request.extra}"
+def _what(request):
+    """Of what a request is, in words: '2 bytes of heap', '&mut, 4 bytes'."""
+    if request.kind is RETAG:
+        return _reference(request)
+    length = request.signed_length if request.kind.fourth == SIGNED else request.fourth
+    size = count(length, "byte")
+    if not request.kind.extras:
+        return size
+    return f"{size} of {request.kind.extras[request.extra]}" if request.extra < len(request.kind.extras) else size
+
+
+def _reference(request):
+    if request.extra >= len(POINTER_KINDS):
+        return f"of extra {request.extra}"
+    name = POINTER_KINDS[request.extra]
     if not request.is_safe:
-        return f"retag {name} at {_place(request)}"
-    pinned = " pinned" if not request.settings.unpin else ""
-    protected = f", argument of frame {request.settings.frame}" if request.settings.entry else ""
-    return f"retag {name}{pinned}{_layout_size(request)} at {_place(request)}{protected}"
-
-
-def _layout_size(request):
+        return name
+    name = name if request.settings.unpin else f"pinned {name}"
     if request.is_pinned or layouts.without_mask(request.following) is not None:
+        return name
+    return f"{name} to {count(layouts.mask_size(layouts.split(request.following)), 'byte')}"
+
+
+def _through(request, name):
+    if "provenance" not in request.kind.uses:
         return ""
-    return f" of {count(layouts.mask_size(layouts.split(request.following)), 'byte')}"
+    return f" through {name(request.pointer)}" if request.provenance else " without provenance"
 
 
-def _kind_of_memory(request):
-    return f" of {ALLOCATION_KINDS[request.extra]}" if request.extra < len(ALLOCATION_KINDS) else ""
-
-
-def _alignment(request):
+def _settings(request):
+    if request.is_safe and request.settings.entry:
+        return f", argument of frame {request.settings.frame}"
     return f", alignment {1 << request.exponent}" if request.exponent else ""
-
-
-def _place(request):
-    through = "{}.{}".format(*request.pointer) if request.provenance else "no provenance"
-    return f"{request.address:#x} through {through}"
 
 
 def count(number, what):
