@@ -8,6 +8,8 @@ import textwrap
 from typing import NamedTuple, Optional
 
 from . import changes, drawing, explanations, memories, names, refusals, replay, words
+from .notation.limits import POINTER_BYTES
+from .notation.parts import UNINITIALISED
 
 WIDTH = 100
 
@@ -66,25 +68,44 @@ def of_source(source, judge):
 
 def _entry(step, known, line, said):
     changed = [changes.in_words(change, step.after, known) for change in changes.between(step.before, step.after)]
-    return Entry(step.request.index, line, said, _answer(step), tuple(changed))
+    return Entry(step.request.index, line, said, _answer(step, known), tuple(changed))
 
 
-def _answer(step):
+def _answer(step, known):
     if step.is_refused:
         return f"refused, {step.answer.refusal}: {refusals.name(step.answer.refusal)}"
     if step.request.kind is words.LOAD and step.answer.given != replay.NOTHING:
-        return "loads " + " ".join(_byte(int(word, 16)) for word in step.answer.given.split(" "))
+        loaded = [words.byte_of(int(word, 16)) for word in step.answer.given.split(" ")]
+        return "loads " + " ".join(_loaded(loaded, known))
     return ""
 
 
-def _byte(word):
-    """A loaded byte: two digits, -- for an uninitialised one, and whose pointer's byte it is."""
-    byte = words.byte_of(word)
+def _loaded(loaded, known):
+    """Loaded bytes as the notation writes them; the bytes of a whole pointer as one."""
+    while loaded:
+        pointer = loaded[:POINTER_BYTES]
+        if _is_pointer(pointer):
+            address = int.from_bytes(bytes(byte.value for byte in pointer), "little")
+            yield f"ptr {known.of(pointer[0].provenance)} at {address:#x}"
+            loaded = loaded[POINTER_BYTES:]
+        else:
+            yield _byte(loaded[0], known)
+            loaded = loaded[1:]
+
+
+def _is_pointer(loaded):
+    """Whether these are all the bytes of one pointer, in order."""
+    provenance = loaded[0].provenance
+    places = [byte.position for byte in loaded if byte.provenance == provenance]
+    return provenance is not None and places == list(range(POINTER_BYTES))
+
+
+def _byte(byte, known):
     if byte.value is None:
-        return "--"
+        return UNINITIALISED
     if byte.provenance is None:
         return f"{byte.value:02x}"
-    return f"{byte.value:02x}@{words.numbers(byte.provenance)}[{byte.position}]"
+    return f"{byte.value:02x}@{known.of(byte.provenance)}:{byte.position}"
 
 
 # ---- as text
@@ -112,8 +133,9 @@ def _explanation_lines(explanation):
     if explanation.met:
         yield f"  met: {explanation.met}"
     width = max((len(event.what) for event in explanation.events), default=0)
+    digits = len(str(explanation.index))
     for event in explanation.events:
-        yield f"    {event.what:{width}}  #{event.index}  {event.said}"
+        yield f"    {event.what:{width}}  #{event.index:<{digits}}  {event.said}"
     for fact in explanation.facts:
         yield f"  {fact}"
     yield from _wrapped("  rule: ", explanation.rule)
