@@ -1,4 +1,4 @@
-"""What a request changed: the difference of two memories.
+"""What a request changed: the difference of two memories. No request takes away an allocation or a node.
 
     between(before, after)              the changes, allocation by allocation, nodes in order of making
     in_words(change, memory, names)     a change as a line: 'x: bytes 0x10..0x12 Reserved -> Unique'
@@ -43,6 +43,8 @@ class State(NamedTuple):
 
 def between(before, after):
     found = []
+    if before is after:
+        return found
     for allocation in after.allocations:
         old = before.allocation(allocation.number)
         if old is not allocation:

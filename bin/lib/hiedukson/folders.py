@@ -1,5 +1,6 @@
 """Folders that are replaced whole.
 
+    check(path, is_ours)            raise a CardError where the folder may not be replaced
     replace(path, files, is_ours)   write files into a folder, in place of what was there
 """
 
@@ -11,13 +12,26 @@ from .command import printable
 from .errors import CardError
 
 
+def check(path, is_ours):
+    """A folder may be replaced if it is missing or empty, or `is_ours` knows it."""
+    try:
+        if not os.path.lexists(path):
+            return
+        if not os.path.isdir(path) or os.path.islink(path):
+            raise CardError(f"{printable(path)}: not a folder")
+        if os.listdir(path) and not is_ours(path):
+            raise CardError(f"{printable(path)}: the folder has other files in it, and is left as it is")
+    except OSError as error:
+        raise CardError(f"{printable(path)}: {error.strerror}") from None
+
+
 def replace(path, files, is_ours):
-    """Write files, a dictionary from paths to bytes, into a folder. The folder may be missing or empty, or
-    be one that `is_ours` knows; what stood there stays until all is written."""
+    """Write files, a dictionary from paths to bytes, into a folder that may be replaced. What stood there
+    stays until all is written."""
     path = os.path.abspath(path)
+    check(path, is_ours)
     part = None
     try:
-        _may_be_replaced(path, is_ours)
         part = tempfile.mkdtemp(prefix=".", suffix=".part", dir=os.path.dirname(path))
         for name, data in files.items():
             _write(os.path.join(part, name), data)
@@ -28,15 +42,6 @@ def replace(path, files, is_ours):
     finally:
         if part is not None:
             shutil.rmtree(part, ignore_errors=True)
-
-
-def _may_be_replaced(path, is_ours):
-    if not os.path.lexists(path):
-        return
-    if not os.path.isdir(path) or os.path.islink(path):
-        raise CardError(f"{printable(path)}: not a folder")
-    if os.listdir(path) and not is_ours(path):
-        raise CardError(f"{printable(path)}: the folder has other files in it, and is left as it is")
 
 
 def _write(path, data):

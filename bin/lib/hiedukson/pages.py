@@ -1,8 +1,9 @@
 """An index as pages that open from disk.
 
-    pages(entries, made, version)   the files of the index, by their paths: a table of all cards, and a
-                                    page for each; `made` has a report for each entry, or None
-    is_index(folder)                whether a folder is such an index
+    Site(entries, version)      an index's entries in the order of its table, and what gave the verdicts
+    site.start()                the table of all cards, and what all pages share: bytes by path
+    site.card(place, report)    path and bytes of a card's page; `report` is None where it has an error
+    is_index(folder)            whether a folder is such an index
 
 Everything that comes from a card is escaped; the pages load nothing from elsewhere.
 """
@@ -29,15 +30,23 @@ _WEB = os.path.join(os.path.dirname(__file__), "web")
 _HEADS = ("Card", "Library", "Verdict", "Reason", "Filed")
 
 
-def pages(entries, made, version):
-    """The files of an index: a dictionary from path to bytes."""
-    names = _names(entries)
-    files = {name: _asset(name) for name in (STYLE, SCRIPT)}
-    files[START] = _encoded(_index(entries, names, version))
-    for place, (entry, report) in enumerate(zip(entries, made)):
-        around = entries[place - 1] if place else None, entries[place + 1] if place + 1 < len(entries) else None
-        files[_page_of(names[entry.path])] = _encoded(_card(entry, report, names, around, version))
-    return files
+class Site:
+    def __init__(self, entries, version):
+        self.entries = entries
+        self.version = version
+        self.names = _names(entries)
+
+    def start(self):
+        files = {name: _asset(name) for name in (STYLE, SCRIPT)}
+        files[START] = _encoded(_index(self.entries, self.names, self.version))
+        return files
+
+    def card(self, place, report):
+        entry = self.entries[place]
+        before = self.entries[place - 1] if place else None
+        after = self.entries[place + 1] if place + 1 < len(self.entries) else None
+        page = _card(entry, report, self.names, (before, after), self.version)
+        return _page_of(self.names[entry.path]), _encoded(page)
 
 
 def is_index(folder):
@@ -58,6 +67,11 @@ def _names(entries):
 
 def _page_of(name):
     return posixpath.join(FOLDER, name + ".html")
+
+
+def _link(name):
+    """The address of a card's page, from the index's folder."""
+    return quote(_page_of(name), errors="surrogateescape")
 
 
 def _asset(name):
@@ -158,7 +172,7 @@ def _row(entry, names):
     note = f' <span class="quiet">{_text(entry.note)}</span>' if entry.note else ""
     return (
         f'<tr data-refusal="{refusal}" data-state="{entry.state}">'
-        f'<td><a href="{quote(_page_of(name))}">{_text(_title(entry, names))}</a>'
+        f'<td><a href="{_link(name)}">{_text(_title(entry, names))}</a>'
         f"{_file(entry, name)}</td>"
         f"<td>{_text(_library(entry))}</td>"
         f'<td data-key="{refusal}">{_verdict_badge(entry)}</td>'
@@ -261,7 +275,7 @@ def _source(entry):
 
 def _ways(around, names, root):
     before, after = (
-        "<span></span>" if entry is None else f'<a href="{root}{quote(_page_of(names[entry.path]))}">{arrow}</a>'
+        "<span></span>" if entry is None else f'<a href="{root}{_link(names[entry.path])}">{arrow}</a>'
         for entry, arrow in zip(around, ("Previous card", "Next card"))
     )
     return f'<nav class="ways">{before}{after}</nav>'

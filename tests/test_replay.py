@@ -1,0 +1,219 @@
+#!/usr/bin/env python3
+"""The memories of a replay are those of every prefix, the changes are all there is, and what is said to have refused did."""
+
+import collections
+import unittest
+
+import generate
+from support import TestCase, program
+
+from hiedukson import card, changes, history, memories, permissions, replay, verdicts
+from hiedukson import words as w
+from hiedukson.permissions import FOREIGN, LOCAL, READ, WRITE
+
+REPLAYED = 100
+MET = 2500
+REFUSED_BY_PERMISSION = set(permissions.MET)
+
+
+def judge(run):
+    return program().run(run)
+
+
+def prefixes(run, count):
+    """The memories before the first request of a run and after each, one run of the program for each."""
+    ends = [4 * request.start for request in w.requests(run)][1:count] + [len(run)]
+    return [memories.EMPTY] + [memories.of_output(judge(run[:end])) for end in ends[:count]]
+
+
+class Replays(TestCase):
+    def test_all_prefixes(self):
+        """Stretches that are not looked into have the memories that their prefixes print."""
+        for seed in range(REPLAYED):
+            run = generate.run(seed)
+            steps = replay.replay(run, judge)
+            expected = prefixes(run, len(steps))
+            self.assertEqual([step.before for step in steps], expected[: len(steps)], f"seed {seed}")
+            self.assertEqual([step.after for step in steps], expected[1 : len(steps) + 1], f"seed {seed}")
+
+    def test_changes_are_all(self):
+        """The changes, made to the memory before, give the one after."""
+        for seed in range(REPLAYED):
+            for step in replay.replay(generate.run(seed), judge):
+                made = changes.between(step.before, step.after)
+                self.assertEqual(rows(step.after), changed(rows(step.before), made), f"seed {seed}")
+
+    def test_what_changes_nothing_is_not_looked_into(self):
+        """A run of n loads costs some 2 log n runs of the program."""
+        allocate = w.join(w.ALLOCATE, extra=1, address=16, fourth=2)
+        load = w.join(w.LOAD, (0, 0), address=16, fourth=1)
+        run = w.bytes_of(allocate) + w.bytes_of(load) * 4000
+        judged = []
+
+        def counted(run):
+            judged.append(run)
+            return judge(run)
+
+        self.assertEqual(len(replay.replay(run, counted)), 4001)
+        self.assertLess(len(judged), 30)
+
+    def test_no_request(self):
+        self.assertEqual(replay.replay(b"", judge), [])
+
+
+def rows(memory):
+    """What a memory says of permissions: states by allocation, protectors and codes by node."""
+    found = {}
+    for allocation in memory.allocations:
+        found[allocation.number] = allocation.state
+        for node in allocation.nodes:
+            found[node.pointer] = (node.protector, node.codes)
+    return found
+
+
+def changed(found, made):
+    """The rows with some changes made."""
+    for change in made:
+        if isinstance(change, changes.Made):
+            codes = "".join(code * (end - first) for first, end, code in change.stretches)
+            found[change.node.pointer] = (change.node.protector, codes)
+            found.setdefault(change.node.pointer.allocation, "live")
+        elif isinstance(change, changes.Became):
+            protector, codes = found[change.pointer]
+            assert set(codes[change.first : change.end]) == {change.before}
+            codes = codes[: change.first] + change.after * (change.end - change.first) + codes[change.end :]
+            found[change.pointer] = (protector, codes)
+        elif isinstance(change, changes.Protector):
+            assert found[change.pointer][0] == change.before
+            found[change.pointer] = (change.after, found[change.pointer][1])
+        else:
+            assert found[change.allocation] == change.before
+            found[change.allocation] = change.after
+    return found
+
+
+class WhatWasMet(TestCase):
+    """The permission that is said to have refused a request is the first that refuses in the visiting order."""
+
+    def test_generated_runs(self):
+        met = collections.Counter()
+        for seed in range(MET):
+            run = generate.run(seed)
+            refused = verdicts.refusal_of(judge(run))
+            if refused is None or refused.refusal not in REFUSED_BY_PERMISSION:
+                continue
+            request = next(request for request in w.requests(run) if request.index == refused.index)
+            prefix = run[: 4 * request.start]
+            before = memories.of_output(judge(prefix))
+            met[refused.refusal] += 1
+            with self.subTest(seed=seed):
+                self.check(replay.Step(request, refused, before, before), prefix)
+        self.assertGreaterEqual(set(met), {17, 18, 19, 20, 21, 22, 23})
+
+    def test_a_retag_goes_byte_by_byte(self):
+        """Of two permissions that refuse, a retag meets the one at the lower byte, and not at the higher node."""
+        lines = ("r = heap 2 at 0x10", "p = &mut r", "call 0", "q = &mut p 1 in 0", "store q 01", "store r+1 02", "x = & p 2")
+        steps = replay.replay(card.read("\n".join(lines).encode()).run, judge)
+        self.assertEqual(steps[-1].before.node((0, 1)).codes, "35")
+        self.assertEqual(steps[-1].answer.refusal, 21)
+        self.assertEqual(history.met(steps[-1]), history.Spot((0, 2), 0))
+
+    def check(self, step, prefix):
+        spot = history.met(step)
+        self.assertIsNotNone(spot)
+        if step.answer.refusal == 24:
+            self.assertEqual(step.before.node(spot.pointer).protector, "strong")
+            return
+        self.assertEqual((spot, step.answer.refusal), first_refusal(step))
+        self.assertEqual(alone(step, spot, prefix), step.answer.refusal)
+
+
+def alone(step, spot, prefix):
+    """The refusal of an access to the byte alone, through the same pointer, in place of the request."""
+    address = step.before.allocation(spot.pointer.allocation).address + spot.offset
+    if access_of(step.request) == READ:
+        request = w.join(w.LOAD, step.pointer, address=address, fourth=1)
+    else:
+        request = w.join(w.STORE, step.pointer, address=address, fourth=1, following=(w.byte_word(w.Byte(7)),))
+    refused = verdicts.refusal_of(judge(prefix + w.bytes_of(request)))
+    return refused.refusal
+
+
+def access_of(request):
+    return READ if request.kind in (w.LOAD, w.RETAG) else WRITE
+
+
+# Document 01's rules, by access and relation: the refusal of each code that is refused.
+REFUSALS = {
+    (READ, LOCAL): {"5": 17, "e": 17},
+    (WRITE, LOCAL): {"4": 18, "c": 18, "d": 18, "5": 19, "e": 19, "9": 20, "a": 20},
+    (READ, FOREIGN): {"b": 21},
+    (WRITE, FOREIGN): {"8": 22, "a": 22, "d": 22, "b": 23},
+}
+
+
+def first_refusal(step):
+    """The first spot that refuses and its refusal, by a plain walk through the tree."""
+    allocation = step.before.allocation(step.pointer.allocation)
+    offsets = history.touched(step.request, allocation)
+    if step.request.kind is w.RETAG:
+        found = (walk(step, allocation, allocation.nodes[0], [offset]) for offset in offsets)
+        return next(spot for spot in found if spot)
+    return walk(step, allocation, allocation.nodes[0], offsets)
+
+
+def walk(step, allocation, node, offsets):
+    relation = LOCAL if is_above(allocation, node, step.pointer.node) else FOREIGN
+    refusals = REFUSALS[access_of(step.request), relation]
+    for offset in offsets:
+        if node.codes[offset] in refusals:
+            return history.Spot(node.pointer, offset), refusals[node.codes[offset]]
+    for child in allocation.nodes:
+        if child.parent == node.pointer:
+            found = walk(step, allocation, child, offsets)
+            if found:
+                return found
+    return None
+
+
+def is_above(allocation, node, number):
+    """Whether a node is on the path from the root to the one with this number."""
+    while number != node.pointer.node:
+        parent = allocation.nodes[number].parent
+        if parent is None:
+            return False
+        number = parent.node
+    return True
+
+
+class Histories(TestCase):
+    """What is said of a permission's past agrees with its codes."""
+
+    def test_generated_runs(self):
+        seen = 0
+        for seed in range(MET // 4):
+            run = generate.run(seed)
+            refused = verdicts.refusal_of(judge(run))
+            if refused is None or refused.refusal not in REFUSED_BY_PERMISSION:
+                continue
+            steps = replay.replay(run, judge)
+            spot = history.met(steps[-1])
+            turns = history.changes_of(steps, spot)
+            seen += 1
+            with self.subTest(seed=seed):
+                self.assertIsNone(turns[0].before)
+                self.assertEqual([turn.before for turn in turns[1:]], [turn.after for turn in turns[:-1]])
+                self.assertEqual(turns[-1].after, spot.code(steps[-1].before))
+                self.check_causes(turns, history.accesses_of(steps, spot))
+        self.assertGreater(seen, 50)
+
+    def check_causes(self, turns, accesses):
+        """Each change is by a step that read or wrote the byte, or ended the node's protector."""
+        by_access = {access.step.request.index for access in accesses}
+        for turn in turns[1:]:
+            is_end = turn.step.request.kind is w.END_CALL
+            self.assertTrue(is_end or turn.step.request.index in by_access, turn)
+
+
+if __name__ == "__main__":
+    unittest.main()
