@@ -185,16 +185,17 @@ def _leaks(state, scanner):
 def _raw(state, scanner):
     """Words as they are: those of one request, or what is left of one at the card's end."""
     at = scanner.at
-    run = b""
+    digits = []
     found = scanner.accept(_WORD)
     while found:
-        run += bytes.fromhex(found.group())
+        digits.append(found.group())
         found = scanner.accept(_WORD)
     rest = scanner.accept(_REST)
-    run += bytes.fromhex(rest.group()) if rest else b""
-    if not run or not scanner.is_done:
+    if rest:
+        digits.append(rest.group())
+    if not digits or not scanner.is_done:
         raise scanner.unexpected("words of eight hexadecimal digits")
-    requests = list(w.requests(run))
+    requests = list(w.requests(bytes.fromhex("".join(digits))))
     if len(requests) > 1:
         raise scanner.error(f"these are the words of {len(requests)} requests, and a line has one", at)
     return requests[0]

@@ -126,8 +126,9 @@ def _say_pointer(writer, stored):
     """'ptr PLACE', where eight words are all bytes of one pointer with provenance."""
     if len(stored) < POINTER_BYTES or not all(word >> 30 == 3 for word in stored):
         return None
-    parts = [w.byte_of(word) for word in stored]
-    place = Place(parts[0].provenance, int.from_bytes(bytes(part.value for part in parts), "little"), None)
+    fragments = [w.byte_of(word) for word in stored]
+    address = int.from_bytes(bytes(fragment.value for fragment in fragments), "little")
+    place = Place(fragments[0].provenance, address, None)
     if parts.pointer_words(place) != list(stored):
         return None
     return f"ptr {writer.place(place.provenance, place.address)}", POINTER_BYTES
@@ -171,15 +172,16 @@ def _say_retag(writer, request):
 
 
 def _say_layout(layout):
-    parts = [_say_sized(header) for header in layout.headers[:-1]]
-    tail = layout.headers[-1]
+    heads = [_say_sized(header) for header in layout.headers[:-1]]
+    return ", ".join([*heads, _say_tail(layout.headers[-1], layout.metadata)])
+
+
+def _say_tail(tail, metadata):
     if tail.layout == "slice":
-        parts.append(f"slice {layout.metadata.count} of {_say_sized(tail)}")
-    elif tail.layout == "trait object":
-        parts.append(f"dyn {_say_sized(tail)}")
-    else:
-        parts.append(_say_sized(tail) + _say_metadata(layout.metadata))
-    return ", ".join(parts)
+        return f"slice {metadata.count} of {_say_sized(tail)}"
+    if tail.layout == "trait object":
+        return f"dyn {_say_sized(tail)}"
+    return _say_sized(tail) + _say_metadata(metadata)
 
 
 def _say_sized(header):
