@@ -6,7 +6,7 @@ import unittest
 
 import borrows
 import generate
-from support import TestCase, program
+from support import EXAMPLES, TestCase, program, read
 
 from hiedukson import card, changes, history, memories, permissions, replay, verdicts
 from hiedukson import words as w
@@ -14,6 +14,7 @@ from hiedukson.permissions import FOREIGN, LOCAL, READ, WRITE
 
 REPLAYED = 60
 MET = 1200
+RELEASED = f"{EXAMPLES}/released-reserved.hex"
 REFUSED_BY_PERMISSION = sorted(permissions.MET)
 
 
@@ -125,6 +126,14 @@ class WhatWasMet(TestCase):
         self.assertEqual(steps[-1].answer.refusal, 21)
         self.assertEqual(history.met(steps[-1]), history.Spot((0, 2), 0))
 
+    def test_cells_of_a_shared_reference_are_not_read(self):
+        """Where both bytes are Disabled, a shared reference meets the one that is no cell, all others the first."""
+        for reference, offset in (("& p 2 cells 0..1", 1), ("& p 2", 0), ("&mut p 2 cells 0..1", 0), ("box p 2 cells 0..1", 0)):
+            lines = ("r = heap 2 at 0x10", "p = &mut r", "store r 01 02", f"x = {reference}")
+            steps = replay.replay(card.read("\n".join(lines).encode()).run, judge)
+            self.assertEqual(steps[-1].answer.refusal, 17)
+            self.assertEqual(history.met(steps[-1]), history.Spot((0, 1), offset), reference)
+
     def check(self, step, prefix):
         spot = history.met(step)
         self.assertIsNotNone(spot)
@@ -193,33 +202,52 @@ def is_above(allocation, node, number):
     return True
 
 
+# Which access makes which code of another, by document 01's rules.
+CAUSES = {
+    (WRITE, LOCAL): ("13", "23", "7b", "8b"),
+    (READ, LOCAL): ("78", "9a", "cd"),
+    (READ, FOREIGN): ("34", "79", "8a"),
+    (WRITE, FOREIGN): ("15", "35", "45", "7e", "9e", "ce"),
+}
+
+
 class Histories(TestCase):
     """What is said of a permission's past agrees with its codes."""
 
     def test_generated_runs(self):
-        seen = 0
+        met = collections.Counter()
         for seed in range(MET // 6):
-            run = borrows.run(seed)
-            refused = verdicts.refusal_of(judge(run))
-            if refused is None or refused.refusal not in REFUSED_BY_PERMISSION:
-                continue
-            steps = replay.replay(run, judge)
-            spot = history.met(steps[-1])
-            turns = history.changes_of(steps, spot)
-            seen += 1
+            steps = replay.replay(borrows.run(seed), judge)
             with self.subTest(seed=seed):
-                self.assertIsNone(turns[0].before)
-                self.assertEqual([turn.before for turn in turns[1:]], [turn.after for turn in turns[:-1]])
-                self.assertEqual(turns[-1].after, spot.code(steps[-1].before))
-                self.check_causes(turns, history.accesses_of(steps, spot))
-        self.assertGreater(seen, 50)
+                for node in steps[-1].after.allocations[0].nodes:
+                    for offset in range(len(node.codes)):
+                        self.check(steps, history.Spot(node.pointer, offset), met)
+        self.assertEqual({cause for cause in CAUSES if met[cause] < 20}, set())
 
-    def check_causes(self, turns, accesses):
-        """Each change is by a step that read or wrote the byte, or ended the node's protector."""
-        by_access = {access.step.request.index for access in accesses}
+    def test_what_a_release_reads(self):
+        """The end of a call reads what its argument has read, which another argument sees."""
+        steps = replay.replay(card.read(read(RELEASED)).run, judge)
+        met = collections.Counter()
+        self.check(steps, history.met(steps[-1]), met)
+        self.assertEqual(met, {(READ, FOREIGN): 1, w.END_CALL: 1})
+
+    def check(self, steps, spot, met):
+        turns = history.changes_of(steps, spot)
+        self.assertIsNone(turns[0].before)
+        self.assertEqual([turn.before for turn in turns[1:]], [turn.after for turn in turns[:-1]])
+        self.assertEqual(turns[-1].after, spot.code(steps[-1].after))
+        accesses = history.accesses_of(steps, spot)
         for turn in turns[1:]:
-            is_end = turn.step.request.kind is w.END_CALL
-            self.assertTrue(is_end or turn.step.request.index in by_access, turn)
+            self.check_cause(turn, accesses, met)
+
+    def check_cause(self, turn, accesses, met):
+        """A change by an access is by one that the step made at the byte."""
+        found = {(access.kind, access.relation) for access in accesses if access.step is turn.step}
+        for cause, pairs in CAUSES.items():
+            if turn.before + turn.after in pairs:
+                self.assertIn(cause, found, turn)
+                met[cause] += 1
+                met[turn.step.request.kind] += 1
 
 
 if __name__ == "__main__":
