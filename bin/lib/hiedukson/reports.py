@@ -113,10 +113,15 @@ def _byte(byte, known):
 
 def lines(report, place):
     """The report as lines, up to and with the request of this index."""
-    shown = [line for entry in report.entries[: place + 1] for line in _entry_lines(entry)]
+    parts = [[line for entry in report.entries[: place + 1] for line in _entry_lines(entry)]]
     if report.is_refused_at(place):
-        shown += ["", *_explanation_lines(report.explanation)]
-    return shown + ["", *tree_lines(report, place)]
+        parts.append(list(_explanation_lines(report.explanation)))
+    return _apart([*parts, *_trees(report, place)])
+
+
+def _apart(parts):
+    """The lines of all parts, an empty one between them."""
+    return [line for part in parts if part for line in ("", *part)][1:]
 
 
 def _entry_lines(entry):
@@ -147,11 +152,12 @@ def _wrapped(label, sentence):
 
 
 def tree_lines(report, place):
-    """The trees after the request at a place, an empty line between them."""
+    """The trees after the request of this index, as lines."""
+    return _apart(_trees(report, place))
+
+
+def _trees(report, place):
     memory = report.memory_after(place)
     if not memory.allocations:
-        return ["no allocation was made"]
-    shown = []
-    for allocation in memory.allocations:
-        shown += ["", *drawing.text(allocation, report.names, report.spot_at(place))]
-    return shown[1:]
+        return [["no allocation was made"]]
+    return [drawing.text(allocation, report.names, report.spot_at(place)) for allocation in memory.allocations]
