@@ -7,14 +7,12 @@ import subprocess
 import threading
 import unittest
 
-from support import BIN, EXAMPLES, TestCase, command, example_paths, program, read
+from support import ACCEPTED, ACCEPTED_OUTPUT, BIN, REFUSED, REFUSED_OUTPUT, TestCase, command, example_paths, program, read
 
-from hiedukson import card
+from hiedukson import card, verdicts
 from hiedukson import words as w
 
 VERDICT = os.path.join(BIN, "verdict")
-ACCEPTED = os.path.join(EXAMPLES, "two-phase-borrow.hex")
-REFUSED = os.path.join(EXAMPLES, "aliasing-write.hex")
 REQUESTS = 200_000
 
 
@@ -30,40 +28,41 @@ class Output(TestCase):
             status, output, _ = command("verdict", path)
             self.assertEqual(output, read(path[:-4] + ".out"), path)
             self.assertEqual(output, program().run(card.read(read(path)).run))
-            self.assertEqual(status, 0 if path == ACCEPTED else 1, path)
+            self.assertEqual(status, 1 if verdicts.refusal_of(output) else 0, path)
 
     def test_accepted_says_nothing(self):
-        self.assertEqual(command("verdict", ACCEPTED)[2], "")
+        self.assertEqual(command("verdict", data=ACCEPTED), (0, ACCEPTED_OUTPUT, ""))
 
     def test_forms_agree(self):
-        run = card.read(read(REFUSED)).run
-        names = card.to_names(card.read(read(REFUSED)))
-        expected = read(REFUSED[:-4] + ".out")
-        for name, data in (("a.bin", run), ("a.card", names), ("a.hex", read(REFUSED)), ("a.mark", b"\xef\xbb\xbf" + read(REFUSED))):
+        run = card.read(REFUSED).run
+        names = card.to_names(card.read(REFUSED))
+        expected = REFUSED_OUTPUT
+        for name, data in (("a.bin", run), ("a.card", names), ("a.hex", REFUSED), ("a.mark", b"\xef\xbb\xbf" + REFUSED)):
             status, output, _ = command("verdict", self.write(name, data))
             self.assertEqual((status, output), (1, expected), name)
 
     def test_upper_case_and_other_white_space(self):
-        text = read(REFUSED).split(b"\n")
+        text = REFUSED.split(b"\n")
         words = b" ".join(line.split(b"#")[0] for line in text).upper().split()
         status, output, _ = command("verdict", data=b"\r\n\t".join(words))
-        self.assertEqual((status, output), (1, read(REFUSED[:-4] + ".out")))
+        self.assertEqual((status, output), (1, REFUSED_OUTPUT))
 
     def test_empty(self):
         for data in (b"", b"\n\n", b"# nothing\n"):
             self.assertEqual(command("verdict", data=data), (0, b"", ""))
 
     def test_names_before_verdicts(self):
-        one, two = read(ACCEPTED[:-4] + ".out"), read(REFUSED[:-4] + ".out")
-        named = f"{ACCEPTED}:\n".encode() + one + f"{REFUSED}:\n".encode() + two
-        self.assertEqual(command("verdict", ACCEPTED, REFUSED)[1], named)
-        self.assertEqual(command("verdict", "-h", ACCEPTED, REFUSED)[1], one + two)
-        self.assertEqual(command("verdict", "-H", ACCEPTED)[1], f"{ACCEPTED}:\n".encode() + one)
-        self.assertEqual(command("verdict", "-hH", ACCEPTED)[1], f"{ACCEPTED}:\n".encode() + one)
-        self.assertEqual(command("verdict", "-H", data=read(ACCEPTED))[1], b"standard input:\n" + one)
+        one, two = ACCEPTED_OUTPUT, REFUSED_OUTPUT
+        accepted, refused = self.cards()
+        named = f"{accepted}:\n".encode() + one + f"{refused}:\n".encode() + two
+        self.assertEqual(command("verdict", accepted, refused)[1], named)
+        self.assertEqual(command("verdict", "-h", accepted, refused)[1], one + two)
+        self.assertEqual(command("verdict", "-H", accepted)[1], f"{accepted}:\n".encode() + one)
+        self.assertEqual(command("verdict", "-hH", accepted)[1], f"{accepted}:\n".encode() + one)
+        self.assertEqual(command("verdict", "-H", data=ACCEPTED)[1], b"standard input:\n" + one)
 
     def test_a_name_with_a_line_feed_stays_on_one_line(self):
-        path = self.write("a\nb.hex", read(ACCEPTED))
+        path = self.write("a\nb.hex", ACCEPTED)
         self.assertTrue(command("verdict", "-H", path)[1].startswith(f"{self.folder}/a\\x0ab.hex:\n".encode()))
 
 
@@ -76,10 +75,11 @@ class Refusals(TestCase):
         return error
 
     def test_place_request_pointer_and_address(self):
-        _, _, error = command("verdict", REFUSED)
+        _, path = self.cards()
+        _, _, error = command("verdict", path)
         self.assertEqual(
             error,
-            f"verdict: {REFUSED}:7: request 4, store 1 byte at 0x10 through 0.1: refused, 18: local write of Frozen\n"
+            f"verdict: {path}:7: request 4, store 1 byte at 0x10 through 0.1: refused, 18: local write of Frozen\n"
             "    30000300 00000000 00000010 00000001 80000008           # store through node 1: refused\n",
         )
 
@@ -92,17 +92,18 @@ class Refusals(TestCase):
         )
 
     def test_bytes_have_no_lines(self):
-        path = self.write("a.bin", card.read(read(REFUSED)).run)
+        path = self.write("a.bin", card.read(REFUSED).run)
         self.assertIn(f"{path}: byte 76: request 4, store", command("verdict", path)[2])
 
     def test_lines_of_requests_that_are_broken_up(self):
-        words = [f"{word:08x}" for word in w.words_of(card.read(read(REFUSED)).run)[0]]
+        words = [f"{word:08x}" for word in w.words_of(card.read(REFUSED).run)[0]]
         _, _, error = command("verdict", data="\n".join(words).encode())
         self.assertIn("standard input:20: request 4", error)
         self.assertEqual(words[19], "30000300")
 
     def test_leak_names_the_allocation(self):
-        self.assertIn("25: memory leak: allocation 1 is live", command("verdict", os.path.join(EXAMPLES, "leak.hex"))[2])
+        path = self.write("leak.card", "x = stack 1 at 16\ny = heap 1 at 32\nleaks\n")
+        self.assertIn("25: memory leak: allocation 1 is live", command("verdict", path)[2])
 
     def test_each_test_of_2(self):
         one = w.join(w.ALLOCATE, extra=1, address=16, fourth=8)
@@ -205,29 +206,29 @@ class BadText(TestCase):
 
 class Files(TestCase):
     def test_name_with_an_equals_sign(self):
-        self.write("a=b.hex", read(REFUSED))
-        status, output, error = command("verdict", "a=b.hex", cwd=self.folder, data=read(ACCEPTED))
-        self.assertEqual((status, output), (1, read(REFUSED[:-4] + ".out")))
+        self.write("a=b.hex", REFUSED)
+        status, output, error = command("verdict", "a=b.hex", cwd=self.folder, data=ACCEPTED)
+        self.assertEqual((status, output), (1, REFUSED_OUTPUT))
         self.assertIn("verdict: a=b.hex:7: request 4", error)
 
     def test_name_with_a_dash(self):
-        self.write("-dash.bin", card.read(read(REFUSED)).run)
+        self.write("-dash.bin", card.read(REFUSED).run)
         status, output, error = command("verdict", "-b", "--", "-dash.bin", cwd=self.folder)
-        self.assertEqual((status, output), (1, read(REFUSED[:-4] + ".out")))
+        self.assertEqual((status, output), (1, REFUSED_OUTPUT))
         self.assertIn("-dash.bin: byte 76: request 4", error)
         self.assertEqual(command("verdict", "-b", "-dash.bin", cwd=self.folder)[0], 2)
 
     def test_standard_input(self):
-        expected = (1, read(REFUSED[:-4] + ".out"))
+        expected = (1, REFUSED_OUTPUT)
         for arguments in ((), ("-",), ("--", "-"), ("--",)):
-            self.assertEqual(command("verdict", *arguments, data=read(REFUSED))[:2], expected)
-        self.assertIn("standard input:7:", command("verdict", data=read(REFUSED))[2])
+            self.assertEqual(command("verdict", *arguments, data=REFUSED)[:2], expected)
+        self.assertIn("standard input:7:", command("verdict", data=REFUSED)[2])
 
     def test_through_links(self):
         os.symlink(VERDICT, self.path("one"))
         os.symlink("one", self.path("two"))
-        done = subprocess.run([self.path("two"), REFUSED], stdout=subprocess.PIPE, stderr=subprocess.PIPE, check=False)
-        self.assertEqual((done.returncode, done.stdout), (1, read(REFUSED[:-4] + ".out")))
+        done = subprocess.run([self.path("two"), self.cards()[1]], stdout=subprocess.PIPE, stderr=subprocess.PIPE, check=False)
+        self.assertEqual((done.returncode, done.stdout), (1, REFUSED_OUTPUT))
 
     def test_pipes_as_files(self):
         path = self.path("pipe")
@@ -235,18 +236,19 @@ class Files(TestCase):
 
         def fill():
             with open(path, "wb") as pipe:
-                pipe.write(read(REFUSED))
+                pipe.write(REFUSED)
 
         writer = threading.Thread(target=fill)
         writer.start()
-        self.assertEqual(command("verdict", path)[:2], (1, read(REFUSED[:-4] + ".out")))
+        self.assertEqual(command("verdict", path)[:2], (1, REFUSED_OUTPUT))
         writer.join()
 
     def test_goes_on_after_a_bad_file(self):
         bad = self.write("bad.hex", "nothing that is known\n")
-        status, output, error = command("verdict", "-h", "/nowhere", self.folder, bad, REFUSED, ACCEPTED)
+        accepted, refused = self.cards()
+        status, output, error = command("verdict", "-h", "/nowhere", self.folder, bad, refused, accepted)
         self.assertEqual(status, 2)
-        self.assertEqual(output, read(REFUSED[:-4] + ".out") + read(ACCEPTED[:-4] + ".out"))
+        self.assertEqual(output, REFUSED_OUTPUT + ACCEPTED_OUTPUT)
         self.assertIn("verdict: /nowhere: No such file or directory\n", error)
         self.assertIn(f"verdict: {self.folder}: Is a directory\n", error)
         self.assertIn(f"verdict: {bad}:1:1: expected", error)
@@ -262,17 +264,19 @@ class Files(TestCase):
 class BadOutput(TestCase):
     def test_standard_output_full_or_closed(self):
         for line in ('"$@" >/dev/full', '"$@" >&-', '"$@" >/dev/full 2>/dev/full', '"$@" >&- 2>&-'):
-            for path in (ACCEPTED, REFUSED):
+            for path in self.cards():
                 self.assertEqual(shell(line, path)[0], 2, line)
-        self.assertIn("verdict: standard output: No space left on device", shell('"$@" >/dev/full', ACCEPTED)[2])
-        self.assertIn("verdict: standard output: Bad file descriptor", shell('"$@" >&-', ACCEPTED)[2])
+        accepted, _ = self.cards()
+        self.assertIn("verdict: standard output: No space left on device", shell('"$@" >/dev/full', accepted)[2])
+        self.assertIn("verdict: standard output: Bad file descriptor", shell('"$@" >&-', accepted)[2])
         self.assertEqual(shell('"$@" >/dev/full', "--help")[0], 2)
         self.assertEqual(shell('"$@" >/dev/full', "--version")[0], 2)
 
     def test_standard_error_closed(self):
+        accepted, refused = self.cards()
         for line in ('"$@" 2>&-', '"$@" 2>/dev/full'):
-            self.assertEqual(shell(line, REFUSED)[:2], (1, read(REFUSED[:-4] + ".out")))
-            self.assertEqual(shell(line, ACCEPTED)[0], 0)
+            self.assertEqual(shell(line, refused)[:2], (1, REFUSED_OUTPUT))
+            self.assertEqual(shell(line, accepted)[0], 0)
             self.assertEqual(shell(line, "/nowhere")[0], 2)
 
     def test_reader_that_has_gone(self):
@@ -282,7 +286,7 @@ class BadOutput(TestCase):
         self.assertTrue(status.endswith("2\n"), status)
 
     def test_no_room_for_temporary_files(self):
-        self.assertEqual(command("verdict", REFUSED, env={**os.environ, "TMPDIR": "/nowhere"})[0], 1)
+        self.assertEqual(command("verdict", self.cards()[1], env={**os.environ, "TMPDIR": "/nowhere"})[0], 1)
 
 
 class Words(TestCase):
@@ -295,7 +299,7 @@ class Words(TestCase):
         self.assertRegex(output.decode(), r"\Averdict of Hiedukson\ncommit .+\ntoolchain .+\nprogram sha256 [0-9a-f]{64}\n\Z")
 
     def test_unknown_option(self):
-        status, output, error = command("verdict", "-x", REFUSED)
+        status, output, error = command("verdict", "-x", self.cards()[1])
         self.assertEqual((status, output), (2, b""))
         self.assertEqual(error, "verdict: option -x not recognized (see verdict --help)\n")
 
