@@ -17,6 +17,48 @@ from hiedukson.program import Program  # noqa: E402
 
 EXAMPLES = os.path.join(ROOT, "examples")
 
+# A card that is accepted, and one whose request 4, on line 7, is refused with 18; and what the program prints of each.
+ACCEPTED = b"""\
+# a two-phase borrow
+
+00000000 00000000 00000010 00000001                    # allocate 1 stack byte at 16
+30000100 00000000 00000010 00000001 80000003           # store 3 through node 0
+40000101 00000000 00000010 60000002 00000000 00000001  # borrow it mutably: node 1
+20000100 00000000 00000010 00000001                    # load through node 0
+30000300 00000000 00000010 00000001 80000004           # store 4 through node 1
+"""
+ACCEPTED_OUTPUT = b"""\
+0 0 0.0
+1 0 -
+2 0 0.1
+3 0 80000003
+4 0 -
+a 0 live stack 16 1 0
+d 0 80000004
+n 0 0 - no 3
+n 0 1 0 no 3
+"""
+REFUSED = b"""\
+# an aliasing write
+
+00000001 00000000 00000010 00000002                    # allocate 2 heap bytes at 16
+40000101 00000000 00000010 60000002 00000000 00000002  # borrow them mutably: node 1
+30000300 00000000 00000010 00000001 80000007           # store 7 through node 1
+20000100 00000000 00000010 00000001                    # load through node 0
+30000300 00000000 00000010 00000001 80000008           # store through node 1: refused
+"""
+REFUSED_OUTPUT = b"""\
+0 0 0.0
+1 0 0.1
+2 0 -
+3 0 80000007
+4 18 -
+a 0 live heap 16 2 0
+d 0 80000007 00000000
+n 0 0 - no 33
+n 0 1 0 no 41
+"""
+
 
 def command(name, *arguments, **options):
     """Run one of the commands in bin/: its status, standard output and standard error."""
@@ -31,10 +73,10 @@ def run(words, data=b"", **options):
 
 
 def example_paths():
-    """The hexadecimal cards in examples/."""
+    """The hexadecimal cards in examples/ that have their output beside them."""
     found = []
     for folder, _, files in os.walk(EXAMPLES):
-        found.extend(os.path.join(folder, name) for name in files if name.endswith(".hex"))
+        found.extend(os.path.join(folder, name) for name in files if name.endswith(".hex") and name[:-4] + ".out" in files)
     return sorted(found)
 
 
@@ -69,6 +111,10 @@ class TestCase(unittest.TestCase):
 
     def path(self, name):
         return os.path.join(self.folder, name)
+
+    def cards(self):
+        """The paths of a card that is accepted and of one that is refused."""
+        return self.write("accepted.hex", ACCEPTED), self.write("refused.hex", REFUSED)
 
     def write(self, name, data):
         path = self.path(name)

@@ -3,10 +3,11 @@
 
 import collections
 import random
+import re
 import unittest
 
 import generate
-from support import TestCase, command, example_paths, program, read, refusal
+from support import REFUSED, TestCase, command, example_paths, program, read, refusal
 
 from hiedukson import card, notation, verdicts
 from hiedukson import words as w
@@ -18,6 +19,10 @@ REACHED = {2, 3, 4, 5, 6, 7, 8, 9, 10, 11, 12, 13, 15, 17, 18, 19, 20, 21, 22, 2
 
 def names_and_back(run):
     return notation.read("".join(f"{line}\n" for line in notation.write(run)).encode()).run
+
+
+def without_blanks(text):
+    return [re.sub(rb"\s*#", b"#", line, count=1) for line in text.splitlines()]
 
 
 class RoundTrip(TestCase):
@@ -72,21 +77,21 @@ class RoundTrip(TestCase):
 
     def test_one_field_wild(self):
         """A small run with each bit of each word flipped."""
-        run = card.read(read(example_paths()[0])).run
+        run = card.read(REFUSED).run
         for bit in range(8 * len(run)):
             flipped = bytearray(run)
             flipped[bit // 8] ^= 1 << bit % 8
             self.assertEqual(names_and_back(bytes(flipped)), bytes(flipped), f"bit {bit}")
 
     def test_examples_through_the_command(self):
-        """Words to names to words give the same text, comments and all."""
+        """Words to names to words give the same text, comments and all, but for the blanks before a comment."""
         self.assertGreater(len(example_paths()), 20)
         for path in example_paths():
             status, names, error = command("card", path)
             self.assertEqual((status, error), (0, ""))
             status, words, error = command("card", data=names)
             self.assertEqual((status, error), (0, ""))
-            self.assertEqual(words, read(path), path)
+            self.assertEqual(without_blanks(words), without_blanks(read(path)), path)
 
     def test_numbers_of_accepted_runs(self):
         """The names stand for the pointers that the program gives: a0.1 is what it prints as 0.1."""

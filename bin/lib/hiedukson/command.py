@@ -1,6 +1,6 @@
 """What every command does alike: standard streams, errors, statuses, files that are replaced whole.
 
-    run(name, main)          run a command's main and end the process with the status that it returns
+    run(name, main)          run a command's main, that of its module if none is given, and end with its status
     Command                  say an error, write to standard output, read a file or standard input
     replace(path, data)      write a file whole, or leave it as it was
 
@@ -8,9 +8,9 @@ Statuses: 0 all is well, 1 the answer is no (a refusal, a change), 2 an error.
 """
 
 import errno
+import importlib
 import os
 import sys
-import tempfile
 
 from . import program
 from .errors import CardError, ProgramError
@@ -67,6 +67,8 @@ class Command:
                 return _all_of(0)
             with open(path, "rb") as file:
                 return file.read()
+        except IsADirectoryError as error:
+            raise CardError("closed, or a folder" if path == STANDARD_INPUT else error.strerror) from None
         except OSError as error:
             raise CardError(error.strerror) from None
 
@@ -94,23 +96,15 @@ def _all_of(descriptor):
         parts.append(part)
 
 
-def run(name, main):
-    """Run `main(command, words)` and end with its status."""
-    command = Command(name)
+def run(name, main=None):
+    """Run `main(cmd, arguments)`, that of the command's module if none is given, and end with its status."""
+    cmd = Command(name)
     try:
         _hold_standard_streams()
-        status = main(command, sys.argv[1:])
-    except UsageError as error:
-        command.say(f"{error} (see {name} --help)")
-        status = ERROR
-    except OutputError as error:
-        command.say(f"standard output: {error}")
-        status = ERROR
-    except (ProgramError, CardError) as error:
-        command.say(str(error))
-        status = ERROR
-    except MemoryError:
-        command.say("out of memory")
+        main = main or importlib.import_module(f"hiedukson.commands.{name}").main
+        status = main(cmd, sys.argv[1:])
+    except (UsageError, OutputError, ProgramError, CardError, MemoryError) as error:
+        cmd.say(_said(name, error))
         status = ERROR
     except KeyboardInterrupt:
         status = INTERRUPTED
@@ -118,14 +112,22 @@ def run(name, main):
     os._exit(status)
 
 
+def _said(name, error):
+    if isinstance(error, UsageError):
+        return f"{error} (see {name} --help)"
+    if isinstance(error, OutputError):
+        return f"standard output: {error}"
+    return "out of memory" if isinstance(error, MemoryError) else str(error)
+
+
 def _hold_standard_streams():
     """No file that is opened later may take the place of a closed standard stream."""
-    if not _is_open(0):
-        os.dup2(os.open("/", os.O_RDONLY | os.O_DIRECTORY), 0)
-    if not _is_open(2):
-        os.dup2(os.open(os.devnull, os.O_WRONLY), 2)
     if not _is_open(1):
         raise OutputError(os.strerror(errno.EBADF))
+    if not _is_open(0):
+        os.open("/", os.O_RDONLY | os.O_DIRECTORY)
+    if not _is_open(2):
+        os.open(os.devnull, os.O_WRONLY)
 
 
 def _is_open(descriptor):
@@ -138,25 +140,17 @@ def _is_open(descriptor):
 
 def replace(path, data):
     """Write a file whole: what stood there stays until all is written, and stays for good if that fails."""
-    folder = os.path.dirname(os.path.realpath(path))
     target = os.path.realpath(path)
-    part = None
+    part = f"{target}.{os.getpid()}.part"
     try:
-        descriptor, part = tempfile.mkstemp(prefix=".", suffix=".part", dir=folder)
-        with os.fdopen(descriptor, "wb") as file:
+        if os.path.exists(target) and not os.path.isfile(target):
+            raise CardError(f"{printable(path)}: this is no file that can be replaced")
+        with open(part, "xb") as file:
             file.write(data)
-        os.chmod(part, _mode_for(target))
+        if os.path.exists(target):
+            os.chmod(part, os.stat(target).st_mode & 0o7777)
         os.replace(part, target)
     except OSError as error:
-        if part is not None and os.path.exists(part):
+        if os.path.exists(part):
             os.unlink(part)
         raise CardError(f"{printable(path)}: {error.strerror}") from None
-
-
-def _mode_for(path):
-    """The mode of the file that is replaced, or that of a new one."""
-    if os.path.exists(path):
-        return os.stat(path).st_mode & 0o7777
-    mask = os.umask(0)
-    os.umask(mask)
-    return 0o666 & ~mask
