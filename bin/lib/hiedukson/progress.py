@@ -87,7 +87,7 @@ class Meter:
 
     def line(self, elapsed):
         crate = min(self.done + 1, len(self.weights))
-        return f"proving the program: crate {crate} of {len(self.weights)}, {duration(elapsed)} so far, about {duration(self.left(elapsed))} more"
+        return f"proving: crate {crate} of {len(self.weights)}, {duration(elapsed)} so far, about {duration(self.left(elapsed))} more"
 
     def left(self, elapsed):
         """About how many seconds are left."""

@@ -174,7 +174,7 @@ def _deref(state, scanner):
 def _deref_signed(state, scanner):
     place = parts.place(state, scanner)
     is_negative = scanner.accept(_SIGN) is not None
-    length = scanner.expect_number("a length, which may be negative", MOST_SIGNED + is_negative)
+    length = scanner.expect_number("a signed length", MOST_SIGNED + is_negative)
     return _request(w.SIGNED_DEREFERENCEABLE, place, fourth=-length & MOST_WORD if is_negative else length)
 
 
