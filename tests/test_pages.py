@@ -159,9 +159,9 @@ class Pages(PagesCase):
 
     @unittest.skipUnless(shutil.which("dot"), "Graphviz is not there")
     def test_trees_drawn(self):
-        path = self.write("a.card", REFUSED)
+        path = self.write("a.card", "c = stack 1 at 0x20\n" + REFUSED)
         self.pages(path)
-        self.assertEqual(self.page("cards/a.card.html").tags.count("svg"), 1)
+        self.assertEqual(self.page("cards/a.card.html").tags.count("svg"), 2)
 
     def test_large_trees_are_text(self):
         path = self.write("a.card", "b = heap 1 at 0x10\n" + "".join(f"x{number} = & b\n" for number in range(200)))

@@ -83,7 +83,7 @@ digraph card {
   graph [fontname=monospace, fontsize=11];
   node [shape=box, fontname=monospace, fontsize=11];
   subgraph cluster_0 {
-    label="b: allocation 0, live heap, 2 bytes at 0x10, alignment 1";
+    label="b: allocation 0, live heap\\n2 bytes at 0x10, alignment 1";
     n0_0 [label="b\\n0x10..0x12 Unique"];
     n0_1 [label="x (also p)\\n0x10..0x11 Frozen\\n0x11..0x12 Reserved", class="met", color=red, penwidth=2];
     n0_0 -> n0_1;

@@ -1,26 +1,34 @@
 """Trees drawn: as text, and in the DOT language of Graphviz.
 
-    text(allocation, names, marked)   the lines of one allocation's tree; `marked` is a spot or None
-    dot(memory, names, marked)        all allocations of a memory as one graph
-    svg(graph)                        a graph as SVG, or None where Graphviz's `dot` is not there
+    heading(allocation, names)            an allocation in words
+    text(allocation, names, marked)       the lines of one allocation's tree; `marked` is a spot or None
+    dot(allocations, names, marked)       the trees of some allocations as one graph
+    svgs(graphs)                          graphs as SVG, or None where Graphviz's `dot` is not there
 """
 
+import re
 import shutil
 import subprocess
 
 from . import memories, permissions
+from .words import count
 
 LAST, INNER, UNDER_LAST, UNDER_INNER = "└─ ", "├─ ", "   ", "│  "
 MARK = "  <- refused here"
 
+_SVG = re.compile(r"<svg\b.*?</svg>", re.DOTALL)
+_ID = re.compile(r'(?<=<g) id="[^"]*"')
+
 
 def heading(allocation, names):
     """An allocation in words."""
-    size = "1 byte" if allocation.size == 1 else f"{allocation.size:,} bytes"
-    return (
-        f"{names.of(allocation.root)}: allocation {allocation.number}, {allocation.state} {allocation.kind},"
-        f" {size} at {allocation.address:#x}, alignment {1 << allocation.exponent}"
-    )
+    return ", ".join(_heading_parts(allocation, names))
+
+
+def _heading_parts(allocation, names):
+    name = names.of(allocation.root)
+    yield f"{name}: allocation {allocation.number}, {allocation.state} {allocation.kind}"
+    yield f"{count(allocation.size, 'byte')} at {allocation.address:#x}, alignment {1 << allocation.exponent}"
 
 
 def text(allocation, names, marked=None):
@@ -59,16 +67,17 @@ def _row(allocation, node):
 # ---- DOT
 
 
-def dot(memory, names, marked=None):
-    """A memory as one graph: an allocation a cluster, nodes in order of making, then the edges."""
+def dot(allocations, names, marked=None):
+    """Allocations as one graph: each a cluster, nodes in order of making, then the edges."""
     lines = ["digraph card {", "  graph [fontname=monospace, fontsize=11];", "  node [shape=box, fontname=monospace, fontsize=11];"]
-    for allocation in memory.allocations:
+    for allocation in allocations:
         lines += _cluster(allocation, names, marked)
     return "\n".join(lines + ["}", ""])
 
 
 def _cluster(allocation, names, marked):
-    lines = [f"  subgraph cluster_{allocation.number} {{", f"    label={_quoted(heading(allocation, names))};"]
+    label = _quoted("\n".join(_heading_parts(allocation, names)))
+    lines = [f"  subgraph cluster_{allocation.number} {{", f"    label={label};"]
     for node in allocation.nodes:
         lines.append(f"    {_identifier(node.pointer)} [{_attributes(allocation, node, names, marked)}];")
     for parent, inner in memories.children(allocation).items():
@@ -94,11 +103,11 @@ def _quoted(label):
     return f'"{escaped}"'
 
 
-def svg(graph):
-    """The graph drawn by Graphviz, from its <svg on; None where `dot` is not there or fails."""
+def svgs(graphs):
+    """The graphs drawn by Graphviz, each from its <svg on and without ids, so that one page can show them
+    all; None where `dot` is not there or fails."""
     if shutil.which("dot") is None:
         return None
-    drawn = subprocess.run(["dot", "-Tsvg"], input=graph, capture_output=True, encoding="utf-8", check=False)
-    if drawn.returncode != 0 or "<svg" not in drawn.stdout:
-        return None
-    return drawn.stdout[drawn.stdout.index("<svg") :]
+    drawn = subprocess.run(["dot", "-Tsvg"], input="".join(graphs), capture_output=True, encoding="utf-8", check=False)
+    found = [_ID.sub("", each) for each in _SVG.findall(drawn.stdout)]
+    return found if drawn.returncode == 0 and len(found) == len(graphs) else None

@@ -253,17 +253,24 @@ def _request(entry, is_refused):
 
 def _trees(report):
     last = len(report.entries) - 1
-    memory = report.memory_after(last)
-    if not memory.allocations:
+    allocations = report.memory_after(last).allocations
+    if not allocations:
         return ""
-    drawn = None
-    if sum(len(allocation.nodes) for allocation in memory.allocations) <= MOST_DRAWN:
-        drawn = drawing.svg(drawing.dot(memory, report.names, report.spot_at(last)))
+    drawn = _pictures(report, last, allocations)
     if drawn is None:
         text = "\n".join(reports.tree_lines(report, last))
         drawn = f"<pre>{escape(text)}</pre>"
-    after = "before the refused request" if report.explanation else "at the end"
-    return f'<h2>The trees {after}</h2>\n<div class="tree">{drawn}</div>'
+    when = "before the refused request" if report.explanation else "at the end"
+    return f'<h2>The trees {when}</h2>\n<div class="trees">{drawn}</div>'
+
+
+def _pictures(report, place, allocations):
+    """The trees drawn, or None where they are too large, or there is nothing to draw them."""
+    if sum(len(allocation.nodes) for allocation in allocations) > MOST_DRAWN:
+        return None
+    marked = report.spot_at(place)
+    drawn = drawing.svgs([drawing.dot([allocation], report.names, marked) for allocation in allocations])
+    return drawn and "".join(f'<div class="tree">{each}</div>' for each in drawn)
 
 
 def _source(entry):

@@ -61,7 +61,7 @@ def explain(cmd, path, is_binary, at, is_dot):
 
 def shown(report, name, place, is_dot):
     if is_dot:
-        return drawing.dot(report.memory_after(place), report.names, report.spot_at(place))
+        return drawing.dot(report.memory_after(place).allocations, report.names, report.spot_at(place))
     lines = [f"{name}: {report.verdict_at(place)}", "", *reports.lines(report, place)]
     return "".join(f"{line}\n" for line in lines)
 
