@@ -42,9 +42,9 @@ class RoundTrip(TestCase):
     def check_reasons(self, run, refused):
         """What the commands say of 2 and 3 is what the program says: a reason for those requests, and for no others."""
         last = refused.index if refused else None
-        open_frames = set()
+        frames = w.Frames()
         for request in w.requests(run):
-            malformed = w.malformed(request, open_frames)
+            malformed = w.malformed(request, frames.open)
             if request.index == last:
                 self.assertEqual(malformed is not None, refused.refusal == 2, malformed)
                 if malformed is None:
@@ -52,10 +52,7 @@ class RoundTrip(TestCase):
                 return
             self.assertIsNone(malformed)
             self.assertIsNone(w.no_mask(request))
-            if request.kind is w.NEW_CALL:
-                open_frames.add(request.fourth)
-            if request.kind is w.END_CALL:
-                open_frames.discard(request.fourth)
+            frames.follow(request.kind_number, request.fourth)
 
     def test_accepted_requests_have_names(self):
         """What the program accepts is said in names, but for a pinned reference whose unread words are no layout."""

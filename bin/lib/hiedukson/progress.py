@@ -10,7 +10,7 @@ import time
 # A check that ends sooner than this proved nothing, and is not talked about.
 QUIET_SECONDS = 2
 # So many bytes of sources are proved in a second, before anything is measured.
-USUAL_RATE = 12_000
+USUAL_RATE = 6_000
 # The rate that was measured counts from this share of the whole on.
 MEASURED_FROM = 0.1
 LAST_LINES = 15

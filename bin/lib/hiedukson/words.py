@@ -11,7 +11,7 @@ A run is bytes, four a word, most significant first. What this module offers:
     join(..)                   the words of a request from its fields: Request backwards
     malformed(request, open)   which test of refusal 2 fails, in words; None where none does
     no_mask(request)           which reason of refusal 3 holds, in words; None where none does
-    in_words(request, name)    the request as a short sentence: 'store of 1 byte at 0x10 through 0.1'
+    in_words(request, name)    the request as a short sentence: 'store 1 byte at 0x10 through 0.1'
     Byte, byte_of, byte_word   byte words: initialised, provenance and position, value
 
 `layouts` has a retag's layout words, `text` the hexadecimal text and its lines.
@@ -20,6 +20,7 @@ Nothing here judges: what is accepted and what is refused is the proved program'
 
 import sys
 from array import array
+from enum import Enum
 from typing import NamedTuple, Optional
 
 from . import layouts
@@ -55,40 +56,77 @@ FIELDS = {
 NAME = ("allocation", "node", "provenance")
 
 
+class Fourth(Enum):
+    """What the fourth word is."""
+
+    LENGTH = "length"
+    SIGNED = "signed length"
+    FRAME = "frame"
+    SETTINGS = "settings"
+    NOTHING = "nothing"
+
+
+class Follows(Enum):
+    """What the words behind the fourth are."""
+
+    BYTES = "bytes"
+    LAYOUT = "layout"
+    NOTHING = "nothing"
+
+
 class Kind(NamedTuple):
-    """One kind of request. To add one: a row in KINDS, a word for it in `notation`.
+    """One kind of request. To add one: a row in KINDS, and a word for it in `notation`. One that opens or closes frames has
+    a line in `Frames`, one that gives a pointer in `pointers`.
 
     uses      which of FIELDS have a use; all others must be zero
     extras    the names of the extra's values; () where it has no use
-    fourth    what the fourth word is: LENGTH, SIGNED, FRAME, SETTINGS, or NOTHING
+    says      the request in words, with the phrases of PHRASES
     """
 
     number: int
     name: str
     uses: tuple
     extras: tuple
-    fourth: str
+    fourth: Fourth
+    follows: Follows
+    says: str
 
 
-LENGTH = "length"
-SIGNED = "signed length"
-FRAME = "frame"
-SETTINGS = "settings"
-NOTHING = "nothing"
+# The fields of a request that goes through a pointer.
+ACCESS = (*NAME, "exponent", "address", "fourth")
 
 KINDS = (
-    Kind(0, "allocate", ("exponent", "extra", "address", "fourth"), ALLOCATION_KINDS, LENGTH),
-    Kind(1, "deallocate", (*NAME, "exponent", "extra", "address", "fourth"), ALLOCATION_KINDS, LENGTH),
-    Kind(2, "load", (*NAME, "exponent", "address", "fourth"), (), LENGTH),
-    Kind(3, "store", (*NAME, "exponent", "address", "fourth"), (), LENGTH),
-    Kind(4, "retag", (*NAME, "extra", "address", "fourth"), POINTER_KINDS, SETTINGS),
-    Kind(5, "new call", ("fourth",), (), FRAME),
-    Kind(6, "end call", ("fourth",), (), FRAME),
-    Kind(7, "dereferenceable", (*NAME, "address", "fourth"), (), LENGTH),
-    Kind(8, "signed dereferenceable", (*NAME, "address", "fourth"), (), SIGNED),
-    Kind(9, "leak check", (), (), NOTHING),
+    Kind(
+        0, "allocate", ("exponent", "extra", "address", "fourth"), ALLOCATION_KINDS, Fourth.LENGTH, Follows.NOTHING,
+        "allocate {bytes} of {extra} at {address}{aligned}",
+    ),
+    Kind(
+        1, "deallocate", (*ACCESS, "extra"), ALLOCATION_KINDS, Fourth.LENGTH, Follows.NOTHING,
+        "deallocate {bytes} of {extra} at {address}{through}{aligned}",
+    ),
+    Kind(2, "load", ACCESS, (), Fourth.LENGTH, Follows.NOTHING, "load {bytes} at {address}{through}{aligned}"),
+    Kind(3, "store", ACCESS, (), Fourth.LENGTH, Follows.BYTES, "store {bytes} at {address}{through}{aligned}"),
+    Kind(
+        4, "retag", (*NAME, "extra", "address", "fourth"), POINTER_KINDS, Fourth.SETTINGS, Follows.LAYOUT,
+        "retag {reference} at {address}{through}{argument}",
+    ),
+    Kind(5, "new call", ("fourth",), (), Fourth.FRAME, Follows.NOTHING, "new call, frame {fourth}"),
+    Kind(6, "end call", ("fourth",), (), Fourth.FRAME, Follows.NOTHING, "end call, frame {fourth}"),
+    Kind(
+        7, "dereferenceable", (*NAME, "address", "fourth"), (), Fourth.LENGTH, Follows.NOTHING,
+        "dereferenceable {bytes} at {address}{through}",
+    ),
+    Kind(
+        8, "signed dereferenceable", (*NAME, "address", "fourth"), (), Fourth.SIGNED, Follows.NOTHING,
+        "signed dereferenceable {bytes} at {address}{through}",
+    ),
+    Kind(9, "leak check", (), (), Fourth.NOTHING, Follows.NOTHING, "leak check"),
 )
 ALLOCATE, DEALLOCATE, LOAD, STORE, RETAG, NEW_CALL, END_CALL, DEREFERENCEABLE, SIGNED_DEREFERENCEABLE, LEAK_CHECK = KINDS
+BY_NUMBER = {kind.number: kind for kind in KINDS}
+WITH_BYTES = {kind.number for kind in KINDS if kind.follows is Follows.BYTES}
+WITH_LAYOUT = {kind.number for kind in KINDS if kind.follows is Follows.LAYOUT}
+WITH_FRAME = {kind.number for kind in KINDS if kind.fourth is Fourth.FRAME}
 
 
 # ---- bytes and words
@@ -115,12 +153,26 @@ def bytes_of(words):
 
 def following_length(first, fourth):
     """How many words follow the fourth: a store's bytes, a reference's or a box's layout."""
-    kind = first >> 28
-    if kind == STORE.number:
+    number = first >> 28
+    if number in WITH_BYTES:
         return fourth
-    if kind == RETAG.number and first & 7 < SAFE_POINTERS:
+    if number in WITH_LAYOUT and first & 7 < SAFE_POINTERS:
         return fourth & 0x7FFFFF
     return 0
+
+
+class Frames:
+    """The frames that are open, if all requests so far are accepted."""
+
+    def __init__(self):
+        self.open = set()
+
+    def follow(self, number, frame):
+        """Go on behind a request of a kind that has a frame."""
+        if number == NEW_CALL.number:
+            self.open.add(frame)
+        elif number == END_CALL.number:
+            self.open.discard(frame)
 
 
 def requests(run):
@@ -141,21 +193,19 @@ def request_at(run, index):
     """The request with this index, and the frames that are open before it, if all before are accepted.
     None for the request where the run has fewer."""
     words, rest = words_of(run)
-    open_frames = set()
+    frames = Frames()
     at = 0
     for _ in range(index):
-        kind = words[at] >> 28 if at < len(words) else None
         end = _end(words, at)
         if end > len(words):
-            return None, open_frames
-        if kind == NEW_CALL.number:
-            open_frames.add(words[at + 3])
-        elif kind == END_CALL.number:
-            open_frames.discard(words[at + 3])
+            return None, frames.open
+        number = words[at] >> 28
+        if number in WITH_FRAME:
+            frames.follow(number, words[at + 3])
         at = end
     if at >= len(words) and not rest:
-        return None, open_frames
-    return _request(words, rest, index, at, _end(words, at)), open_frames
+        return None, frames.open
+    return _request(words, rest, index, at, _end(words, at)), frames.open
 
 
 def _end(words, at):
@@ -176,7 +226,7 @@ class Request:
     index, start        its number in the run, and the number of its first word
     words, rest         its words; and the bytes of an unfinished word, where the run ends inside it
     is_cut              the run ends inside it: fields that are not there count as zero
-    kind                a row of KINDS, or None for numbers without one
+    kind, kind_number   a row of KINDS, or None for numbers without one; the number
     allocation, node, provenance, exponent, extra, address, fourth, following
     """
 
@@ -190,7 +240,7 @@ class Request:
         for name, shift, bits in FIRST_WORD:
             setattr(self, name, first >> shift & (1 << bits) - 1)
         self.kind_number = self.kind
-        self.kind = KINDS[self.kind_number] if self.kind_number < len(KINDS) else None
+        self.kind = BY_NUMBER.get(self.kind_number)
         self.address = high << WORD_BITS | low
         self.fourth = fourth
         self.following = words[4:]
@@ -321,7 +371,7 @@ def _bad_field(request):
 
 
 def _bad_following(request):
-    if request.kind is STORE:
+    if request.kind.follows is Follows.BYTES:
         for place, word in enumerate(request.following):
             if not is_byte_word(word):
                 return f"byte {place}: {word:08x} is no byte word ({_bad_byte(word)})"
@@ -362,7 +412,7 @@ def _bad_metadata(word):
 
 def _bad_frame(request, open_frames):
     kind = request.kind
-    if kind.fourth == FRAME and request.fourth >= FRAMES:
+    if kind.fourth is Fourth.FRAME and request.fourth >= FRAMES:
         return f"frame {request.fourth}, there are 0 to {FRAMES - 1}"
     if kind is NEW_CALL and request.fourth in open_frames:
         return f"frame {request.fourth} is open already"
@@ -390,51 +440,73 @@ def numbers(pointer):
 
 def in_words(request, name=numbers):
     """The request as a short sentence, from its fields alone. `name` says what (allocation, node) is called."""
-    kind = request.kind
     if request.is_cut and len(request.words) < 4:
         return "unfinished request"
-    if kind is None:
+    if request.kind is None:
         return f"kind {request.kind_number}"
-    if kind.fourth == FRAME:
-        return f"{kind.name}, frame {request.fourth}"
-    if kind.fourth == NOTHING:
-        return kind.name
-    return f"{kind.name} {_what(request)} at {request.address:#x}{_through(request, name)}{_settings(request)}"
+    return request.kind.says.format_map(_Said(request, name))
 
 
-def _what(request):
-    """Of what a request is, in words: '2 bytes of heap', '&mut, 4 bytes'."""
-    if request.kind is RETAG:
-        return _reference(request)
-    length = request.signed_length if request.kind.fourth == SIGNED else request.fourth
-    size = count(length, "byte")
-    if not request.kind.extras:
-        return size
-    return f"{size} of {request.kind.extras[request.extra]}" if request.extra < len(request.kind.extras) else size
+class _Said:
+    """The phrases about one request, each made when it is asked for."""
+
+    def __init__(self, request, name):
+        self.request = request
+        self.name = name
+
+    def __getitem__(self, phrase):
+        return PHRASES[phrase](self.request, self.name)
 
 
-def _reference(request):
-    if request.extra >= len(POINTER_KINDS):
-        return f"of extra {request.extra}"
-    name = POINTER_KINDS[request.extra]
-    if not request.is_safe:
-        return name
-    name = name if request.settings.unpin else f"pinned {name}"
-    if request.is_pinned or layouts.without_mask(request.following) is not None:
-        return name
-    return f"{name} to {count(layouts.mask_size(layouts.split(request.following)), 'byte')}"
+def _bytes(request, name):
+    return count(request.signed_length if request.kind.fourth is Fourth.SIGNED else request.fourth, "byte")
+
+
+def _extra(request, name):
+    extras = request.kind.extras
+    return extras[request.extra] if request.extra < len(extras) else f"extra {request.extra}"
+
+
+def _address(request, name):
+    return f"{request.address:#x}"
 
 
 def _through(request, name):
-    if "provenance" not in request.kind.uses:
-        return ""
     return f" through {name(request.pointer)}" if request.provenance else " without provenance"
 
 
-def _settings(request):
-    if request.is_safe and request.settings.entry:
-        return f", argument of frame {request.settings.frame}"
+def _aligned(request, name):
     return f", alignment {1 << request.exponent}" if request.exponent else ""
+
+
+def _fourth(request, name):
+    return str(request.fourth)
+
+
+def _reference(request, name):
+    kind = _extra(request, name)
+    if not request.is_safe:
+        return kind
+    kind = kind if request.settings.unpin else f"pinned {kind}"
+    if request.is_pinned or layouts.without_mask(request.following) is not None:
+        return kind
+    return f"{kind} to {count(layouts.mask_size(layouts.split(request.following)), 'byte')}"
+
+
+def _argument(request, name):
+    return f", argument of frame {request.settings.frame}" if request.is_safe and request.settings.entry else ""
+
+
+PHRASES = {
+    "bytes": _bytes,
+    "extra": _extra,
+    "address": _address,
+    "through": _through,
+    "aligned": _aligned,
+    "fourth": _fourth,
+    "reference": _reference,
+    "argument": _argument,
+}
 
 
 def count(number, what):
