@@ -63,6 +63,16 @@ class PagesCase(TestCase):
                 if name.endswith(".html"):
                     yield os.path.join(folder, name)
 
+    def check_links(self, path, page):
+        self.assertEqual(len(page.ids), len(set(page.ids)))
+        for link in page.links:
+            target, _, fragment = link.partition("#")
+            self.assertNotIn(":", target)
+            if target:
+                self.assertTrue(os.path.isfile(os.path.join(os.path.dirname(path), unquote(target, errors="surrogateescape"))), link)
+            else:
+                self.assertIn(fragment, page.ids)
+
 
 class Pages(PagesCase):
     def test_examples(self):
@@ -76,16 +86,6 @@ class Pages(PagesCase):
             with self.subTest(path=path):
                 self.check_links(path, Page(read(path).decode()))
         self.assertEqual(self.page("index.html").tags.count("tr"), count + 1)
-
-    def check_links(self, path, page):
-        self.assertEqual(len(page.ids), len(set(page.ids)))
-        for link in page.links:
-            target, _, fragment = link.partition("#")
-            self.assertNotIn(":", target)
-            if target:
-                self.assertTrue(os.path.isfile(os.path.join(os.path.dirname(path), unquote(target, errors="surrogateescape"))), link)
-            else:
-                self.assertIn(fragment, page.ids)
 
     def test_what_a_card_shows(self):
         self.write("a.card", "# title: Frozen by a read\n# library: core\n# version: 1.2\n# verdict: 17 at 4\n" + REFUSED)
@@ -167,6 +167,18 @@ class Pages(PagesCase):
         path = self.write("a.card", "b = heap 1 at 0x10\n" + "".join(f"x{number} = & b\n" for number in range(200)))
         self.pages(path)
         self.assertNotIn("svg", self.page("cards/a.card.html").tags)
+
+
+class Installed(PagesCase):
+    def test_without_the_repository(self):
+        """An installed copy has all that it writes."""
+        prefix = self.path("prefix")
+        self.assertEqual(command("install", "--no-library", prefix)[0], 0)
+        path = self.write("a.card", "# verdict: 18 at 4\n" + REFUSED)
+        self.assertEqual(run([f"{prefix}/bin/cards", "--html", self.path("out"), path])[::2], (0, ""))
+        self.check_links(self.path("out/index.html"), self.page("index.html"))
+        self.check_links(self.path("out/cards/a.card.html"), self.page("cards/a.card.html"))
+        self.assertEqual(run([f"{prefix}/bin/why", path])[1], command("why", path)[1])
 
 
 class Replaced(PagesCase):
