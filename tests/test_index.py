@@ -130,6 +130,19 @@ class Judged(IndexCase):
             self.assertEqual((status, output), (2, ""), words)
             self.assertIn("(see cards --help)\n", error)
 
+    def test_only_files(self):
+        """A pipe, a folder, a hidden file and one of another name in the folder are no cards; a link to a card is one."""
+        self.fill()
+        os.mkfifo(self.path("pipe.hex"))
+        os.mkdir(self.path("folder.hex"))
+        os.mkdir(self.path(".hidden"))
+        for name in (".x.hex", ".hidden/x.hex", "x.txt", "x.hex~"):
+            self.write(name, DAMAGED)
+        os.symlink("a.hex", self.path("link.hex"))
+        status, output, error = self.cards(".")
+        self.assertEqual((status, error), (0, ""))
+        self.assertIn("4 cards: 4 as filed\n", output)
+
     def test_strange_names(self):
         """A name with a line feed or that is no UTF-8 stands on one line."""
         self.write("a\nb.hex", with_verdict(ACCEPTED, "accepted"))

@@ -8,14 +8,17 @@ import time
 import unittest
 
 import generate
-from support import BIN, EXAMPLES, TestCase, command, read, run
+from support import BIN, EXAMPLES, TestCase, command, program, read, run
 
-from hiedukson import card, refusals, rules
+from hiedukson import card, refusals, reports, rules, sources
 from hiedukson import words as w
 
 ALIASING = os.path.join(EXAMPLES, "aliasing-write.hex")
 PERMISSIONS = range(17, 25)
 GENERATED = 50
+FACTS = 600
+# The refusals that the request and the memory tell more of.
+TOLD = {*range(2, 7), *range(8, 16), 25}
 
 NAMES = """\
 # title: names
@@ -200,6 +203,25 @@ class Refusals(TestCase):
             else:
                 self.assertEqual((status, error), (1, ""), lines)
                 self.assertIn(fact, output.decode())
+
+    def test_a_full_frame(self):
+        lines = ["b = heap 1 at 0x10", "call 3", "x = & b in 3", "end 3", "call 3"]
+        lines += [f"x{number} = & b in 3" for number in range(65)]
+        _, output, _ = command("why", data="\n".join(lines).encode())
+        self.assertIn("#69 is refused, 15: size exceeded\n", output.decode())
+        self.assertIn("  frame 3 holds 64 of 64 protected references\n", output.decode())
+
+    def test_facts_of_generated_runs(self):
+        """Where there is something to say beside the rule, it is said of every such refusal."""
+        met = set()
+        for seed in range(FACTS):
+            report = reports.of_source(sources.of_card(card.read(generate.run(seed), is_binary=True)), program().run)
+            explanation = report.explanation
+            if explanation is not None:
+                met.add(explanation.refusal)
+                is_said = bool(explanation.facts) and all(explanation.facts)
+                self.assertEqual(is_said, explanation.refusal in TOLD, f"seed {seed}: {explanation}")
+        self.assertGreaterEqual(met, {2, 3, 4, 5, 6, 7, 8, 9, 12, 13, 15, 17, 18, 19, 22, 25})
 
     def test_generated_runs(self):
         """Every run is explained, damaged ones too, with the verdict of bin/verdict."""

@@ -170,6 +170,20 @@ def _exceeded(steps, step, names, say):
     )
     held = ", ".join(f"{count:,} of {most:,} {what}" for count, most, what in sizes)
     yield f"before the request the memory holds {held}"
+    if step.request.is_safe and step.request.settings.entry:
+        frame = step.request.settings.frame
+        yield f"frame {frame} holds {_entries(steps[:-1], frame)} of 64 protected references"
+
+
+def _entries(steps, frame):
+    """How many references a frame protects: those that were made for it since it was opened."""
+    count = 0
+    for step in steps:
+        if step.request.kind is words.NEW_CALL and step.request.fourth == frame:
+            count = 0
+        if step.request.is_safe and step.request.settings.entry and step.request.settings.frame == frame:
+            count += step.made is not None and step.before.node(step.made) is None
+    return count
 
 
 def _leaked(steps, step, names, say):

@@ -72,8 +72,9 @@ def _below(folder):
     for place, folders, files in os.walk(folder, onerror=refuse):
         folders[:] = [name for name in folders if not name.startswith(".")]
         for name in files:
-            if name.endswith(SUFFIXES) and not name.startswith("."):
-                yield os.path.normpath(os.path.join(place, name))
+            path = os.path.normpath(os.path.join(place, name))
+            if name.endswith(SUFFIXES) and not name.startswith(".") and os.path.isfile(path):
+                yield path
 
 
 # ---- judging

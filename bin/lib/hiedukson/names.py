@@ -9,17 +9,13 @@ from . import words
 
 
 class Names:
+    """A card gives a name once; a node has several where a raw pointer to it has another."""
+
     def __init__(self):
         self._names = {}
-        self._owners = {}
 
     def add(self, pointer, name):
-        """Gives a node a name. A name that another node has already is told apart by the number."""
-        if self._owners.setdefault(name, pointer) != pointer:
-            name = f"{name} ({words.numbers(pointer)})"
-        held = self._names.setdefault(pointer, [])
-        if name not in held:
-            held.append(name)
+        self._names.setdefault(pointer, []).append(name)
 
     def of(self, pointer):
         return self._all(pointer)[0]
