@@ -6,9 +6,10 @@ What was met and how it came to be is read off the memories that the program pri
 rest off the request and the memory before it.
 """
 
-from typing import NamedTuple, Optional
+from typing import Callable, NamedTuple, Optional
 
-from . import drawing, history, permissions, refusals, rules, words
+from . import drawing, history, permissions, refusals, replay, rules, words
+from .names import Names
 from .permissions import READ, WRITE
 
 
@@ -48,7 +49,7 @@ def explain(steps, names, say):
         spot,
         _met(step, spot, names) if spot else "",
         tuple(_events(steps, spot, names, say)) if spot else (),
-        tuple(_facts(steps, names, say)),
+        tuple(_facts(Case(steps[:-1], step, names, say))),
         rule.rule,
         _advice(steps, spot, names, rule),
     )
@@ -91,14 +92,30 @@ def _advice(steps, spot, names, rule):
 # ---- what else the memory and the request say
 
 
-def _facts(steps, names, say):
-    step = steps[-1]
-    about = _ABOUT.get(step.answer.refusal)
-    return about(steps, step, names, say) if about else ()
+class Case(NamedTuple):
+    """A refusal: the steps before it, the refused one, and how nodes and steps are called."""
+
+    earlier: list
+    step: replay.Step
+    names: Names
+    say: Callable
+
+    @property
+    def request(self):
+        return self.step.request
+
+    @property
+    def memory(self):
+        return self.step.before
 
 
-def _malformed(steps, step, names, say):
-    yield words.malformed(step.request, _open_frames(steps[:-1]))
+def _facts(case):
+    about = _ABOUT.get(case.step.answer.refusal)
+    return about(case) if about else ()
+
+
+def _malformed(case):
+    yield words.malformed(case.request, _open_frames(case.earlier))
 
 
 def _open_frames(steps):
@@ -111,21 +128,21 @@ def _open_frames(steps):
     return frames
 
 
-def _without_mask(steps, step, names, say):
-    yield words.no_mask(step.request)
+def _without_mask(case):
+    yield words.no_mask(case.request)
 
 
-def _never_made(steps, step, names, say):
-    allocation = step.before.allocation(step.pointer.allocation)
+def _never_made(case):
+    allocation = case.memory.allocation(case.step.pointer.allocation)
     if allocation is None:
-        yield f"allocation {step.pointer.allocation} is named, and {words.count(len(step.before.allocations), 'allocation')} made"
+        yield f"allocation {case.step.pointer.allocation} is named, and {words.count(len(case.memory.allocations), 'allocation')} made"
     else:
         made = words.count(len(allocation.nodes), "node")
-        yield f"node {step.pointer.node} of {names.of(allocation.root)} is named, and {made} made"
+        yield f"node {case.step.pointer.node} of {case.names.of(allocation.root)} is named, and {made} made"
 
 
-def _fails_pick(steps, step, names, say):
-    request = step.request
+def _fails_pick(case):
+    request = case.request
     end = request.address + request.fourth
     if request.address == 0:
         yield "the address is 0"
@@ -133,35 +150,35 @@ def _fails_pick(steps, step, names, say):
         yield f"{request.address:#x} is no multiple of {1 << request.exponent}"
     if end > 2**64 - 1:
         yield f"it would end at {end:#x}, above 2^64 - 1"
-    for other in step.before.allocations:
+    for other in case.memory.allocations:
         if other.state != "dead" and _overlap(request.address, end, other):
-            yield f"it overlaps {drawing.heading(other, names)}"
+            yield f"it overlaps {drawing.heading(other, case.names)}"
 
 
 def _overlap(start, end, other):
     return start == other.address or start < other.end and other.address < end
 
 
-def _misaligned(steps, step, names, say):
-    alignment = 1 << step.request.exponent
-    yield f"{step.request.address:#x} lies {step.request.address % alignment} above a multiple of {alignment}"
+def _misaligned(case):
+    alignment = 1 << case.request.exponent
+    yield f"{case.request.address:#x} lies {case.request.address % alignment} above a multiple of {alignment}"
 
 
-def _dead(steps, step, names, say):
-    number = step.pointer.allocation
-    for earlier in steps:
+def _dead(case):
+    number = case.step.pointer.allocation
+    for earlier in case.earlier:
         before, after = earlier.before.allocation(number), earlier.after.allocation(number)
         if before is not None and before.state != after.state:
-            yield f"{names.of(after.root)} is dead since #{earlier.request.index}, {say(earlier)}"
+            yield f"{case.names.of(after.root)} is dead since #{earlier.request.index}, {case.say(earlier)}"
 
 
-def _beside_allocation(steps, step, names, say):
-    yield f"the request: {words.in_words(step.request, names.of)}"
-    yield drawing.heading(step.before.allocation(step.pointer.allocation), names)
+def _beside_allocation(case):
+    yield f"the request: {words.in_words(case.request, case.names.of)}"
+    yield drawing.heading(case.memory.allocation(case.step.pointer.allocation), case.names)
 
 
-def _exceeded(steps, step, names, say):
-    allocations = step.before.allocations
+def _exceeded(case):
+    allocations = case.memory.allocations
     sizes = (
         (len(allocations), 128, "allocations"),
         (sum(each.size for each in allocations), 4096, "bytes"),
@@ -170,9 +187,9 @@ def _exceeded(steps, step, names, say):
     )
     held = ", ".join(f"{count:,} of {most:,} {what}" for count, most, what in sizes)
     yield f"before the request the memory holds {held}"
-    if step.request.is_safe and step.request.settings.entry:
-        frame = step.request.settings.frame
-        yield f"frame {frame} holds {_entries(steps[:-1], frame)} of 64 protected references"
+    if case.request.is_safe and case.request.settings.entry:
+        frame = case.request.settings.frame
+        yield f"frame {frame} holds {_entries(case.earlier, frame)} of 64 protected references"
 
 
 def _entries(steps, frame):
@@ -186,12 +203,12 @@ def _entries(steps, frame):
     return count
 
 
-def _leaked(steps, step, names, say):
-    allocation = step.before.allocation(int(step.answer.given))
-    yield f"the answer names {drawing.heading(allocation, names)}"
-    for earlier in steps:
+def _leaked(case):
+    allocation = case.memory.allocation(int(case.step.answer.given))
+    yield f"the answer names {drawing.heading(allocation, case.names)}"
+    for earlier in case.earlier:
         if earlier.made == allocation.root and earlier.request.kind is words.ALLOCATE:
-            yield f"it was made at #{earlier.request.index}, {say(earlier)}"
+            yield f"it was made at #{earlier.request.index}, {case.say(earlier)}"
 
 
 _ABOUT = {

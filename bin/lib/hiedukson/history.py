@@ -11,7 +11,7 @@ The codes are the program's. Which of them a refusal is about is document 01's s
 
 from typing import NamedTuple, Optional
 
-from . import layouts, masks, memories, permissions, words
+from . import layouts, masks, memories, permissions, replay, words
 from .permissions import FOREIGN, LOCAL, READ, WRITE
 
 
@@ -29,7 +29,7 @@ class Spot(NamedTuple):
 class Turn(NamedTuple):
     """A step that gave the permission another code; `before` is None where it made the node."""
 
-    step: object
+    step: replay.Step
     before: Optional[str]
     after: str
 
@@ -37,7 +37,7 @@ class Turn(NamedTuple):
 class Access(NamedTuple):
     """A step that read or wrote the byte. `relation` is the spot's node's to the access."""
 
-    step: object
+    step: replay.Step
     kind: str
     relation: str
 

@@ -25,6 +25,10 @@ SCRIPT = "index.js"
 FOLDER = "cards"
 # A larger tree is drawn as text: a picture of it would help nobody.
 MOST_DRAWN = 120
+# Of a longer card only the requests that say something are shown, and at most so many of those, and not the text.
+LONGEST = 300
+MOST_SHOWN = 1000
+MOST_TEXT = 100_000
 
 _WEB = os.path.join(os.path.dirname(__file__), "web")
 _HEADS = ("Card", "Library", "Verdict", "Reason", "Filed")
@@ -233,10 +237,32 @@ def _events(explanation):
 
 
 def _requests(report):
-    rows = "\n".join(_request(entry, report.is_refused_at(entry.index)) for entry in report.entries)
-    if not rows:
+    if not report.entries:
         return "<h2>Requests</h2><p>The card has none.</p>"
-    return f'<h2>Requests</h2>\n<table class="requests">\n{rows}\n</table>'
+    rows = []
+    last = -1
+    for entry in _shown(report):
+        rows += [_gap(entry.index - last - 1)] * (entry.index > last + 1)
+        rows.append(_request(entry, report.is_refused_at(entry.index)))
+        last = entry.index
+    rows += [_gap(len(report.entries) - last - 1)] * (last + 1 < len(report.entries))
+    table = "\n".join(rows)
+    return f'<h2>Requests</h2>\n<table class="requests">\n{table}\n</table>'
+
+
+def _shown(report):
+    """The requests that a page shows: all of a short card; of a longer one those that changed a permission, the refused
+    one, and those that its explanation names."""
+    if len(report.entries) <= LONGEST:
+        return report.entries
+    explanation = report.explanation
+    named = {explanation.index, *(event.index for event in explanation.events)} if explanation else set()
+    changed = [entry.index for entry in report.entries if entry.changes]
+    return [report.entries[place] for place in sorted(named.union(changed[:MOST_SHOWN]))]
+
+
+def _gap(number):
+    return f'<tr><td></td><td class="quiet">{count(number, "request")} not shown</td><td></td></tr>'
 
 
 def _request(entry, is_refused):
@@ -276,6 +302,8 @@ def _pictures(report, place, allocations):
 def _source(entry):
     if entry.card.form == cards.BYTES:
         return f'<p class="quiet">The card is bytes: {count(len(entry.card.data), "byte")}.</p>'
+    if len(entry.card.data) > MOST_TEXT:
+        return f'<p class="quiet">The card is too long to be shown here: {count(len(entry.card.data), "byte")}.</p>'
     text = entry.card.data.decode("utf-8", "replace")
     return f"<h2>The card</h2>\n<pre>{escape(text)}</pre>"
 

@@ -10,7 +10,7 @@ allocation stays dead, and no permission returns to one that it left. So where t
 after a stretch of requests are equal, so are those between, and the stretch is not looked into.
 """
 
-from collections import deque
+import os
 from concurrent.futures import ThreadPoolExecutor
 from typing import NamedTuple
 
@@ -61,20 +61,24 @@ def _memories(run, requests, last, judge):
     """The memory before the first request, and after each of them."""
     known = {0: memories.EMPTY, len(requests): last}
 
-    def look(place):
-        known[place] = memories.of_output(judge(run[: 4 * requests[place].start]))
+    def memory_at(place):
+        return memories.of_output(judge(run[: 4 * requests[place].start]))
 
     stretches = [(0, len(requests))]
-    with ThreadPoolExecutor() as pool:
+    with ThreadPoolExecutor(os.cpu_count()) as pool:
         while stretches:
-            halves = []
-            for first, end in stretches:
-                if end - first > 1 and _may_differ(known[first], known[end], requests[first:end]):
-                    middle = (first + end) // 2
-                    halves += [(first, middle), (middle, end)]
-            deque(pool.map(look, [end for _, end in halves[::2]]), maxlen=0)
-            stretches = halves
+            split = [stretch for stretch in stretches if _is_split(*stretch, known, requests)]
+            middles = [(first + end) // 2 for first, end in split]
+            known.update(zip(middles, pool.map(memory_at, middles)))
+            stretches = [half for (first, end), middle in zip(split, middles) for half in ((first, middle), (middle, end))]
     return _filled(known, len(requests))
+
+
+def _is_split(first, end, known, requests):
+    """Whether there may be another memory inside a stretch of requests than the ones around it."""
+    if end - first < 2:
+        return False
+    return known[first] != known[end] or any(map(_may_undo, requests[first:end]))
 
 
 def _filled(known, end):
@@ -85,11 +89,6 @@ def _filled(known, end):
         memory = known.get(place, memory)
         filled.append(memory)
     return filled
-
-
-def _may_differ(before, after, requests):
-    """Whether there may be another memory between two that stand around a stretch of requests."""
-    return before != after or any(map(_may_undo, requests))
 
 
 def _may_undo(request):

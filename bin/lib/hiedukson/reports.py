@@ -82,22 +82,24 @@ def _answer(step, known):
 
 def _loaded(loaded, known):
     """Loaded bytes as the notation writes them; the bytes of a whole pointer as one."""
-    while loaded:
-        pointer = loaded[:POINTER_BYTES]
+    at = 0
+    while at < len(loaded):
+        pointer = loaded[at : at + POINTER_BYTES]
         if _is_pointer(pointer):
             address = int.from_bytes(bytes(byte.value for byte in pointer), "little")
             yield f"ptr {known.of(pointer[0].provenance)} at {address:#x}"
-            loaded = loaded[POINTER_BYTES:]
+            at += POINTER_BYTES
         else:
-            yield _byte(loaded[0], known)
-            loaded = loaded[1:]
+            yield _byte(loaded[at], known)
+            at += 1
 
 
 def _is_pointer(loaded):
     """Whether these are all the bytes of one pointer, in order."""
     provenance = loaded[0].provenance
-    places = [byte.position for byte in loaded if byte.provenance == provenance]
-    return provenance is not None and places == list(range(POINTER_BYTES))
+    if provenance is None:
+        return False
+    return [byte.position for byte in loaded if byte.provenance == provenance] == list(range(POINTER_BYTES))
 
 
 def _byte(byte, known):

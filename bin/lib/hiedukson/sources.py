@@ -12,6 +12,7 @@ from . import words
 
 _NAME = re.compile(r"([^\s=]+)\s*=")
 _NO_NAME = "_"
+_RAW = "raw "
 
 
 class Source(NamedTuple):
@@ -44,9 +45,10 @@ def _lines_of_words(card):
 
 
 def _said(card, lines):
-    """In the notation a line is a request, in words already."""
+    """In the notation a line is a request, in words already but where it is `raw`."""
     written = card.data.decode("utf-8").split("\n")
-    return {index: _without_comment(written[line - 1]) for index, line in lines.items()}
+    said = {index: _without_comment(written[line - 1]) for index, line in lines.items()}
+    return {index: line for index, line in said.items() if not line.startswith(_RAW)}
 
 
 def _without_comment(line):
