@@ -3,7 +3,9 @@
 
 import json
 import os
+import pty
 import stat
+import subprocess
 import unittest
 
 from support import ACCEPTED, BIN, EXAMPLES, REFUSED, REFUSED_OUTPUT, TestCase, command, read, run
@@ -17,6 +19,17 @@ DAMAGED = b"0000001 00000000\n"
 
 def with_verdict(data, verdict):
     return b"# verdict: " + verdict.encode() + b"\n" + data
+
+
+def all_of(terminal):
+    """What was written to a terminal whose other end is closed."""
+    said = b""
+    try:
+        while True:
+            said += os.read(terminal, 4096)
+    except OSError:
+        os.close(terminal)
+        return said
 
 
 class IndexCase(TestCase):
@@ -152,6 +165,16 @@ class Judged(IndexCase):
         self.assertEqual((status, error, output.count(b"\n")), (0, "", 5))
         self.assertIn(b"a\\x0ab.hex ", output)
         self.assertIn(b"\xff=1.hex ", output)
+
+    def test_progress_on_a_terminal(self):
+        """A terminal is told how far it is, and the line is taken away at the end."""
+        self.fill()
+        here, there = pty.openpty()
+        done = subprocess.run([os.path.join(BIN, "cards"), "."], cwd=self.folder, stdout=subprocess.PIPE, stderr=there, check=False)
+        os.close(there)
+        said = all_of(here)
+        self.assertEqual(done.returncode, 0)
+        self.assertEqual(said.split(b"\r")[1:], [f"{number} of 3 cards judged\x1b[K".encode() for number in (1, 2, 3)] + [b"\x1b[K"])
 
     def test_standard_output(self):
         self.fill()

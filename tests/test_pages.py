@@ -8,7 +8,7 @@ import sys
 import unittest
 from urllib.parse import unquote
 
-from support import ACCEPTED, BIN, EXAMPLES, TestCase, command, read, run
+from support import BIN, EXAMPLES, TestCase, command, read, run
 
 from hiedukson import folders
 from hiedukson.errors import CardError

@@ -14,7 +14,7 @@ from html import escape
 from urllib.parse import quote
 
 from . import card as cards
-from . import drawing, index, refusals, reports, tables
+from . import drawing, refusals, reports, tables
 from .command import printable
 from .words import count
 
@@ -195,11 +195,12 @@ def _file(entry, name):
 
 def _card(entry, report, names, around, version):
     root = "../" * (names[entry.path].count("/") + 1)
-    facts = [_file(entry, names[entry.path]), _text(_library(entry))]
+    facts = [fact for fact in (_file(entry, names[entry.path]), _text(_library(entry))) if fact]
+    about = f'<p class="quiet">{" ".join(facts)}</p>' if facts else ""
     title = _title(entry, names)
     body = f"""<p><a href="{root}{START}">All cards</a></p>
 <h1>{_text(title)}</h1>
-<p class="quiet">{' '.join(fact for fact in facts if fact)}</p>
+{about}
 <p>{_verdict_badge(entry)} {_text(entry.reason)} {_state_badge(entry)} <span class="quiet">{_text(entry.note)}</span></p>
 {_told(entry, report) if report else ''}
 {_ways(around, names, root)}"""

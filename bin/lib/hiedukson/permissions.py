@@ -1,7 +1,6 @@
 """The permissions by the program's codes, and which of them a refusal is about.
 
     name(code)       a code in words
-    is_cell(code)    whether a retag leaves a byte with this permission unread
     MET              for each refusal by a permission: the relation and the codes that it is about
     released(code)   the access that a permission makes when its protector ends
 """
@@ -66,10 +65,6 @@ RELEASED = {
 
 def name(code):
     return NAMES[code]
-
-
-def is_cell(code):
-    return code in (CELL, PROTECTED_CELL)
 
 
 def released(code):
