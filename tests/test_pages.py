@@ -165,15 +165,15 @@ class Pages(PagesCase):
 
     def test_long_cards(self):
         """Of a long card the requests that changed a permission are shown, the refused one, and those that explain it."""
-        lines = ["b = heap 2 at 0x10", "x = &mut b"] + ["load b 2"] * 5000 + ["store x 01", "store x 02"] + ["load b 1"] * 3 + ["store x 03"]
+        lines = ["b = heap 2 at 0x10", "x = &mut b"] + ["load b 2"] * 5000 + ["store x 01", "store x 02"] + ["load b 1"] * 3 + ["store x 03", "leaks", "leaks"]
         path = self.write("a.card", "".join(f"{line}  # {line * 2}\n" for line in lines))
         self.pages(path)
         page = self.page("cards/a.card.html")
         self.check_links(self.path("out/cards/a.card.html"), page)
         shown = [each for each in page.ids if each.startswith("r")]
         self.assertEqual(shown, ["r0", "r1", "r5002", "r5003", "r5004", "r5006", "r5007"])
-        gaps = [text for text in page.text if text.endswith(" not shown")]
-        self.assertEqual(gaps, ["5,000 requests not shown", "1 request not shown"])
+        gaps = [text for text in page.text if " not " in text and text.split()[1].startswith("request")]
+        self.assertEqual(gaps, ["5,000 requests not shown", "1 request not shown", "2 requests behind it were not performed"])
         self.assertLess(os.stat(self.path("out/cards/a.card.html")).st_size, 20_000)
 
     def test_large_trees_are_text(self):

@@ -46,6 +46,7 @@ SAID = """\
       x: bytes 0x10..0x11 Unique -> Frozen
 #5  line 7  store p 08
       refused, 18: local write of Frozen
+1 request behind it was not performed
 
 #5 is refused, 18: local write of Frozen
   met: x at byte 0x10: Frozen

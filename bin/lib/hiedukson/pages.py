@@ -243,10 +243,11 @@ def _requests(report):
     rows = []
     last = -1
     for entry in _shown(report):
-        rows += [_gap(entry.index - last - 1)] * (entry.index > last + 1)
+        rows += [_not_shown(entry.index - last - 1)] * (entry.index > last + 1)
         rows.append(_request(entry, report.is_refused_at(entry.index)))
         last = entry.index
-    rows += [_gap(len(report.entries) - last - 1)] * (last + 1 < len(report.entries))
+    rows += [_not_shown(len(report.entries) - last - 1)] * (last + 1 < len(report.entries))
+    rows += [_remark(reports.not_performed(report.left))] * (report.left > 0)
     table = "\n".join(rows)
     return f'<h2>Requests</h2>\n<table class="requests">\n{table}\n</table>'
 
@@ -262,8 +263,12 @@ def _shown(report):
     return [report.entries[place] for place in sorted(named.union(changed[:MOST_SHOWN]))]
 
 
-def _gap(number):
-    return f'<tr><td></td><td class="quiet">{count(number, "request")} not shown</td><td></td></tr>'
+def _not_shown(number):
+    return _remark(f"{count(number, 'request')} not shown")
+
+
+def _remark(text):
+    return f'<tr><td></td><td class="quiet">{_text(text)}</td><td></td></tr>'
 
 
 def _request(entry, is_refused):

@@ -2,6 +2,7 @@
 
     of_source(source, judge)    the report of a card
     lines(report, place)        the report as lines of text, up to and with the request at a place
+    tree_lines(report, place)   the trees alone
 """
 
 import textwrap
@@ -25,12 +26,13 @@ class Entry(NamedTuple):
 
 
 class Report(NamedTuple):
-    """`explanation` is None for an accepted run."""
+    """`explanation` is None for an accepted run. `left` requests stand behind a refused one."""
 
     entries: tuple
     steps: tuple
     names: names.Names
     explanation: Optional[explanations.Explanation]
+    left: int
 
     def is_refused_at(self, place):
         """Whether the request with this index is the refused one."""
@@ -63,7 +65,8 @@ def of_source(source, judge):
     entries = tuple(_entry(step, known, source.lines.get(step.request.index), say(step)) for step in steps)
     is_refused = bool(steps) and steps[-1].is_refused
     explanation = explanations.explain(steps, known, say) if is_refused else None
-    return Report(entries, tuple(steps), known, explanation)
+    left = sum(1 for _ in words.requests(source.run)) - len(steps)
+    return Report(entries, tuple(steps), known, explanation, left)
 
 
 def _entry(step, known, line, said):
@@ -117,8 +120,13 @@ def lines(report, place):
     """The report as lines, up to and with the request of this index."""
     parts = [[line for entry in report.entries[: place + 1] for line in _entry_lines(entry)]]
     if report.is_refused_at(place):
+        parts[0] += [not_performed(report.left)] if report.left else []
         parts.append(list(_explanation_lines(report.explanation)))
     return _apart([*parts, *_trees(report, place)])
+
+
+def not_performed(left):
+    return f"{words.count(left, 'request')} behind it {'was' if left == 1 else 'were'} not performed"
 
 
 def _apart(parts):
