@@ -145,6 +145,33 @@ class Said(TestCase):
         self.assertIn("      loads ptr buf at 0x2000\n", said)
         self.assertNotIn("rule:", said)
 
+    def test_branches(self):
+        """Children stand below their parent in the order in which they were made, each with all that is below it."""
+        lines = "r = heap 1 at 0x10\na = & r\nb = & r\nc = & a\nd = & a\ne = & c\nf = & b\ncall 0\ng = box f in 0\nz = stack 0 at 0x20\n"
+        _, said, _ = self.why(data=lines.encode())
+        tree = (
+            "r: allocation 0, live heap, 1 byte at 0x10, alignment 1\n"
+            "  r  0x10..0x11 Unique\n"
+            "  ├─ a  0x10..0x11 Frozen\n"
+            "  │  ├─ c  0x10..0x11 Frozen\n"
+            "  │  │  └─ e  0x10..0x11 Frozen\n"
+            "  │  └─ d  0x10..0x11 Frozen\n"
+            "  └─ b  0x10..0x11 Frozen\n"
+            "     └─ f  0x10..0x11 Frozen\n"
+            "        └─ g  [weak protector]  0x10..0x11 protected Reserved with local read\n"
+            "\n"
+            "z: allocation 1, live stack, 0 bytes at 0x20, alignment 1\n"
+            "  z  no bytes\n"
+        )
+        self.assertTrue(said.endswith("\n\n" + tree), said)
+
+    def test_a_deep_tree(self):
+        """A chain of a thousand references is drawn."""
+        lines = ["x0 = heap 1 at 0x10"] + [f"x{number} = & x{number - 1}" for number in range(1, 1000)]
+        status, output, error = command("why", "--at", "999", data="\n".join(lines).encode())
+        self.assertEqual((status, error), (0, ""))
+        self.assertTrue(output.endswith(b"x999  0x10..0x11 Frozen\n"))
+
     def test_no_request(self):
         path = self.write("empty.hex", "# nothing\n")
         self.assertEqual(self.why(path), (0, f"{path}: accepted\n\nno allocation was made\n", ""))
@@ -183,6 +210,7 @@ class Refusals(TestCase):
         """What is said beside the rule."""
         cases = {
             "x = heap 2 at 0x10\ny = heap 2 at 0x11\n": "  it overlaps x: allocation 0, live heap, 2 bytes at 0x10, alignment 1\n",
+            "x = heap 0 at 0x10\ny = heap 0 at 0x10\n": "  it overlaps x: allocation 0, live heap, 0 bytes at 0x10, alignment 1\n",
             "x = heap 2 at 0x11 align 2\n": None,
             "x = heap 2 align 2 at 0x11\n": "  0x11 is no multiple of 2\n",
             "x = heap 2 at 0\n": "  the address is 0\n",
