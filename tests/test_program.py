@@ -154,7 +154,7 @@ class Repository(TestCase):
         self.assertEqual(len(lines), 2)
 
     def test_two_at_once(self):
-        self.put("pause", "1")
+        self.put("pause", "3")
         command = [os.path.join(self.root, "bin/verdict"), "-"]
         env = {**os.environ, "PATH": f"{self.root}/kit:{os.environ['PATH']}"}
         both = [subprocess.Popen(command, stdin=subprocess.PIPE, stdout=subprocess.PIPE, env=env) for _ in range(2)]

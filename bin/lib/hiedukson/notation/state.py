@@ -19,7 +19,7 @@ class Place(NamedTuple):
 
 
 class Said(NamedTuple):
-    """What a line says: its request, and the name that it gives, where in the line it stands, and for how many bytes."""
+    """What a line says: its request; and the name that it gives, its column, and for how many bytes the pointer is."""
 
     request: w.Request
     name: Optional[str] = None
