@@ -91,6 +91,10 @@ class Refusals(TestCase):
             f"verdict: {path}:4: request 2, load 1 byte at 0x2000 through x (0.0): refused, 8: dead allocation\n    load x 1 # gone\n",
         )
 
+    def test_the_name_that_the_line_has(self):
+        path = self.write("a.card", "x = heap 2 at 16\np = raw x\nq = raw p\nstore q 01 # p\nfree q\nload p 1 # x q\n")
+        self.assertIn("load 1 byte at 0x10 through p (0.0)", command("verdict", path)[2])
+
     def test_bytes_have_no_lines(self):
         path = self.write("a.bin", card.read(REFUSED).run)
         self.assertIn(f"{path}: byte 76: request 4, store", command("verdict", path)[2])
@@ -238,6 +242,14 @@ class Files(TestCase):
         status, output, error = command("verdict", "a=b.hex", cwd=self.folder, data=ACCEPTED)
         self.assertEqual((status, output), (1, REFUSED_OUTPUT))
         self.assertIn("verdict: a=b.hex:7: request 4", error)
+
+    def test_name_that_is_no_text(self):
+        name = b"\xff\xfe.hex"
+        with open(os.path.join(os.fsencode(self.folder), name), "wb") as file:
+            file.write(REFUSED)
+        done = subprocess.run([VERDICT, "-H", name], cwd=self.folder, stdout=subprocess.PIPE, stderr=subprocess.PIPE, check=False)
+        self.assertEqual((done.returncode, done.stdout), (1, name + b":\n" + REFUSED_OUTPUT))
+        self.assertTrue(done.stderr.startswith(b"verdict: " + name + b":7: request 4"))
 
     def test_name_with_a_dash(self):
         self.write("-dash.bin", card.read(REFUSED).run)
