@@ -98,9 +98,11 @@ class Files(TestCase):
         self.assertEqual(command("card", "-o", path, data=REFUSED), (0, b"", ""))
         self.assertEqual(read(path), NAMES)
         os.chmod(path, 0o600)
+        os.link(path, self.path("before"))
         self.assertEqual(command("card", "-o", path, data=NAMES), (0, b"", ""))
         self.assertEqual((read(path), os.stat(path).st_mode & 0o777), (REFUSED, 0o600))
-        self.assertEqual(os.listdir(self.folder), ["out.card"])
+        self.assertEqual(read(self.path("before")), NAMES, "the old file was written into, and not replaced")
+        self.assertEqual(sorted(os.listdir(self.folder)), ["before", "out.card"])
 
     def test_in_place(self):
         path = self.write("a", REFUSED)

@@ -66,6 +66,8 @@ class Install(TestCase):
     def test_bad_words(self):
         self.assertEqual(command("install")[0], 2)
         self.assertEqual(command("install", "a", "b")[0], 2)
+        self.assertEqual(command("install", "--no-library", ROOT)[0], 2)
+        self.assertFalse(os.path.islink(os.path.join(BIN, "verdict")))
         file = self.write("file", b"")
         status, _, error = command("install", "--no-library", file)
         self.assertEqual(status, 2)

@@ -145,6 +145,11 @@ class Lines(TestCase):
         names = notation.read(text.encode()).names
         self.assertEqual(names, {(0, 0): "x", (0, 1): "r", (0, 2): "c", (1, 0): "y", (1, 1): "d", (0, 3): "e"})
 
+    def test_many_equal_bytes(self):
+        line = "store x " + " ".join(["00*65536", "00*65536", "00 00 00 00", "ff*5"])
+        run = notation.read((START + line).encode()).run
+        self.assertEqual(notation.write(run)[2], "store a0 00*65536 00*65536 00 00 00 00 ff*5")
+
     def test_raw_words_count(self):
         """What raw words make has its number too."""
         self.assertTrue(words("raw 00000001 00000000 00000010 00000001\ny = heap 1 at 32\nload y 1").endswith("20200100 00000000 00000020 00000001"))

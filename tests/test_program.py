@@ -2,6 +2,7 @@
 """The program is found, and never used when it is stale: tried in small repositories with a stand-in for rt and the program."""
 
 import os
+import pty
 import shutil
 import subprocess
 import sys
@@ -153,12 +154,26 @@ class Repository(TestCase):
         self.assertRegex(lines[1], r"^verdict: the check took [34] s$")
         self.assertEqual(len(lines), 2)
 
-    def test_two_at_once(self):
-        self.put("pause", "1")
-        command = [os.path.join(self.root, "bin/verdict"), "-"]
+    def test_progress_on_a_terminal(self):
+        """One line, written again each second and taken away at the end."""
+        self.put("pause", "4")
+        self.put("says", "rt: core proved (1 s)\n")
+        above, below = pty.openpty()
+        command = [os.path.join(self.root, "bin/verdict"), self.write("a.hex", CARD)]
         env = {**os.environ, "PATH": f"{self.root}/kit:{os.environ['PATH']}"}
-        both = [subprocess.Popen(command, stdin=subprocess.PIPE, stdout=subprocess.PIPE, env=env) for _ in range(2)]
-        self.assertEqual([one.communicate(CARD)[0] for one in both], [b"0 0 one\n"] * 2)
+        done = subprocess.run(command, stdout=subprocess.PIPE, stderr=below, env=env, check=False)
+        said = os.read(above, 1 << 16).decode()
+        os.close(above)
+        os.close(below)
+        self.assertEqual((done.returncode, done.stdout), (0, b"0 0 one\n"))
+        self.assertRegex(said, r"\A(\rproving: crate 2 of 2, \d s so far, about \d+ s more\x1b\[K){2,4}\r\x1b\[Kverdict: the check took [45] s\r\n\Z")
+
+    def test_two_at_once(self):
+        self.put("pause", "3")
+        command = [os.path.join(self.root, "bin/verdict"), self.write("a.hex", CARD)]
+        env = {**os.environ, "PATH": f"{self.root}/kit:{os.environ['PATH']}"}
+        both = [subprocess.Popen(command, stdout=subprocess.PIPE, stderr=subprocess.DEVNULL, env=env) for _ in range(2)]
+        self.assertEqual([one.communicate()[0] for one in both], [b"0 0 one\n"] * 2)
         self.assertEqual(self.calls(), 1)
 
     def test_install_with_the_library(self):

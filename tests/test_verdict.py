@@ -91,6 +91,10 @@ class Refusals(TestCase):
             f"verdict: {path}:4: request 2, load 1 byte at 0x2000 through x (0.0): refused, 8: dead allocation\n    load x 1 # gone\n",
         )
 
+    def test_the_name_that_the_line_has(self):
+        path = self.write("a.card", "x = heap 2 at 16\np = raw x\nq = raw p\nstore q 01 # p\nfree q\nload p 1 # x q\n")
+        self.assertIn("load 1 byte at 0x10 through p (0.0)", command("verdict", path)[2])
+
     def test_bytes_have_no_lines(self):
         path = self.write("a.bin", card.read(REFUSED).run)
         self.assertIn(f"{path}: byte 76: request 4, store", command("verdict", path)[2])
@@ -139,12 +143,40 @@ class Refusals(TestCase):
             ("frame 32, there are 0 to 31", [w.join(w.NEW_CALL, fourth=32)]),
             ("there is no kind 12", [(0xC0000000, 0, 0, 0)]),
             ("4,097 words after its fourth, at most 4,096 may be", [one, (0x30000100, 0, 16, 4097)]),
+            ("4,194,304 words after its fourth, at most 4,096 may be", [one, (0x40000101, 0, 16, 0x60400000)]),
             ("the run ends inside it: 3 of 4 words are there", [one, (0x20000100, 0, 16)]),
             ("the run ends inside it: 1 of 2 words after its fourth are there", [one, (0x30000100, 0, 16, 2, 0)]),
         ]
         for expected, requests in cases:
             with self.subTest(expected):
                 self.assertIn(f"2: malformed request: {expected}", self.said(*requests))
+
+    def test_the_last_that_are_well_formed(self):
+        """What lies just inside the bounds of 2 and 3 is refused with neither."""
+        one = w.join(w.ALLOCATE, exponent=4, extra=4, address=16, fourth=4096)
+        layouts = [
+            (0, *[3 << 30] * 8, 1),
+            (0, 4096),
+            (0, 2 << 22 | 8, 4, 4 << 16 | 4),
+            (0, 1 << 22 | 8, 8 << 16),
+            (1 << 30, 1 << 30 | 4097),
+            (1 << 30 | 0x3FFFFFFF, 1 << 30),
+            (1 << 30 | 7, 8),
+            (2 << 30, 8),
+            (2 << 30, 2 << 30 | 255 << 22 | 8, *[8 << 16] * 255),
+        ]
+        for following in layouts:
+            request = w.join(w.RETAG, (0, 0), extra=1, address=16, fourth=0x60000000 | len(following), following=following)
+            self.assertIsNone(verdicts.refusal_of(program().run(w.bytes_of(one + request))))
+            self.assertIsNone(w.no_mask(w.Request(1, 4, request)))
+        others = [
+            w.join(w.LOAD, (0, 0), 29, address=0, fourth=0),
+            w.join(w.STORE, (0, 0), address=16, fourth=4096, following=[0xFFFFFFFF, 0xC0000000, 0x800000FF, 0] * 1024),
+            w.join(w.NEW_CALL, fourth=31),
+        ]
+        for request in others:
+            self.assertIsNone(verdicts.refusal_of(program().run(w.bytes_of(one + request))))
+            self.assertIsNone(w.malformed(w.Request(1, 4, request), set()))
 
     def test_bytes_left_over(self):
         error = command("verdict", "-b", self.write("a.bin", b"\0\0\0\1\0"))[2]
@@ -210,6 +242,14 @@ class Files(TestCase):
         status, output, error = command("verdict", "a=b.hex", cwd=self.folder, data=ACCEPTED)
         self.assertEqual((status, output), (1, REFUSED_OUTPUT))
         self.assertIn("verdict: a=b.hex:7: request 4", error)
+
+    def test_name_that_is_no_text(self):
+        name = b"\xff\xfe.hex"
+        with open(os.path.join(os.fsencode(self.folder), name), "wb") as file:
+            file.write(REFUSED)
+        done = subprocess.run([VERDICT, "-H", name], cwd=self.folder, stdout=subprocess.PIPE, stderr=subprocess.PIPE, check=False)
+        self.assertEqual((done.returncode, done.stdout), (1, name + b":\n" + REFUSED_OUTPUT))
+        self.assertTrue(done.stderr.startswith(b"verdict: " + name + b":7: request 4"))
 
     def test_name_with_a_dash(self):
         self.write("-dash.bin", card.read(REFUSED).run)

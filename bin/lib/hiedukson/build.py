@@ -39,7 +39,8 @@ class Built:
             if not self._is_recorded(sources):
                 self._check_age(sources) if which("rt") is None else self._build(say)
         except OSError as error:
-            raise ProgramError(f"{self.shown} cannot be built: {error.filename or 'target'}: {error.strerror}") from None
+            where = error.filename or "target"
+            raise ProgramError(f"{self.shown} cannot be built: {where}: {error.strerror}") from None
         return self.path
 
     def _sources(self):
@@ -68,7 +69,8 @@ class Built:
         built = os.stat(self.path).st_mtime_ns
         for path, _, changed in sources:
             if changed > built:
-                raise ProgramError(f"{self.shown} is older than {os.path.relpath(path, ROOT)}, and there is no rt to build it again")
+                source = os.path.relpath(path, ROOT)
+                raise ProgramError(f"{self.shown} is older than {source}, and there is no rt to build it again")
 
     def _build(self, say):
         """Build it, one command at a time, and record the sources that it was built from."""

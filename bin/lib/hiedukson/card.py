@@ -5,7 +5,8 @@
     card.run                the bytes of its run
     card.line_of(request)   the line that a request starts on; None in bytes
     card.line(number)       the text of a line
-    card.name_of(pointer)   the name of (allocation, node): the notation's, else '0.1'
+    card.name_of(pointer)   the name of (allocation, node): the notation's first one, else '0.1'
+    card.said_of(request)   the name that a request's line has for its pointer, else as name_of
     card.lines()            its lines in order, each a request's index, a comment, both or neither
     to_words(card)          the card as hexadecimal text; comments stay with their lines
     to_names(card)          the card in the notation; comments stay with their lines
@@ -54,6 +55,15 @@ class Card:
         """What a pointer is called, by (allocation, node)."""
         names = self.source.names if self.source else {}
         return names.get(pointer, "{}.{}".format(*pointer))
+
+    def said_of(self, request):
+        """What the request's own line calls its pointer, which may have several names."""
+        if self.source is not None:
+            aliases = self.source.aliases.get(request.pointer, [])
+            for name in notation.names_in(self.line(self.line_of(request))):
+                if name in aliases:
+                    return name
+        return self.name_of(request.pointer)
 
     def lines(self):
         """The card's lines: pairs of a request's index, or None, and a comment, or ''."""

@@ -72,8 +72,9 @@ def _sum():
 
 def _output(words):
     """What a command prints; None where it fails."""
+    silent = {"stdin": subprocess.DEVNULL, "stderr": subprocess.DEVNULL}
     try:
-        done = subprocess.run(words, stdout=subprocess.PIPE, stderr=subprocess.DEVNULL, stdin=subprocess.DEVNULL, check=False)
+        done = subprocess.run(words, stdout=subprocess.PIPE, check=False, **silent)
     except OSError:
         return None
     return done.stdout.decode("utf-8", "replace").strip() if done.returncode == 0 else None

@@ -19,9 +19,11 @@ _PROVED = re.compile(rb"^rt: (\S+) proved \((\d+ s|unchanged)")
 
 
 def follow(command, folder, log, weights, say):
-    """Run a check in a folder, its output in a log. `weights` has how much there is to prove in each crate. The status is returned."""
+    """Run a check in a folder, its output in a log, and return its status. `weights` has how much there is to prove in
+    each crate."""
     with open(log, "wb") as out:
-        process = subprocess.Popen(command, cwd=folder, stdin=subprocess.DEVNULL, stdout=subprocess.PIPE, stderr=subprocess.STDOUT)
+        streams = {"stdin": subprocess.DEVNULL, "stdout": subprocess.PIPE, "stderr": subprocess.STDOUT}
+        process = subprocess.Popen(command, cwd=folder, **streams)
         meter = Meter(weights, log, say)
         try:
             _copy(process.stdout, out, meter)
@@ -87,7 +89,8 @@ class Meter:
 
     def line(self, elapsed):
         crate = min(self.done + 1, len(self.weights))
-        return f"proving: crate {crate} of {len(self.weights)}, {duration(elapsed)} so far, about {duration(self.left(elapsed))} more"
+        so_far, left = duration(elapsed), duration(self.left(elapsed))
+        return f"proving: crate {crate} of {len(self.weights)}, {so_far} so far, about {left} more"
 
     def left(self, elapsed):
         """About how many seconds are left."""

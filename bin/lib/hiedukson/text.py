@@ -77,7 +77,8 @@ def _fault(data, start, end):
             return CardError(f"{found!r} is no hexadecimal digit", line, column)
         if len(token) != DIGITS:
             line, column = _line_and_column(data, at)
-            return CardError(f"a word has eight digits, and {token.decode('ascii')[:40]} has {len(token)}", line, column)
+            shown = token[:40].decode("ascii")
+            return CardError(f"a word has eight digits, and {shown} has {len(token)}", line, column)
     raise AssertionError("no fault in this piece")
 
 
@@ -102,8 +103,8 @@ def place_of(data, word):
 
 
 def lines(data):
-    """The text's lines, as pairs: the index of a request that starts on the line, or None, and a comment that starts with '#',
-    or ''. A request stands where it starts, a line's comment with the last request on it; requests that
+    """The text's lines, as pairs: the index of a request that starts on the line, or None, and a comment that starts
+    with '#', or ''. A request stands where it starts, a line's comment with the last request on it; requests that
     share a line have one each."""
     starts = [request.start for request in w.requests(run_of(data))]
     found = []

@@ -50,15 +50,15 @@ def explain(card, answer):
     request, open_frames = w.request_at(card.run, answer.index)
     more = _more(request, open_frames, answer)
     why = f"{answer.refusal}: {refusals.name(answer.refusal)}" + (f": {more}" if more else "")
-    return f"request {answer.index}, {w.in_words(request, _called(card))}: refused, {why}"
+    return f"request {answer.index}, {w.in_words(request, _called(card, request))}: refused, {why}"
 
 
-def _called(card):
-    """How a pointer is called: by its numbers, which the program prints, behind its name, if it has one."""
+def _called(card, request):
+    """How the pointer is called: by its numbers, which the program prints, behind its name, if it has one."""
 
     def name(pointer):
         numbers = w.numbers(pointer)
-        given = card.name_of(pointer)
+        given = card.said_of(request)
         return given if given == numbers else f"{given} ({numbers})"
 
     return name

@@ -75,8 +75,8 @@ class Follows(Enum):
 
 
 class Kind(NamedTuple):
-    """One kind of request. To add one: a row in KINDS, and a word for it in `notation`. One that opens or closes frames has
-    a line in `Frames`, one that gives a pointer in `pointers`.
+    """One kind of request. To add one: a row in KINDS, and a word for it in `notation`. One that opens or closes
+    frames has a line in `Frames`, one that gives a pointer in `pointers`.
 
     uses      which of FIELDS have a use; all others must be zero
     extras    the names of the extra's values; () where it has no use
@@ -122,7 +122,8 @@ KINDS = (
     ),
     Kind(9, "leak check", (), (), Fourth.NOTHING, Follows.NOTHING, "leak check"),
 )
-ALLOCATE, DEALLOCATE, LOAD, STORE, RETAG, NEW_CALL, END_CALL, DEREFERENCEABLE, SIGNED_DEREFERENCEABLE, LEAK_CHECK = KINDS
+ALLOCATE, DEALLOCATE, LOAD, STORE, RETAG, NEW_CALL, END_CALL, *_TESTS = KINDS
+DEREFERENCEABLE, SIGNED_DEREFERENCEABLE, LEAK_CHECK = _TESTS
 BY_NUMBER = {kind.number: kind for kind in KINDS}
 WITH_BYTES = {kind.number for kind in KINDS if kind.follows is Follows.BYTES}
 WITH_LAYOUT = {kind.number for kind in KINDS if kind.follows is Follows.LAYOUT}
@@ -361,7 +362,7 @@ def _bad_field(request):
         value = getattr(request, field)
         if value and field not in kind.uses:
             return f"unused field: {said} is {value}, and must be zero in {article(kind.name)}"
-    if NAME[0] in kind.uses and NAME[2] in kind.uses and not request.provenance and (request.allocation or request.node):
+    if "provenance" in kind.uses and not request.provenance and (request.allocation or request.node):
         return f"stray name: {request.allocation}.{request.node} is named without has provenance"
     if request.exponent > MOST_EXPONENT:
         return f"alignment exponent {request.exponent}, at most {MOST_EXPONENT} may be"
@@ -388,8 +389,10 @@ def _bad_byte(word):
 
 def _bad_settings(request):
     if not request.is_safe:
+        if not request.fourth:
+            return None
         name = POINTER_KINDS[request.extra]
-        return f"unused field: the fourth word of a {name} retag is {request.fourth:08x}, and must be zero" if request.fourth else None
+        return f"unused field: the fourth word of a {name} retag is {request.fourth:08x}, and must be zero"
     settings = request.settings
     if settings.zero:
         return "unused field: the zero bit of the fourth word is set"

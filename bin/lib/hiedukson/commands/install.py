@@ -43,6 +43,8 @@ def main(cmd, arguments):
         raise command.UsageError("one folder is wanted, such as /usr/local")
     if program.is_installed():
         raise ProgramError("this is an installed copy: install from the repository")
+    if os.path.realpath(words[0]) == ROOT:
+        raise ProgramError("the repository itself is no place to install to: its own commands would be replaced")
     built = program.Program(cmd.say).path
     library = None if "--no-library" in given else program.LIBRARY.path_of(cmd.say)
     try:

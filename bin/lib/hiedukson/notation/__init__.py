@@ -2,8 +2,9 @@
 
     read(data)           the card that a text is; raises CardError with line and column
     write(run)           a line for each request of a run, in order
-    Source               .run its bytes, .lines the text's lines, .request_lines the line of each request,
-                         .names the name of each pointer by (allocation, node)
+    names_in(text)       the names that stand in a line, in order
+    Source               .run its bytes, .lines the text's lines, .request_lines the line of each request, .names the
+                         first name of each pointer by (allocation, node), .aliases all its names
 
 To words and back gives the same words for every run: a line is written only if reading it gives the request's words,
 and stands as `raw` words otherwise.
@@ -13,14 +14,19 @@ To add a kind of request: a reader in `statements.STATEMENTS` under the word tha
 use, and need not look at the others.
 """
 
+import re
 from typing import NamedTuple, Optional
 
 from .. import words as w
 from ..errors import CardError
+from .parts import NAME
 from .scanner import Scanner
 from .state import State
 from .statements import parse
 from .writer import Writer
+
+
+_NAME = re.compile(NAME)
 
 
 class Line(NamedTuple):
@@ -36,6 +42,7 @@ class Source(NamedTuple):
     lines: list
     request_lines: list
     names: dict
+    aliases: dict
 
 
 def read(data):
@@ -54,7 +61,9 @@ def read(data):
             parts.append(w.bytes_of(said.request.words) + said.request.rest)
         lines.append(Line(number, request, (mark + comment).rstrip()))
     request_lines = [line.number for line in lines if line.request is not None]
-    return Source(b"".join(parts), lines, request_lines, state.names_of_pointers())
+    aliases = state.names_of_pointers()
+    names = {pointer: given[0] for pointer, given in aliases.items()}
+    return Source(b"".join(parts), lines, request_lines, names, aliases)
 
 
 def _lines(data):
@@ -65,6 +74,11 @@ def _lines(data):
         column = len(before.rpartition(b"\n")[2].decode("utf-8", "replace")) + 1
         raise CardError("this is no UTF-8 text", before.count(b"\n") + 1, column) from None
     return lines if lines[-1] else lines[:-1]
+
+
+def names_in(text):
+    """All that could be a name in a line, its comment left out."""
+    return _NAME.findall(text.partition("#")[0])
 
 
 def write(run):

@@ -71,8 +71,9 @@ def _moved(scanner, start, at):
     scanner.move(sign.end())
     offset = scanner.expect_number("an offset", MOST_ADDRESS)
     offset = -offset if sign.group(1) == "-" else offset
+    address = (start.address + offset) % (MOST_ADDRESS + 1)
     is_inside = start.size is not None and 0 <= offset <= start.size
-    return Place(start.provenance, (start.address + offset) % (MOST_ADDRESS + 1), start.size - offset if is_inside else None)
+    return Place(start.provenance, address, start.size - offset if is_inside else None)
 
 
 def provenance(scanner):

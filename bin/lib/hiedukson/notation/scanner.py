@@ -1,4 +1,4 @@
-"""One line of the notation, read from left to right. Every error has its line and column, and says what was expected."""
+"""One line of the notation, read from left to right. Every error has line and column, and says what was expected."""
 
 import re
 
@@ -44,8 +44,9 @@ class Scanner:
 
     def is_at_word(self, word):
         """Whether this word stands next. One that ends in a letter must end there in the line too."""
-        end = self.at + len(word)
-        return self.line.startswith(word, self.at) and (not word[-1].isalpha() or _WORD_END.match(self.line, end) is not None)
+        if not self.line.startswith(word, self.at):
+            return False
+        return not word[-1].isalpha() or _WORD_END.match(self.line, self.at + len(word)) is not None
 
     def accept_word(self, word):
         """Whether this word stands next; it is then behind."""

@@ -19,7 +19,7 @@ class Place(NamedTuple):
 
 
 class Said(NamedTuple):
-    """What a line says: its request, and the name that it gives, where in the line it stands, and for how many bytes."""
+    """What a line says: its request; and the name that it gives, its column, and for how many bytes the pointer is."""
 
     request: w.Request
     name: Optional[str] = None
@@ -47,9 +47,9 @@ class State:
         self.lines[said.name] = number
 
     def names_of_pointers(self):
-        """The first name of each pointer with provenance."""
+        """The names of each pointer with provenance, in the order in which they were given."""
         names = {}
         for name, place in self.places.items():
             if place.provenance is not None:
-                names.setdefault(place.provenance, name)
+                names.setdefault(place.provenance, []).append(name)
         return names
