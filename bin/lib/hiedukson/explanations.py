@@ -115,17 +115,10 @@ def _facts(case):
 
 
 def _malformed(case):
-    yield words.malformed(case.request, _open_frames(case.earlier))
-
-
-def _open_frames(steps):
-    frames = set()
-    for step in steps:
-        if step.request.kind is words.NEW_CALL:
-            frames.add(step.request.fourth)
-        elif step.request.kind is words.END_CALL:
-            frames.discard(step.request.fourth)
-    return frames
+    frames = words.Frames()
+    for step in case.earlier:
+        frames.follow(step.request.kind_number, step.request.fourth)
+    yield words.malformed(case.request, frames.open)
 
 
 def _without_mask(case):

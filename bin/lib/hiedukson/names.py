@@ -1,21 +1,17 @@
 """What the nodes of a card are called.
 
-    of_steps(steps, given)    the names of a replay's nodes; `given` are the card's, by request index
-    Names.of(pointer)         a node's name, or its number, 0.1, where the card has none
-    Names.with_others(pointer)  the same with the other names that the card has for it
+    Names(given)                the card's names of its pointers, by (allocation, node); a raw pointer
+                                gives a node one more
+    names.of(pointer)           a node's first name, or its number, 0.1, where the card has none
+    names.with_others(pointer)  the same with the others behind it
 """
 
 from . import words
 
 
 class Names:
-    """A card gives a name once; a node has several where a raw pointer to it has another."""
-
-    def __init__(self):
-        self._names = {}
-
-    def add(self, pointer, name):
-        self._names.setdefault(pointer, []).append(name)
+    def __init__(self, given):
+        self._given = given
 
     def of(self, pointer):
         return self._all(pointer)[0]
@@ -25,14 +21,4 @@ class Names:
         return f"{first} (also {', '.join(others)})" if others else first
 
     def _all(self, pointer):
-        return self._names.get(pointer) or [words.numbers(pointer)]
-
-
-def of_steps(steps, given):
-    """The names of the nodes that the steps answered."""
-    names = Names()
-    for step in steps:
-        name = given.get(step.request.index)
-        if name is not None and step.made is not None:
-            names.add(step.made, name)
-    return names
+        return self._given.get(pointer) or [words.numbers(pointer)]

@@ -8,7 +8,8 @@
 import textwrap
 from typing import NamedTuple, Optional
 
-from . import changes, drawing, explanations, memories, names, refusals, replay, words
+from . import changes, drawing, explanations, memories, refusals, replay, words
+from .names import Names
 from .notation.limits import POINTER_BYTES
 from .notation.parts import UNINITIALISED
 
@@ -30,7 +31,7 @@ class Report(NamedTuple):
 
     entries: tuple
     steps: tuple
-    names: names.Names
+    names: Names
     explanation: Optional[explanations.Explanation]
     left: int
 
@@ -57,7 +58,7 @@ class Report(NamedTuple):
 def of_source(source, judge):
     """The report of a card."""
     steps = replay.replay(source.run, judge)
-    known = names.of_steps(steps, source.names)
+    known = source.names
 
     def say(step):
         return source.said.get(step.request.index) or words.in_words(step.request, known.of)

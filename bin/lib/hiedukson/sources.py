@@ -1,39 +1,34 @@
 """Where a card's requests stand in it, and what they are called there.
 
     of_card(card)   the source of a card that was read
-    Source          its run; and by request index: the line, the words of that line, the name that it gives
+    Source          its run; by request index the line, and the words of that line; the pointers' names
 """
 
-import re
 from typing import NamedTuple
 
 from . import card as cards
 from . import words
+from .names import Names
 
-_NAME = re.compile(r"([^\s=]+)\s*=")
-_NO_NAME = "_"
 _RAW = "raw "
 
 
 class Source(NamedTuple):
-    """`lines`, `said` and `names` have no entry for a request that has none."""
+    """`lines` and `said` have no entry for a request that has none."""
 
     run: bytes
     lines: dict
     said: dict
-    names: dict
+    names: Names
 
 
 def of_card(card):
     if card.form == cards.BYTES:
-        return Source(card.run, {}, {}, {})
+        return Source(card.run, {}, {}, Names({}))
     if card.form == cards.WORDS:
-        return Source(card.run, _lines_of_words(card), {}, {})
+        return Source(card.run, _lines_of_words(card), {}, Names({}))
     lines = dict(enumerate(card.source.request_lines))
-    said = _said(card, lines)
-    given = {index: _NAME.match(line) for index, line in said.items()}
-    names = {index: name[1] for index, name in given.items() if name and name[1] != _NO_NAME}
-    return Source(card.run, lines, said, names)
+    return Source(card.run, lines, _said(card, lines), Names(card.source.aliases))
 
 
 def _lines_of_words(card):
