@@ -194,7 +194,7 @@ class Listed(IndexCase):
         self.assertEqual(rows[0], self.COLUMNS)
         self.assertEqual(rows[1], ["a.hex", "accepted", "", "as filed", "", "", "", "", "accepted", ""])
         self.assertEqual(rows[2], ["b.card", "18 at 4", "local write of Frozen", "as filed", "", "Frozen by a read", "core", "1.0", "18 at 4", "9"])
-        self.assertEqual(rows[3][:5], ["d.hex", "", "", "error", "d.hex:1:1: a word has eight digits, and 0000001 has 7"])
+        self.assertEqual(rows[3][:5], ["d.hex", "", "", "error", "line 1, column 1: a word has eight digits, and 0000001 has 7"])
         self.assertEqual({len(row) for row in rows}, {len(self.COLUMNS)})
 
     def test_json(self):

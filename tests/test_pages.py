@@ -136,6 +136,8 @@ class Pages(PagesCase):
         self.assertIn("the run ends inside it", "".join(self.page("cards/a.bin.html").text))
         self.assertIn("The card has none.", self.page("cards/b.hex.html").text)
         self.assertIn("not judged", self.page("cards/c.hex.html").text)
+        for path in self.all_pages():
+            self.assertNotIn(self.folder.encode(), read(path))
 
     def test_same_cards_same_pages(self):
         self.pages(os.path.join(EXAMPLES, "refusals"))

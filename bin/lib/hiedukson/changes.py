@@ -84,7 +84,7 @@ def _made(change, memory, names):
     node = change.node
     allocation = memory.allocation(node.pointer.allocation)
     parent = "new allocation" if node.parent is None else f"new, below {names.of(node.parent)}"
-    protector = "" if node.protector == "no" else f", {node.protector} protector"
+    protector = "" if node.protector == memories.NO_PROTECTOR else f", {node.protector} protector"
     row = [f"{allocation.addresses(first, end)} {permissions.name(code)}" for first, end, code in change.stretches]
     bytes_ = f", bytes {', '.join(row)}" if row else ", no bytes"
     return f"{names.of(node.pointer)}: {parent}{protector}{bytes_}"

@@ -49,7 +49,7 @@ def text(allocation, names, marked=None):
 
 def _label(allocation, node, names):
     parts = [names.with_others(node.pointer)]
-    if node.protector != "no":
+    if node.protector != memories.NO_PROTECTOR:
         parts.append(f"[{node.protector} protector]")
     return "  ".join(parts + [", ".join(_row(allocation, node))])
 
@@ -87,7 +87,7 @@ def _cluster(allocation, names, marked):
 
 def _attributes(allocation, node, names, marked):
     title = names.with_others(node.pointer)
-    if node.protector != "no":
+    if node.protector != memories.NO_PROTECTOR:
         title += f"\n{node.protector} protector"
     label = "\n".join([title, *_row(allocation, node)])
     is_met = marked is not None and marked.pointer == node.pointer

@@ -8,7 +8,7 @@ rest off the request and the memory before it.
 
 from typing import Callable, NamedTuple, Optional
 
-from . import drawing, history, permissions, refusals, replay, rules, words
+from . import drawing, history, memories, permissions, refusals, replay, rules, words
 from .names import Names
 from .permissions import READ, WRITE
 
@@ -144,7 +144,7 @@ def _fails_pick(case):
     if end > 2**64 - 1:
         yield f"it would end at {end:#x}, above 2^64 - 1"
     for other in case.memory.allocations:
-        if other.state != "dead" and _overlap(request.address, end, other):
+        if other.state != memories.DEAD and _overlap(request.address, end, other):
             yield f"it overlaps {drawing.heading(other, case.names)}"
 
 

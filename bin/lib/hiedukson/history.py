@@ -7,6 +7,8 @@
 
 The codes are the program's. Which of them a refusal is about is document 01's sentence of it (see
 `permissions`), and which of those comes first is its visiting order.
+
+A kind of request that is added and reads or writes has a row in _ACCESS, and a line in `touched`.
 """
 
 from typing import NamedTuple, Optional
@@ -64,7 +66,7 @@ def _is_met(memory, spot, path, sought):
     relation = LOCAL if spot.pointer in path else FOREIGN
     if relation != sought.relation or spot.code(memory) not in sought.codes:
         return False
-    return memory.node(spot.pointer).protector == "strong" or not sought.strong
+    return memory.node(spot.pointer).protector == memories.STRONG or not sought.strong
 
 
 def _visited(request, allocation):

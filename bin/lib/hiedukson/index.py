@@ -31,8 +31,8 @@ ERROR = "error"
 
 
 class Entry(NamedTuple):
-    """`verdict` and `card` are None, and `note` says why, where the state is ERROR. Of a changed card
-    `note` says what it was filed as. `line` is that of the refused request, where there are lines."""
+    """`verdict` and `card` are None, and `error` and `note` say why, where the state is ERROR. Of a changed
+    card `note` says what it was filed as. `line` is that of the refused request, where there are lines."""
 
     path: str
     state: str
@@ -41,6 +41,7 @@ class Entry(NamedTuple):
     card: Optional[cards.Card] = None
     verdict: Optional[filed.Verdict] = None
     line: Optional[int] = None
+    error: Optional[CardError] = None
 
     @property
     def reason(self):
@@ -101,8 +102,14 @@ def judge_card(path, read, judge):
         output = judge(card.run)
         state, note = _compared(said, verdict_of(output), _differs(path, read, output))
     except CardError as error:
-        return Entry(path, ERROR, error.of(printable(path)))
+        return Entry(path, ERROR, _note(error), error=error)
     return Entry(path, state, note, said, card, verdict_of(output), _line(card, output))
+
+
+def _note(error):
+    """An error in a card, with its place in it."""
+    places = [f"{what} {number}" for what, number in (("line", error.line), ("column", error.column)) if number]
+    return f"{', '.join(places)}: {error.message}" if places else error.message
 
 
 def verdict_of(output):

@@ -15,6 +15,10 @@ import functools
 import itertools
 from typing import NamedTuple
 
+# What the program prints of a node's protector, and of an allocation's state.
+NO_PROTECTOR, STRONG = "no", "strong"
+DEAD = "dead"
+
 
 class Pointer(NamedTuple):
     """A node: its allocation's number, and its own in that allocation."""

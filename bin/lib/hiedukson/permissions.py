@@ -42,8 +42,9 @@ class Met(NamedTuple):
     strong: bool = False
 
 
-# Document 01's sentences of 17 to 24. A deallocation under a strong protector writes before it is
-# refused, so that it meets what a write makes protected Unique: 7, 8 and b.
+# Document 01's sentences of 17 to 24; a refusal that is added and is by a permission has a row here. A
+# deallocation under a strong protector writes before it is refused, so that it meets what a write makes
+# protected Unique: 7, 8 and b.
 MET = {
     17: Met(LOCAL, DISABLED + PROTECTED_DISABLED),
     18: Met(LOCAL, FROZEN + PROTECTED_FROZEN + FROZEN_LOCAL),

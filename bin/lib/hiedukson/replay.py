@@ -7,7 +7,8 @@
 The program prints the memory at the end of a run, so the memory after a request is that of the run up to
 it. No request of kinds 0 to 9 undoes what one before it did: allocations and nodes stay, a dead
 allocation stays dead, and no permission returns to one that it left. So where the memories before and
-after a stretch of requests are equal, so are those between, and the stretch is not looked into.
+after a stretch of requests are equal, so are those between, and the stretch is not looked into. A stretch
+with a request of another kind always is.
 """
 
 import os

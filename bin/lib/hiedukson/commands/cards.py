@@ -75,8 +75,8 @@ def judge(cmd, paths, given):
     meter.end()
     entries = tables.ordered(entries, given.get("--by", tables.BY_CARD))
     for entry in entries:
-        if entry.state == index.ERROR:
-            cmd.fail(entry.note)
+        if entry.error is not None:
+            cmd.fail(entry.error.of(command.called(entry.path)))
     if "--html" in given:
         write_pages(entries, given["--html"], run)
     cmd.write("".join(f"{line}\n" for line in lines_of(entries, given)).encode("utf-8", "surrogateescape"))
