@@ -211,8 +211,27 @@ CAUSES = {
 }
 
 
+# What the end of a node's own protector makes of its codes.
+RELEASES = ("60", "71", "81", "91", "a1", "b3", "c4", "d4", "e5")
+
+
+def reached():
+    """For each code, those that it can become in one step or more."""
+    steps = [pair for pairs in (*CAUSES.values(), RELEASES) for pair in pairs]
+    found = {code: set() for code in "0123456789abcde"}
+    for _ in found:
+        for before, after in steps:
+            found[before] |= {after} | found[after]
+    return found
+
+
 class Histories(TestCase):
     """What is said of a permission's past agrees with its codes."""
+
+    def test_no_permission_returns(self):
+        """What lets a replay leave stretches out: a code that was left is not reached again."""
+        for code, later in reached().items():
+            self.assertNotIn(code, later)
 
     def test_generated_runs(self):
         met = collections.Counter()
@@ -237,7 +256,9 @@ class Histories(TestCase):
         self.assertEqual([turn.before for turn in turns[1:]], [turn.after for turn in turns[:-1]])
         self.assertEqual(turns[-1].after, spot.code(steps[-1].after))
         accesses = history.accesses_of(steps, spot)
+        later = reached()
         for turn in turns[1:]:
+            self.assertIn(turn.after, later[turn.before])
             self.check_cause(turn, accesses, met)
 
     def check_cause(self, turn, accesses, met):

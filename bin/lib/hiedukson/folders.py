@@ -13,9 +13,10 @@ from .errors import CardError
 
 
 def check(path, is_ours):
-    """A folder may be replaced if it is missing or empty, or `is_ours` knows it."""
+    """A folder may be replaced if it is missing, in a folder that is there, or empty, or `is_ours` knows it."""
     try:
         if not os.path.lexists(path):
+            os.stat(os.path.dirname(os.path.abspath(path)))
             return
         if not os.path.isdir(path) or os.path.islink(path):
             raise CardError(f"{printable(path)}: not a folder")
