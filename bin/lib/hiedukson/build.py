@@ -16,6 +16,8 @@ from .errors import ProgramError
 
 ROOT = os.path.dirname(os.path.dirname(os.path.dirname(os.path.dirname(os.path.realpath(__file__)))))
 CRATES = os.path.join(ROOT, "crates.txt")
+# Compiling a program takes as long as proving so many bytes of sources.
+COMPILING = 400_000
 # These folders of a crate have no part in what is built.
 APART = ("must-fail",)
 
@@ -138,8 +140,10 @@ def _files_below(folder):
 
 
 def _weight(crate):
-    """How much there is to prove in a crate, by the size of its files."""
-    return sum(size for _, size, _ in _files_below(os.path.join(ROOT, "crates", crate)))
+    """How much there is to prove in a crate, by the size of its files; a program is compiled as well."""
+    folder = os.path.join(ROOT, "crates", crate)
+    compiled = COMPILING if os.path.exists(os.path.join(folder, "src", "main.rt")) else 0
+    return compiled + sum(size for _, size, _ in _files_below(folder))
 
 
 def which(name):
