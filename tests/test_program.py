@@ -134,6 +134,23 @@ class Repository(TestCase):
         self.assertEqual(self.verdict()[1], b"0 0 one\n")
         self.assertEqual(self.calls(), 2)
 
+    def test_built_again_with_another_toolchain(self):
+        self.verdict()
+        self.put("kit/rt", RT + "# another\n", 0o755)
+        self.verdict()
+        self.assertEqual(self.calls(), 2)
+
+    def test_version_says_that_it_may_be_stale(self):
+        words = [os.path.join(self.root, "bin/verdict"), "--version"]
+        self.assertTrue(run(words, env=self.env())[1].endswith(b"\ntoolchain kit-0\nprogram not built yet\n"))
+        self.verdict()
+        for has_rt in (True, False):
+            self.assertRegex(run(words, env=self.env(has_rt))[1], rb"\nprogram sha256 [0-9a-f]{64}\n\Z")
+        self.put("crates/core/src/lib.rt", "two")
+        self.assertRegex(run(words, env=self.env())[1], rb"\nprogram sha256 [0-9a-f]{64}, to be checked again: its sources may have changed\n\Z")
+        self.assertRegex(run(words, env=self.env(has_rt=False))[1], rb"\nprogram sha256 [0-9a-f]{64}, to be checked again")
+        self.assertEqual(self.calls(), 1)
+
     def test_not_built_again_for_what_has_no_part_in_it(self):
         self.verdict()
         self.put("crates/other/src/lib.rt", "changed")
