@@ -6,7 +6,7 @@ and then a field is wild. A run is not cut at a refusal: the program says where 
 
 import random
 
-from support import HERE  # noqa: F401  the package is found from here
+import support  # noqa: F401  it says where the package is
 
 from hiedukson import layouts
 from hiedukson import words as w

@@ -10,6 +10,8 @@ import unittest
 
 from support import BIN, TestCase, read, run
 
+from hiedukson import progress
+
 CRATES = "verdict: core io\nother: core\ntree_borrows: core\ncore:\n"
 # The stand-in for rt counts its calls, says what the file 'says' has, and builds the program unless that is forbidden.
 RT = """#!/bin/sh
@@ -31,6 +33,25 @@ printf '0 0 %s\\n' "$(cat {root}/crates/core/src/lib.rt)"
 """
 # A card that any program may be given.
 CARD = b"00000001 00000000 00000010 00000002\n"
+
+
+class Estimate(TestCase):
+    def meter(self, *lines):
+        meter = progress.Meter({"a": 6_000, "b": 60_000, "c": 60_000}, "log", print)
+        for line in lines:
+            meter.hear(line)
+        return meter
+
+    def test_before_anything_is_measured(self):
+        self.assertEqual(self.meter().line(5), "proving: crate 1 of 3, 5 s so far, about 16 s more")
+        self.assertEqual(self.meter(b"rt: a proved (9 s)").line(70), "proving: crate 2 of 3, 1 min 10 s so far, longer than expected")
+
+    def test_as_fast_as_it_goes(self):
+        meter = self.meter(b"rt: a proved (unchanged since it was last proved)", b"rt: b proved (80 s)")
+        self.assertEqual(meter.line(80), "proving: crate 3 of 3, 1 min 20 s so far, about 1 min 20 s more")
+
+    def test_other_lines_count_for_nothing(self):
+        self.assertEqual(self.meter(b"fn a: proved", b"rt: b NOT PROVED (exit 1, 3 s)").done, 0)
 
 
 class Repository(TestCase):
@@ -113,6 +134,23 @@ class Repository(TestCase):
         self.assertEqual(self.verdict()[1], b"0 0 one\n")
         self.assertEqual(self.calls(), 2)
 
+    def test_built_again_with_another_toolchain(self):
+        self.verdict()
+        self.put("kit/rt", RT + "# another\n", 0o755)
+        self.verdict()
+        self.assertEqual(self.calls(), 2)
+
+    def test_version_says_that_it_may_be_stale(self):
+        words = [os.path.join(self.root, "bin/verdict"), "--version"]
+        self.assertTrue(run(words, env=self.env())[1].endswith(b"\ntoolchain kit-0\nprogram not built yet\n"))
+        self.verdict()
+        for has_rt in (True, False):
+            self.assertRegex(run(words, env=self.env(has_rt))[1], rb"\nprogram sha256 [0-9a-f]{64}\n\Z")
+        self.put("crates/core/src/lib.rt", "two")
+        self.assertRegex(run(words, env=self.env())[1], rb"\nprogram sha256 [0-9a-f]{64}, to be checked again: its sources may have changed\n\Z")
+        self.assertRegex(run(words, env=self.env(has_rt=False))[1], rb"\nprogram sha256 [0-9a-f]{64}, to be checked again")
+        self.assertEqual(self.calls(), 1)
+
     def test_not_built_again_for_what_has_no_part_in_it(self):
         self.verdict()
         self.put("crates/other/src/lib.rt", "changed")
@@ -150,7 +188,7 @@ class Repository(TestCase):
         status, output, error = self.verdict()
         self.assertEqual((status, output), (0, b"0 0 one\n"))
         lines = error.splitlines()
-        self.assertRegex(lines[0], r"^verdict: proving: crate 2 of 2, [23] s so far, about \d+ s more \(the prover's output is in .*target/log/check-verdict.out\)$")
+        self.assertRegex(lines[0], r"^verdict: proving: crate 2 of 2, [23] s so far, about 1 min \d s more \(the prover's output is in .*target/log/check-verdict.out\)$")
         self.assertRegex(lines[1], r"^verdict: the check took [34] s$")
         self.assertEqual(len(lines), 2)
 
@@ -166,7 +204,7 @@ class Repository(TestCase):
         os.close(above)
         os.close(below)
         self.assertEqual((done.returncode, done.stdout), (0, b"0 0 one\n"))
-        self.assertRegex(said, r"\A(\rproving: crate 2 of 2, \d s so far, about \d+ s more\x1b\[K){2,4}\r\x1b\[Kverdict: the check took [45] s\r\n\Z")
+        self.assertRegex(said, r"\A(\rproving: crate 2 of 2, \d s so far, about 1 min \d s more\x1b\[K){2,4}\r\x1b\[Kverdict: the check took [45] s\r\n\Z")
 
     def test_two_at_once(self):
         self.put("pause", "3")

@@ -11,6 +11,7 @@ from support import REFUSED, TestCase, command, example_paths, program, read, re
 
 from hiedukson import card, notation, verdicts
 from hiedukson import words as w
+from hiedukson.errors import CardError
 
 RUNS = 2000
 # 1 and 16 are about lent memory, and no run reaches them.
@@ -23,6 +24,19 @@ def names_and_back(run):
 
 def without_blanks(text):
     return [re.sub(rb"\s*#", b"#", line, count=1) for line in text.splitlines()]
+
+
+# What damage puts in: parts of the notation, digits, and what is neither.
+PIECES = list("0123456789abcdef &+-,.:@*=#_\n\r\t") + ["0x", "..", "__", "cells", "slice", " of ", "ptr ", "in 0", "a0", "a0.1", "raw ", "é", "\udcff", "\0"]
+
+
+def damaged(source, text):
+    """A text with some of it left out, doubled or replaced."""
+    for _ in range(source.randint(1, 3)):
+        at = source.randrange(len(text) + 1)
+        end = min(len(text), at + source.choice((0, 0, 1, 1, 2, 9)))
+        text = text[:at] + source.choice(PIECES) * source.randint(0, 2) + text[end:]
+    return text
 
 
 class RoundTrip(TestCase):
@@ -89,6 +103,29 @@ class RoundTrip(TestCase):
             status, words, error = command("card", data=names)
             self.assertEqual((status, error), (0, ""))
             self.assertEqual(without_blanks(words), without_blanks(read(path)), path)
+
+    def test_damaged_texts(self):
+        """A damaged card, in names or words, is read, or is an error with line and column; nothing else happens."""
+        read_again = 0
+        errors = 0
+        for seed in range(RUNS):
+            source = random.Random(seed)
+            whole = card.read(generate.run(seed)[:400], is_binary=True)
+            try:
+                text = damaged(source, card.to_names(whole) if seed % 2 else card.to_words(whole))
+                found = card.read(text.encode("utf-8", "surrogateescape"))
+            except CardError as error:
+                if "ends inside a word" not in error.message:
+                    errors += 1
+                    self.assertIsNotNone(error.line, error.message)
+                    self.assertIsNotNone(error.column, error.message)
+                    self.assertLessEqual(error.line, text.count("\n") + 1)
+                continue
+            read_again += 1
+            self.assertEqual(names_and_back(found.run), found.run)
+            self.assertEqual(len(list(w.requests(found.run))), len([index for index, _ in found.lines() if index is not None]))
+        self.assertGreater(read_again, RUNS // 20)
+        self.assertGreater(errors, RUNS // 2)
 
     def test_numbers_of_accepted_runs(self):
         """The names stand for the pointers that the program gives: a0.1 is what it prints as 0.1."""

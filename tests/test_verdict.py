@@ -334,6 +334,7 @@ class Words(TestCase):
         status, output, error = command("verdict", "--help")
         self.assertEqual((status, error), (0, ""))
         self.assertIn(b"Exit status: 0 all accepted, 1 a refusal, 2 an error.", output)
+        program()
         status, output, error = command("verdict", "--version")
         self.assertEqual((status, error), (0, ""))
         self.assertRegex(output.decode(), r"\Averdict of Hiedukson\ncommit .+\ntoolchain .+\nprogram sha256 [0-9a-f]{64}\n\Z")

@@ -2,8 +2,9 @@
 
     Built(crate, path, words)   what the words of a command build from a crate, at a path below the root
     built.path_of(say)          its path, once it is fresh; raises ProgramError where that cannot be had
+    built.is_fresh              whether it is there, and built from the sources as they are
 
-A record beside it has the path, size and time of every source from the last check, and of itself. Any
+A record beside it has the path, size and time of every source from the last check, of `rt`, and of itself. Any
 difference leads to a new check, which takes a second where nothing has to be proved. Where there is no `rt`, what
 is older than one of its sources is refused.
 """
@@ -16,6 +17,8 @@ from .errors import ProgramError
 
 ROOT = os.path.dirname(os.path.dirname(os.path.dirname(os.path.dirname(os.path.realpath(__file__)))))
 CRATES = os.path.join(ROOT, "crates.txt")
+# Compiling a program takes as long as proving so many bytes of sources.
+COMPILING = 400_000
 # These folders of a crate have no part in what is built.
 APART = ("must-fail",)
 
@@ -29,6 +32,13 @@ class Built:
         self.record = self.path + ".sources"
         self.lock = os.path.join(ROOT, "target", crate + ".lock")
         self.log = os.path.join(ROOT, "target", "log", f"check-{crate}.out")
+
+    @property
+    def is_fresh(self):
+        sources = self._sources()
+        if which("rt") is None:
+            return os.path.exists(self.path) and self._newer(sources) is None
+        return self._is_recorded(sources)
 
     def path_of(self, say):
         """The path, once it is fresh. `say` is given what is to be told meanwhile, a line at a time."""
@@ -44,8 +54,9 @@ class Built:
         return self.path
 
     def _sources(self):
-        """Path, size and time of every source."""
-        files = [_entry(CRATES)]
+        """Path, size and time of every source, and of the toolchain."""
+        rt = which("rt")
+        files = [_entry(CRATES)] + ([_entry(os.path.realpath(rt))] if rt else [])
         for crate in crates_of(self.crate):
             files.extend(_files_below(os.path.join(ROOT, "crates", crate)))
         return files
@@ -66,11 +77,14 @@ class Built:
         """Without rt: it must be there, and no source may be newer."""
         if not os.path.exists(self.path):
             raise ProgramError(f"{self.shown} is not built, and there is no rt to build it")
+        newer = self._newer(sources)
+        if newer:
+            raise ProgramError(f"{self.shown} is older than {newer}, and there is no rt to build it again")
+
+    def _newer(self, sources):
+        """A source that is newer than what is built, by its path in the repository."""
         built = os.stat(self.path).st_mtime_ns
-        for path, _, changed in sources:
-            if changed > built:
-                source = os.path.relpath(path, ROOT)
-                raise ProgramError(f"{self.shown} is older than {source}, and there is no rt to build it again")
+        return next((os.path.relpath(path, ROOT) for path, _, changed in sources if changed > built), None)
 
     def _build(self, say):
         """Build it, one command at a time, and record the sources that it was built from."""
@@ -138,8 +152,10 @@ def _files_below(folder):
 
 
 def _weight(crate):
-    """How much there is to prove in a crate, by the size of its files."""
-    return sum(size for _, size, _ in _files_below(os.path.join(ROOT, "crates", crate)))
+    """How much there is to prove in a crate, by the size of its files; a program is compiled as well."""
+    folder = os.path.join(ROOT, "crates", crate)
+    compiled = COMPILING if os.path.exists(os.path.join(folder, "src", "main.rt")) else 0
+    return compiled + sum(size for _, size, _ in _files_below(folder))
 
 
 def which(name):

@@ -1,6 +1,6 @@
 """What every command does alike: standard streams, errors, statuses, files that are replaced whole.
 
-    run(name, main)          run a command's main, that of its module if none is given, and end with its status
+    run(name)                run the main of a command's module, and end with its status
     Command                  say an error, write to standard output, read a file or standard input
     replace(path, data)      write a file whole, or leave it as it was
 
@@ -96,13 +96,12 @@ def _all_of(descriptor):
         parts.append(part)
 
 
-def run(name, main=None):
-    """Run `main(cmd, arguments)`, that of the command's module if none is given, and end with its status."""
+def run(name):
+    """Run `main(cmd, arguments)` of a command's module, and end with its status."""
     cmd = Command(name)
     try:
         _hold_standard_streams()
-        main = main or importlib.import_module(f"hiedukson.commands.{name}").main
-        status = main(cmd, sys.argv[1:])
+        status = importlib.import_module(f"hiedukson.commands.{name}").main(cmd, sys.argv[1:])
     except (UsageError, OutputError, ProgramError, CardError, MemoryError) as error:
         cmd.say(_said(name, error))
         status = ERROR

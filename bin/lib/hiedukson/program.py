@@ -67,7 +67,8 @@ def _sum():
     if not os.path.exists(BUILT.path):
         return "not built yet"
     with open(BUILT.path, "rb") as program:
-        return "sha256 " + hashlib.sha256(program.read()).hexdigest()
+        digest = hashlib.sha256(program.read()).hexdigest()
+    return f"sha256 {digest}" + ("" if BUILT.is_fresh else ", to be checked again: its sources may have changed")
 
 
 def _output(words):

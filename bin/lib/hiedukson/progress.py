@@ -89,8 +89,9 @@ class Meter:
 
     def line(self, elapsed):
         crate = min(self.done + 1, len(self.weights))
-        so_far, left = duration(elapsed), duration(self.left(elapsed))
-        return f"proving: crate {crate} of {len(self.weights)}, {so_far} so far, about {left} more"
+        left = self.left(elapsed)
+        expected = f"about {duration(left)} more" if left >= 1 else "longer than expected"
+        return f"proving: crate {crate} of {len(self.weights)}, {duration(elapsed)} so far, {expected}"
 
     def left(self, elapsed):
         """About how many seconds are left."""
