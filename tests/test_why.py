@@ -15,7 +15,7 @@ from hiedukson import words as w
 
 ALIASING = os.path.join(EXAMPLES, "aliasing-write.hex")
 PERMISSIONS = range(17, 25)
-GENERATED = 50
+GENERATED = 20
 FACTS = 600
 # The refusals that the request and the memory tell more of.
 TOLD = {*range(2, 7), *range(8, 16), 25}

@@ -123,8 +123,8 @@ RULES = {
         "Write through {met}, or after the call has returned; or take a raw pointer as the argument.",
     ),
     24: Rule(
-        "While a call lasts, memory that a reference among its arguments has used is not deallocated; a box is"
-        " protected weakly, and allows it.",
+        "While a call lasts, memory is not deallocated through a reference among its arguments, or what is"
+        " borrowed from it, but for cells; a box is protected weakly, and allows it.",
         "Deallocate after the call has returned, or take a box or a raw pointer as the argument.",
     ),
     25: Rule(
