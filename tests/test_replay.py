@@ -138,7 +138,7 @@ class WhatWasMet(TestCase):
         spot = history.met(step)
         self.assertIsNotNone(spot)
         if step.answer.refusal == 24:
-            self.assertEqual(step.before.node(spot.pointer).protector, "strong")
+            self.assertEqual(spot, first_preventing(step, prefix))
             return
         self.assertEqual((spot, step.answer.refusal), first_refusal(step))
         self.assertEqual(alone(step, spot, prefix), step.answer.refusal)
@@ -155,10 +155,32 @@ def alone(step, spot, prefix):
     return refused.refusal
 
 
+def first_preventing(step, prefix):
+    """The first spot that prevents a deallocation, after the write to all bytes that it begins with."""
+    allocation = step.before.allocation(step.pointer.allocation)
+    stored = [w.byte_word(w.Byte(7))] * allocation.size
+    store = w.join(w.STORE, step.pointer, address=allocation.address, fourth=allocation.size, following=stored)
+    written = memories.of_output(judge(prefix + w.bytes_of(store))).allocation(allocation.number)
+    for node in in_order(written, written.nodes[0]):
+        for offset, code in enumerate(node.codes):
+            if node.protector == "strong" and code in PREVENTING:
+                return history.Spot(node.pointer, offset)
+    return None
+
+
+def in_order(allocation, node):
+    yield node
+    for child in allocation.nodes:
+        if child.parent == node.pointer:
+            yield from in_order(allocation, child)
+
+
 def access_of(request):
     return READ if request.kind in (w.LOAD, w.RETAG) else WRITE
 
 
+# The protected codes of bytes that were used locally.
+PREVENTING = "8abd"
 # Document 01's rules, by access and relation: the refusal of each code that is refused.
 REFUSALS = {
     (READ, LOCAL): {"5": 17, "e": 17},
