@@ -134,6 +134,13 @@ class WhatWasMet(TestCase):
             self.assertEqual(steps[-1].answer.refusal, 17)
             self.assertEqual(history.met(steps[-1]), history.Spot((0, 1), offset), reference)
 
+    def test_a_weak_protector_prevents_nothing(self):
+        """A deallocation meets the reference, and not the box above it, which is protected too."""
+        lines = ("r = heap 1 at 0x10", "call 0", "b = box r in 0", "x = &mut b in 0", "free x")
+        steps = replay.replay(card.read("\n".join(lines).encode()).run, judge)
+        self.assertEqual(steps[-1].answer.refusal, 24)
+        self.assertEqual(history.met(steps[-1]), history.Spot((0, 2), 0))
+
     def check(self, step, prefix):
         spot = history.met(step)
         self.assertIsNotNone(spot)
