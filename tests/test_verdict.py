@@ -95,6 +95,12 @@ class Refusals(TestCase):
         path = self.write("a.card", "x = heap 2 at 16\np = raw x\nq = raw p\nstore q 01 # p\nfree q\nload p 1 # x q\n")
         self.assertIn("load 1 byte at 0x10 through p (0.0)", command("verdict", path)[2])
 
+    def test_a_card_does_not_steer_the_terminal(self):
+        path = self.write("a.card", "x = heap 2 at 16\nfree x\nload x\t1 # \x1b[2J é\n")
+        self.assertTrue(command("verdict", path)[2].endswith("\n    load x  1 # \\x1b[2J é\n"))
+        path = self.write("a.card", "x = \x1b[2J\n")
+        self.assertTrue(command("verdict", path)[2].endswith(", found \\x1b[2J\n"))
+
     def test_bytes_have_no_lines(self):
         path = self.write("a.bin", card.read(REFUSED).run)
         self.assertIn(f"{path}: byte 76: request 4, store", command("verdict", path)[2])

@@ -37,9 +37,11 @@ class Command:
         self.has_failed = False
 
     def say(self, message):
-        """A line on standard error. Where that is closed there is nobody to tell."""
+        """A line on standard error, or several. What a card has in it cannot steer the terminal. Where standard error is
+        closed there is nobody to tell."""
+        shown = "\n".join(printable(line) for line in f"{self.name}: {message}".split("\n"))
         try:
-            os.write(2, f"{self.name}: {message}\n".encode("utf-8", "surrogateescape"))
+            os.write(2, f"{shown}\n".encode("utf-8", "surrogateescape"))
         except OSError:
             pass
 

@@ -91,4 +91,4 @@ def explanation(name, read, refusal):
     line = read.line_of(request)
     if line is None:
         return f"{name}: byte {4 * request.start}: {why}"
-    return f"{name}:{line}: {why}\n    {read.line(line)[:LONGEST_LINE]}"
+    return f"{name}:{line}: {why}\n    {read.line(line).expandtabs()[:LONGEST_LINE]}"
