@@ -25,7 +25,8 @@ use Rattle.judge.proofs.Held.{memory-held}
 use Rattle.judge.proofs.Runs.{LineAdded, advanced, performing-start, performing-next, performing-end, text-behind, text-whole, memory-inside}
 use Rattle.verdict.specs.declared.Progress.{Progress}
 use Rattle.verdict.specs.Progress.{lacks, goesOn, atHand, textAtHand, mostText, Ready, HasRead, ReadOn, isLong, flushedAs, withTextTo}
-use Rattle.verdict.specs.Came.{MayFollow, placeIn, Came, ByTurn, Made, TurnMade, AllMade, TurnsMade, IsPrinted, Printed}
+use Rattle.verdict.specs.Came.{MayFollow, placeIn, Came, startAt, Reached, ByTurn, Made, TurnMade, AllMade, TurnsMade, IsPrinted, Printed}
+use Rattle.verdict.specs.Came.Reached.{at-start, after-turn}
 use Rattle.verdict.proofs.Bytes.{same-bytes, hand-length, SameNext, same-next, some-request}
 
 -- ---- the same, by other names
@@ -46,7 +47,7 @@ going p g =
     (not-true (p .failed) (and-left (not (p .failed)) (not (p .place .refused)) e), not-true (p .place .refused) (and-right (not (p .failed)) (not (p .place .refused)) e))
 
 -- ---- before the first turn
-pub came-start : (p : Progress) (input out : List ℕ) {b : Buffers} {F : List ℕ} → HoldsState empty b F
+came-start : (p : Progress) (input out : List ℕ) {b : Buffers} {F : List ℕ} → HoldsState empty b F
     → p .place ≡ record { from = 0; at = 0; index = 0; refused = false } → p .end ≡ 0 → Came [] [] p input out b F
 came-start p input out h e f =
     let from : p .place .from ≡ 0 = ap (λ (q : Place). q .from) e in
@@ -253,9 +254,14 @@ one t = if t then 1 else 0
 pub record Going (p : Progress) (turns : ℕ) (input out : List ℕ) (b : Buffers) (F : List ℕ) : Type 0 where
   pub bytes : List ℕ
   pub written : List ℕ
+  pub reached : Reached p input out b F bytes written
   pub came : Came bytes written p input out b F
   pub made : 2 ^ 64 ≤ turns + 2 + (p .place .index + (length bytes + one (p .ended)))
   pub fits : p .place .index + turns < 2 ^ 64
+
+pub going-start : (turns : ℕ) (input out : List ℕ) {b : Buffers} {F : List ℕ} → HoldsState empty b F → turns + 2 ≡ 2 ^ 64 → Going startAt turns input out b F
+going-start turns input out h e =
+    record { bytes = []; written = []; reached = at-start h; came = came-start startAt input out h refl refl; made = omega arith; fits = omega arith }
 
 -- a read that gives nothing tells the end
 read-counts : (bytes new : List ℕ) (ended : Bool) → ended ≡ eqb (length new) 0 → length bytes + 1 ≤ length (bytes ++ new) + one ended
@@ -266,8 +272,8 @@ read-counts bytes new ended e = by (eqb (length new) 0) refl
     by false z = rw (e, z) (omega (arith, length-append bytes new, eqb-false (length new) 0 z))
 
 going-next : {p : Progress} {turns : ℕ} {input out : List ℕ} {b : Buffers} {F : List ℕ} (g : Going p turns input out b F) {r : Progress} {input′ out′ : List ℕ} {b′ : Buffers} {F′ : List ℕ}
-    → 0 < turns → Made (g .bytes) (g .written) p input out r input′ out′ b′ F′ → Going r (turns - 1) input′ out′ b′ F′
-going-next {p} {turns} {input} {out} g {r} {input′} {out′} {b′} {F′} some m = by (lacks (atHand p input) (p .ended)) refl (m .turn)
+    → 0 < turns → goesOn p ≡ true → Made (g .bytes) (g .written) p input out r input′ out′ b′ F′ → Going r (turns - 1) input′ out′ b′ F′
+going-next {p} {turns} {input} {out} g {r} {input′} {out′} {b′} {F′} some goes m = by (lacks (atHand p input) (p .ended)) refl (m .turn)
   where
     by : (t : Bool) → lacks (atHand p input) (p .ended) ≡ t → ByTurn t p out r (m .new) (m .said) → Going r (turns - 1) input′ out′ b′ F′
     by true e k =
@@ -275,6 +281,7 @@ going-next {p} {turns} {input} {out} g {r} {input′} {out′} {b′} {F′} som
         record {
           bytes = g .bytes ++ m .new;
           written = g .written ++ m .said;
+          reached = after-turn (g .reached) goes m;
           came = m .came;
           made = omega (arith, g .made, k .index, read-counts (g .bytes) (m .new) (r .ended) (k .told));
           fits = omega (arith, g .fits, k .index);
@@ -285,15 +292,16 @@ going-next {p} {turns} {input} {out} g {r} {input′} {out′} {b′} {F′} som
         record {
           bytes = g .bytes ++ m .new;
           written = g .written ++ m .said;
+          reached = after-turn (g .reached) goes m;
           came = m .came;
           made = omega (arith, g .made, k .index);
           fits = omega (arith, g .fits, k .index);
         }
 
 pub going-again : {p : Progress} {turns : ℕ} {input out : List ℕ} {b : Buffers} {F : List ℕ} (g : Going p turns input out b F) {r : Progress} {input′ out′ : List ℕ} {b′ : Buffers} {F′ : List ℕ}
-    → 0 < turns → (failed : Bool) → TurnMade failed (g .bytes) (g .written) p input out r input′ out′ b′ F′ → failed ≡ false → Going r (turns - 1) input′ out′ b′ F′
-going-again g some true m e = absurd (false≢true (sym e))
-going-again g some false m e = going-next g some m
+    → 0 < turns → goesOn p ≡ true → (failed : Bool) → TurnMade failed (g .bytes) (g .written) p input out r input′ out′ b′ F′ → failed ≡ false → Going r (turns - 1) input′ out′ b′ F′
+going-again g some goes true m e = absurd (false≢true (sym e))
+going-again g some goes false m e = going-next g some goes m
 
 -- a request has bytes, so there were no more of them than bytes
 counted : {bytes written : List ℕ} {p : Progress} {input out : List ℕ} {b : Buffers} {F : List ℕ} (k : Came bytes written p input out b F) → p .place .index ≤ length bytes
@@ -304,6 +312,7 @@ all-made {p} {turns} g e =
     record {
       bytes = g .bytes;
       written = g .written;
+      reached = g .reached;
       came = g .came;
       over = λ h. by (p .ended) (ltb-false 0 turns (and-true (ltb 0 turns) (goesOn p) h e)) (g .made);
     }
@@ -344,10 +353,17 @@ stops {bytes} {p = p} {input = input} k fine e rest f kept h =
 
 printed : {p : Progress} {input out : List ℕ} {b : Buffers} {F : List ℕ} → AllMade p input out b F → p .failed ≡ false → p .place .at + 0x28000 ≤ length out → (end : ℕ) {out′ : List ℕ}
     → ((m : Memory) → Holds m b → Written out (p .place .at) (memoryLines 0 m) out′ end) → IsPrinted (withTextTo end p) out′
-printed {p} {input} {out} {b} a fine room end {out′} w =
+printed {p} {input} {out} {b} {F} a fine room end {out′} w =
     record {
+      last = p;
+      input = input;
+      before = out;
+      buffers = b;
+      frames = F;
       bytes = a .bytes;
       written = a .written;
+      reached = a .reached;
+      same = refl;
       fits = inside;
       output = λ few rest f.
           let h = a .came .performing rest f in

@@ -6,12 +6,14 @@ use mathlib.Core.Bool.{Bool, true, false}
 use mathlib.Core.List.{List, [], _++_}
 use lib.Dec.{eqb}
 use lib.ListN.{length, take}
+use Rattle.definition.specs.Frame.{empty}
 use Rattle.definition.specs.Output.{IsOutput}
 use Rattle.tables.specs.Encoding.{Buffers}
+use Rattle.perform.specs.Performed.{HoldsState}
 use Rattle.judge.specs.declared.Place.{Place}
 use Rattle.judge.specs.Whole.{Performing}
 use Rattle.verdict.specs.declared.Progress.{Progress}
-use Rattle.verdict.specs.Progress.{lacks, goesOn, atHand, textAtHand, mostText, Ready}
+use Rattle.verdict.specs.Progress.{lacks, goesOn, atHand, textAtHand, mostText, Ready, withTextTo}
 
 -- what may follow the bytes that were read: nothing, where the input has ended
 abbrev pub MayFollow : Progress → List ℕ → Type 0
@@ -61,10 +63,21 @@ TurnMade true bytes written p input out r input′ out′ b F = Unit
 TurnMade false bytes written p input out r input′ out′ b F = Made bytes written p input out r input′ out′ b F
 
 -- ---- all turns
+abbrev pub startAt : Progress
+startAt = record { place = record { from = 0; at = 0; index = 0; refused = false }; end = 0; ended = false; failed = false }
+
+-- from the start by turns alone: `bytes` is what these read, and `written` what they wrote
+pub data Reached : Progress → (input out : List ℕ) → Buffers → List ℕ → (bytes written : List ℕ) → Type 0 where
+  at-start : {input out : List ℕ} {b : Buffers} {F : List ℕ} → HoldsState empty b F → Reached startAt input out b F [] []
+  after-turn : {p : Progress} {input out : List ℕ} {b : Buffers} {F bytes written : List ℕ} {r : Progress} {input′ out′ : List ℕ} {b′ : Buffers} {F′ : List ℕ}
+      → Reached p input out b F bytes written → goesOn p ≡ true → (m : Made bytes written p input out r input′ out′ b′ F′)
+      → Reached r input′ out′ b′ F′ (bytes ++ m .new) (written ++ m .said)
+
 -- the program stops where it does not go on. A proved loop has to end: it is left, too, when there were 2^64 − 2 turns, for which so many bytes were read
 pub record AllMade (r : Progress) (input out : List ℕ) (b : Buffers) (F : List ℕ) : Type 0 where
   pub bytes : List ℕ
   pub written : List ℕ
+  pub reached : Reached r input out b F bytes written
   pub came : Came bytes written r input out b F
   pub over : goesOn r ≡ true → 2 ^ 63 ≤ length bytes + 1
 
@@ -73,10 +86,17 @@ TurnsMade true r input out b F = Unit
 TurnsMade false r input out b F = AllMade r input out b F
 
 -- ---- the whole
--- what was written, and the text at hand, is what the definition lets the program print of what was read and of whatever follows
+-- what the turns wrote, and the text at hand, is what the definition lets the program print of what they read and of whatever follows
 pub record IsPrinted (r : Progress) (out : List ℕ) : Type 0 where
+  pub last : Progress
+  pub input : List ℕ
+  pub before : List ℕ
+  pub buffers : Buffers
+  pub frames : List ℕ
   pub bytes : List ℕ
   pub written : List ℕ
+  pub reached : Reached last input before buffers frames bytes written
+  pub same : r ≡ withTextTo (r .place .at) last
   pub fits : r .place .at ≤ length out
   pub output : length bytes + 1 < 2 ^ 63 → (rest : List ℕ) → MayFollow r rest → IsOutput (bytes ++ rest) (written ++ textAtHand r out)
 

@@ -1,7 +1,6 @@
 -- The program came so far, and each turn that was made counts (Turns).
 use Prim.Native.Nat.{_<_}
 use mathlib.Core.Bool.{Bool, true, false, _&&_}
-use mathlib.Core.List.{[]}
 use mathlib.Core.Path.{_≡_, refl, sym, ap, _∙_}
 use native.Mathlib.Omega.{arith}
 use borrow.Author.Tests.{ltb-true}
@@ -11,7 +10,7 @@ use lib.ListN.{length}
 use lib.Dec.{ltb}
 use Rattle.definition.proofs.Booleans.{and-left, and-right}
 use Rattle.tables.specs.Held.{buffers}
-use Rattle.verdict.proofs.Turns.{Going, going, came-start, going-again, turns-made}
+use Rattle.verdict.proofs.Turns.{Going, going, going-start, going-again, turns-made}
 use Rattle.verdict.specs.Progress.{goesOn}
 use Rattle.verdict.proofs.take_turns.Statement.{statement}
 use Rattle.verdict.proofs.take_turns.Tie as tie
@@ -53,7 +52,7 @@ sub-turns : tie.Need-sub-turns Inv-loop μ-loop
 sub-turns c = search needs
 
 loop-holds : tie.Need-loop-holds Inv-loop μ-loop
-loop-holds c = let s = entry c in (λ _. record { bytes = []; written = []; came = came-start _ (now (s .args .input)) (now (s .args .out)) (s .pre .0) refl refl; made = omega arith; fits = omega arith }, (refl, (refl, (refl, (refl, (refl, (refl, (refl, (refl, (refl))))))))))
+loop-holds c = let s = entry c in (λ _. going-start _ (now (s .args .input)) (now (s .args .out)) (s .pre .0) (omega arith), (refl, (refl, (refl, (refl, (refl, (refl, (refl, (refl, (refl))))))))))
 
 goes-on-requires : tie.Need-goes-on-requires Inv-loop μ-loop
 goes-on-requires c κs = search needs
@@ -77,7 +76,7 @@ loop-again c = let n = called c in
     let g = so-far t in
     let i = t .before .before .loop .inv in
     let e = n .turn .kept in
-    (going-again g (some-turn t) (n .turn .result .failed) (n .turn .ensures (g .bytes) (g .written) (g .came)), (e .0 ∙ i .1 .0, (e .1 .0 ∙ i .1 .1 .0, (e .1 .1 .0 ∙ i .1 .1 .1 .0, (e .1 .1 .1 .0 ∙ i .1 .1 .1 .1 .0, (e .1 .1 .1 .1 .0 ∙ i .1 .1 .1 .1 .1 .0, (e .1 .1 .1 .1 .1 .0 ∙ i .1 .1 .1 .1 .1 .1 .0, (e .1 .1 .1 .1 .1 .1 .0 ∙ i .1 .1 .1 .1 .1 .1 .1 .0, (e .1 .1 .1 .1 .1 .1 .1 .0 ∙ i .1 .1 .1 .1 .1 .1 .1 .1 .0, (e .1 .1 .1 .1 .1 .1 .1 .1 .0 ∙ i .1 .1 .1 .1 .1 .1 .1 .1 .1))))))))))
+    (going-again g (some-turn t) (goes t) (n .turn .result .failed) (n .turn .ensures (g .bytes) (g .written) (g .came)), (e .0 ∙ i .1 .0, (e .1 .0 ∙ i .1 .1 .0, (e .1 .1 .0 ∙ i .1 .1 .1 .0, (e .1 .1 .1 .0 ∙ i .1 .1 .1 .1 .0, (e .1 .1 .1 .1 .0 ∙ i .1 .1 .1 .1 .1 .0, (e .1 .1 .1 .1 .1 .0 ∙ i .1 .1 .1 .1 .1 .1 .0, (e .1 .1 .1 .1 .1 .1 .0 ∙ i .1 .1 .1 .1 .1 .1 .1 .0, (e .1 .1 .1 .1 .1 .1 .1 .0 ∙ i .1 .1 .1 .1 .1 .1 .1 .1 .0, (e .1 .1 .1 .1 .1 .1 .1 .1 .0 ∙ i .1 .1 .1 .1 .1 .1 .1 .1 .1))))))))))
 
 same-length : tie.Need-same-length Inv-loop μ-loop
 same-length c = c .before .before .loop .inv .1 .0
