@@ -169,6 +169,16 @@ class Repository(TestCase):
         self.assertEqual((status, output), (2, b""))
         self.assertEqual(error, "verdict: target/bin/verdict is older than crates/core/src/lib.rt, and there is no rt to build it again\n")
 
+    def test_without_rt_a_record_counts(self):
+        """A source that was only touched, and checked again, does not make the program stale where there is no rt."""
+        self.verdict()
+        later = os.stat(os.path.join(self.root, "target/bin/verdict")).st_mtime + 100
+        os.utime(os.path.join(self.root, "crates.txt"), (later, later))
+        self.assertEqual(self.verdict(has_rt=False)[0], 2)
+        self.put("kit/rt", RT.replace("cp program", "cp -p program"), 0o755)
+        self.verdict()
+        self.assertEqual(self.verdict(has_rt=False), (0, b"0 0 one\n", ""))
+
     def test_not_proved(self):
         self.verdict()
         self.put("crates/core/src/lib.rt", "two")
