@@ -198,8 +198,8 @@ class Repository(TestCase):
         status, output, error = self.verdict()
         self.assertEqual((status, output), (0, b"0 0 one\n"))
         lines = error.splitlines()
-        self.assertRegex(lines[0], r"^verdict: proving: crate 2 of 2, [23] s so far, about 1 min \d s more \(the prover's output is in .*target/log/check-verdict.out\)$")
-        self.assertRegex(lines[1], r"^verdict: the check took [34] s$")
+        self.assertRegex(lines[0], r"^verdict: proving: crate 2 of 2, \d+ s so far, about (1 min )?\d+ s more \(the prover's output is in .*target/log/check-verdict.out\)$")
+        self.assertRegex(lines[1], r"^verdict: the check took \d+ s$")
         self.assertEqual(len(lines), 2)
 
     def test_progress_on_a_terminal(self):
@@ -214,7 +214,7 @@ class Repository(TestCase):
         os.close(above)
         os.close(below)
         self.assertEqual((done.returncode, done.stdout), (0, b"0 0 one\n"))
-        self.assertRegex(said, r"\A(\rproving: crate 2 of 2, \d s so far, about 1 min \d s more\x1b\[K){2,4}\r\x1b\[Kverdict: the check took [45] s\r\n\Z")
+        self.assertRegex(said, r"\A(\rproving: crate 2 of 2, \d+ s so far, about (1 min )?\d+ s more\x1b\[K){2,}\r\x1b\[Kverdict: the check took \d+ s\r\n\Z")
 
     def test_two_at_once(self):
         self.put("pause", "3")
