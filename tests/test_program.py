@@ -169,6 +169,16 @@ class Repository(TestCase):
         self.assertEqual((status, output), (2, b""))
         self.assertEqual(error, "verdict: target/bin/verdict is older than crates/core/src/lib.rt, and there is no rt to build it again\n")
 
+    def test_without_rt_a_record_counts(self):
+        """A source that was only touched, and checked again, does not make the program stale where there is no rt."""
+        self.verdict()
+        later = os.stat(os.path.join(self.root, "target/bin/verdict")).st_mtime + 100
+        os.utime(os.path.join(self.root, "crates.txt"), (later, later))
+        self.assertEqual(self.verdict(has_rt=False)[0], 2)
+        self.put("kit/rt", RT.replace("cp program", "cp -p program"), 0o755)
+        self.verdict()
+        self.assertEqual(self.verdict(has_rt=False), (0, b"0 0 one\n", ""))
+
     def test_not_proved(self):
         self.verdict()
         self.put("crates/core/src/lib.rt", "two")
@@ -188,8 +198,8 @@ class Repository(TestCase):
         status, output, error = self.verdict()
         self.assertEqual((status, output), (0, b"0 0 one\n"))
         lines = error.splitlines()
-        self.assertRegex(lines[0], r"^verdict: proving: crate 2 of 2, [23] s so far, about 1 min \d s more \(the prover's output is in .*target/log/check-verdict.out\)$")
-        self.assertRegex(lines[1], r"^verdict: the check took [34] s$")
+        self.assertRegex(lines[0], r"^verdict: proving: crate 2 of 2, \d+ s so far, about (1 min )?\d+ s more \(the prover's output is in .*target/log/check-verdict.out\)$")
+        self.assertRegex(lines[1], r"^verdict: the check took \d+ s$")
         self.assertEqual(len(lines), 2)
 
     def test_progress_on_a_terminal(self):
@@ -204,7 +214,7 @@ class Repository(TestCase):
         os.close(above)
         os.close(below)
         self.assertEqual((done.returncode, done.stdout), (0, b"0 0 one\n"))
-        self.assertRegex(said, r"\A(\rproving: crate 2 of 2, \d s so far, about 1 min \d s more\x1b\[K){2,4}\r\x1b\[Kverdict: the check took [45] s\r\n\Z")
+        self.assertRegex(said, r"\A(\rproving: crate 2 of 2, \d+ s so far, about (1 min )?\d+ s more\x1b\[K){2,}\r\x1b\[Kverdict: the check took \d+ s\r\n\Z")
 
     def test_two_at_once(self):
         self.put("pause", "3")

@@ -36,9 +36,9 @@ class Built:
     @property
     def is_fresh(self):
         sources = self._sources()
-        if which("rt") is None:
-            return os.path.exists(self.path) and self._newer(sources) is None
-        return self._is_recorded(sources)
+        if self._is_recorded(sources):
+            return True
+        return which("rt") is None and os.path.exists(self.path) and self._newer(sources) is None
 
     def path_of(self, say):
         """The path, once it is fresh. `say` is given what is to be told meanwhile, a line at a time."""
@@ -54,9 +54,8 @@ class Built:
         return self.path
 
     def _sources(self):
-        """Path, size and time of every source, and of the toolchain."""
-        rt = which("rt")
-        files = [_entry(CRATES)] + ([_entry(os.path.realpath(rt))] if rt else [])
+        """Path, size and time of every source."""
+        files = [_entry(CRATES)]
         for crate in crates_of(self.crate):
             files.extend(_files_below(os.path.join(ROOT, "crates", crate)))
         return files
@@ -64,14 +63,16 @@ class Built:
     def _recorded(self, sources):
         """The record of these sources, and of what is built as it is."""
         built = [_entry(self.path)] if os.path.exists(self.path) else []
-        return "".join(f"{os.path.relpath(path, ROOT)} {size} {time}\n" for path, size, time in sources + built)
+        return "".join(_line(entry) for entry in sources + built)
 
     def _is_recorded(self, sources):
         try:
             with open(self.record, encoding="utf-8") as record:
-                return record.read() == self._recorded(sources) and os.path.exists(self.path)
+                toolchain = record.readline()
+                is_same = record.read() == self._recorded(sources)
         except FileNotFoundError:
             return False
+        return is_same and os.path.exists(self.path) and _toolchain() in ("", toolchain)
 
     def _check_age(self, sources):
         """Without rt: it must be there, and no source may be newer."""
@@ -94,7 +95,7 @@ class Built:
             sources = self._sources()
             if not self._is_recorded(sources):
                 self._check(say)
-                self._write_record(self._recorded(sources))
+                self._write_record(_toolchain() + self._recorded(sources))
 
     def _check(self, say):
         weights = {crate: _weight(crate) for crate in crates_of(self.crate)}
@@ -128,6 +129,17 @@ def crates_of(name):
             reached.append(crate)
             todo.extend(needs[crate])
     return sorted(reached)
+
+
+def _toolchain():
+    """The record's line of rt; empty where there is none, which has no say then."""
+    rt = which("rt")
+    return _line(_entry(os.path.realpath(rt))) if rt else ""
+
+
+def _line(entry):
+    path, size, time = entry
+    return f"{os.path.relpath(path, ROOT)} {size} {time}\n"
 
 
 def _entry(path):
