@@ -35,7 +35,8 @@ returns-2 c =
     let at = c .before in
     let read = at .before in
     let test = read .before in
-    let same = toZ-ofZ (test .before .before .before .before .before .before .before .fits .len) in
+    let lent = test .before in
+    let same = toZ-ofZ (lent .before .before .before .before .before .before .fits .len) in
     rw (← read .thin-pointer .ensures, ← ap back same, ← ap ahead same) (good-place _ _ _ _ _ (sym (test .before .bad-place .ensures) ∙ test .if1 .left) (c .reply-of2 .ensures) (at .signed-dereferenceable .ensures))
 
 pub tree-borrows-signed-dereferenceable-spec : {M : Type 1} → statement M

@@ -26,7 +26,10 @@ same-length-5 : tie.Need-same-length-5
 same-length-5 c = search needs
 
 returns : tie.Need-returns
-returns c = in-numbers (c .reply-of .ensures) (c .before .before .before .before .before .before .before .before .before .before .before .new .ensures)
+returns c =
+    let kept = c .before .before .before .before .before in
+    let made = kept .before .before .before .before .before .before in
+    in-numbers (c .reply-of .ensures) (made .new .ensures)
 
 pub tree-borrows-new-spec : {M : Type 1} → statement M
 tree-borrows-new-spec =
