@@ -69,8 +69,10 @@ fn a_memory_prints_as_the_program_does() {
     let empty = memory.allocate(MemoryKind::VTable, 0, Align::ONE, 8).unwrap();
     let child = memory.retag_argument(&mut call, empty, PointerKind::Box, &Pointee::of::<()>()).unwrap();
     memory.retag(child, PointerKind::SharedReference, &Pointee::of::<()>()).unwrap();
+    memory.allocate(MemoryKind::Stack, 1, Align::ONE, 32).unwrap();
     let printed = "a 0 dead global 8 1 3\nd 0 00000000\nn 0 0 - no 3\nn 0 1 0 no 5\n\
-        a 1 live vtable 8 0 0\nd 1 -\nn 1 0 - no -\nn 1 1 0 weak -\nn 1 2 1 no -\n";
+        a 1 live vtable 8 0 0\nd 1 -\nn 1 0 - no -\nn 1 1 0 weak -\nn 1 2 1 no -\n\
+        a 2 live stack 32 1 0\nd 2 00000000\nn 2 0 - no 3\n";
     assert_eq!(memory.to_string(), printed);
 }
 
@@ -163,15 +165,16 @@ fn a_call_protects_until_it_ends() {
 /// A frame that a list leaves open is gone on with in its memory.
 #[test]
 fn a_frame_outlives_its_list() {
+    let root = pointer(32, 1, 0);
     let mut list = List::new();
     list.allocate(MemoryKind::Heap, 1, Align::ONE, 16);
+    list.allocate(MemoryKind::Heap, 1, Align::ONE, 32);
     list.new_call(frame(31));
-    list.retag_argument(frame(31), pointer(16, 0, 0), PointerKind::SharedReference, &Pointee::of::<u8>());
+    list.retag_argument(frame(31), root, PointerKind::SharedReference, &Pointee::of::<u8>());
     let mut outcome = list.run();
     assert_eq!(outcome.frame(frame(30)), None);
     let mut call = outcome.frame(frame(31)).unwrap();
-    assert_eq!(call.entries(), [Entry { allocation: 0, node: 1 }]);
-    let root = pointer(16, 0, 0);
+    assert_eq!(call.entries(), [Entry { allocation: 1, node: 1 }]);
     assert_eq!(outcome.memory.store(root, &[byte(1)], Align::ONE), Err(Refusal::ForeignWriteOfRead));
     outcome.memory.end_call(&mut call).unwrap();
     outcome.memory.store(root, &[byte(1)], Align::ONE).unwrap();
@@ -196,8 +199,9 @@ fn names_that_fit_no_request_were_never_made() {
     let refused = |named| {
         let mut list = List::new();
         list.allocate(MemoryKind::Stack, 1, Align::ONE, 16);
+        list.retag(pointer(16, 0, 0), PointerKind::MutableReference, &Pointee::of::<u8>());
         list.load(named, 1, Align::ONE);
-        list.run().answers[1].clone()
+        list.run().answers[2].clone()
     };
     assert_eq!(refused(pointer(16, 128, 0)), Err(Refusal::NeverMade));
     assert_eq!(refused(pointer(16, 0, 4096)), Err(Refusal::NeverMade));
