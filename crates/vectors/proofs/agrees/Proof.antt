@@ -1,13 +1,27 @@
 -- What comes of the run is compared.
 use borrow.Author.Needs.{needs}
+use denote.Ref.{now}
 use Rattle.vectors.proofs.agrees.Statement.{statement}
 use Rattle.vectors.proofs.agrees.Tie as tie
 
+-- ---- the places: the entry, and behind the call
+abbrev entry : tie.After-judge-arg8 → tie.Start
+entry c =
+    let c1 : tie.After-judge-arg2 = c .before .before .before .before .before .before in
+    let c2 : tie.After-slice-known6 = c1 .before .before .before .before .before .before in
+    c2 .before .before .before .before .before .before
+
+abbrev judged : tie.After-is-text-arg → tie.After-judge
+judged c =
+    let c1 : tie.After-frames = c .before .before .before .before .before .before in
+    let c2 : tie.After-protectors = c1 .before .before .before .before .before .before in
+    c2 .before .before .before .before .before
+
 judge-requires : tie.Need-judge-requires
-judge-requires c κs = c .before .before .before .before .before .before .before .before .before .before .before .before .before .before .before .before .before .before .pre
+judge-requires c κs = entry c .pre
 
 is-text-requires : tie.Need-is-text-requires
-is-text-requires c κs = (c .before .before .before .before .before .before .before .before .before .before .before .before .before .before .before .before .before .before .before .before .before .before .before .before .before .before .before .before .before .before .before .before .before .before .before .before .args .run .now, (c .before .before .before .before .before .before .before .before .before .before .before .before .before .before .before .before .before .before .before .before .before .before .before .before .before .before .before .before .before .before .before .before .before .before .before .before .args .out .now, c .before .before .before .before .before .before .before .before .before .before .before .before .before .before .before .before .before .judge .ensures))
+is-text-requires c κs = let s = entry (judged c .before) in (now (s .args .run), (now (s .args .out), judged c .judge .ensures))
 
 same-length : tie.Need-same-length
 same-length c = search needs
@@ -34,7 +48,7 @@ same-length-8 : tie.Need-same-length-8
 same-length-8 c = search needs
 
 returns : tie.Need-returns
-returns c = c .is-text .ensures (c .before .before .before .before .before .before .before .before .before .before .before .before .before .before .before .before .before .before .before .before .before .before .before .before .before .before .before .before .before .before .before .before .before .before .before .before .before .args .run .now) (c .before .before .before .before .before .before .before .before .before .before .before .before .before .before .before .before .before .before .before .before .before .before .before .before .before .before .before .before .before .before .before .before .before .before .before .before .before .args .out .now) (c .before .before .before .before .before .before .before .before .before .before .before .before .before .before .before .before .before .before .judge .ensures)
+returns c = let k = judged (c .before) in let s = entry (k .before) in c .is-text .ensures (now (s .args .run)) (now (s .args .out)) (k .judge .ensures)
 
 pub agrees-spec : {M : Type 1} → statement M
 agrees-spec =

@@ -22,10 +22,11 @@ same-length : tie.Need-same-length
 same-length c = search needs
 
 returns : tie.Need-returns
-returns c = let s = c .before .before .before .before .before .before .before in
+returns c = let k = c .before .before .before .before in
+    let s = k .before .before .before in
     let answer = s .args .answer in
     subst (λ (a : definition.Answer). WrittenInside (s .args .out .now) (s .args .at) (answerLine (s .args .index) (named answer) a) (c .before .before .answer-line .last .0) (c .before .before .answer-line .result))
-    (ap (giving answer) (c .before .before .before .before .loaded-words .ensures .loaded) ∙ giving-loaded answer (s .args .words .now)) (c .before .before .answer-line .ensures)
+    (ap (giving answer) (k .loaded-words .ensures .loaded) ∙ giving-loaded answer (s .args .words .now)) (c .before .before .answer-line .ensures)
 
 pub put-line-spec : {M : Type 1} → statement M
 put-line-spec = tie.close (tie.spec loaded-words-requires answer-line-requires same-length returns)
