@@ -34,7 +34,8 @@ pub struct Reach {
     pub what: Accesses,
 }
 
-// What the check pass tells: every code stays; nothing is refused, and some code changes; or the first refusal in the order of the visit.
+// What the check pass tells: every code stays; nothing is refused; or the first refusal in the order of the visit. `Changes` is answered where a code
+// changes; its promise is only that nothing is refused, which is all that the apply pass after it needs.
 pub enum Answer {
     Stays,
     Changes,
