@@ -24,10 +24,10 @@ use Rattle.answer.proofs.Replies.{plain-answers}
 use Rattle.tables.specs.Encoding.{recordOf, parentsOf, wordsOf, held, encode}
 use Rattle.tables.specs.Held.{buffers, Holds}
 use Rattle.tables.proofs.ReadBack.{holds-allocs, holds-parents, holds-words, encode-of}
-use Rattle.entries.specs.Buffer.{entriesIn, FitsEntry, HoldsFrames}
-use Rattle.entries.specs.List.{entriesOf}
-use Rattle.entries.specs.declared.Entries.{Entries}
-use Rattle.entries.proofs.FromValid.{made-fits}
+use Rattle.frames.specs.Buffer.{entriesIn, FitsEntry, HoldsFrames}
+use Rattle.frames.specs.List.{entriesOf}
+use Rattle.frames.specs.declared.Entries.{Entries}
+use Rattle.frames.proofs.FromValid.{made-fits}
 use Rattle.parts.specs.Trees.{HoldsMarked}
 use Rattle.frame.specs.Release.{HoldsNodes, AllMade, unlessRefused, ReleasedAll, afterEndCall, Checked, Ended}
 use Rattle.frame.proofs.Releases.{all-kept, same-record, same-parents, same-words, rest-at}

@@ -16,9 +16,9 @@ use Rattle.tables.specs.Decoding.{view}
 use Rattle.tables.specs.Held.{buffers, Holds}
 use Rattle.wellformed.specs.WellFormed.{wellFormed}
 use Rattle.wellformed.proofs.Sound.{sound}
-use Rattle.entries.specs.List.{firstOf, loaded}
-use Rattle.entries.specs.declared.Entry.{Entry}
-use Rattle.entries.proofs.ByValue.{loaded-all}
+use Rattle.frames.specs.List.{firstOf, loaded}
+use Rattle.frames.specs.declared.Entry.{Entry}
+use Rattle.frames.proofs.ByValue.{loaded-all}
 use Rattle.frame.specs.Release.{Ended}
 use Rattle.frame.specs.EndCall.{isLent, ended, EndedLent}
 use Rattle.frame.proofs.EndCall.{end-call-encode}

@@ -24,7 +24,7 @@ use Rattle.tables.specs.Held.{Records, StartsAt, startOf}
 use Rattle.tables.specs.declared.Starts.{Starts}
 use Rattle.tables.proofs.Focus.{concat-append, length-held}
 use Rattle.tables.proofs.Sizes.{protectors-fit, codes-fit}
-use Rattle.entries.specs.Buffer.{entriesIn}
+use Rattle.frames.specs.Buffer.{entriesIn}
 use Rattle.parts.specs.Trees.{HoldsMarked}
 use Rattle.frame.specs.Release.{HoldsNodes, AllMade, Spans, Touched, untilRefused, ReleasedUntil, ReleasedAll}
 use Rattle.parts.proofs.Lent.{records-of}

@@ -1,9 +1,9 @@
 // The end of a call: the protectors of its frame are released. mem.rs: `TreeBorrowsFrameExtra`, `release_protector`, `end_call`.
-// specs/Release.antt says what is asked and what is left, in the definition's terms. A new call only opens its frame: `entries::open_frame`.
+// specs/Release.antt says what is asked and what is left, in the definition's terms. A new call only opens its frame: `frames::open_frame`.
 use answer::Answer;
-use entries::Entries;
-use entries::Entry;
-use entries::load;
+use frames::Entries;
+use frames::Entry;
+use frames::load;
 use pointer::Provenance;
 use tables::Starts;
 ghost use mathlib.Core.Path.{_≡_};
@@ -14,8 +14,8 @@ ghost use lib.ListN.{length, take, drop, replicate};
 ghost use Rattle.definition.specs.Notation.{any};
 ghost use Rattle.definition.specs.Memory.{Memory, wasMade};
 ghost use Rattle.definition.specs.Memory.Liveness.{Live};
-ghost use Rattle.entries.specs.List.{provenanceOf, entriesOf, firstOf};
-ghost use Rattle.entries.specs.Buffer.{entriesIn};
+ghost use Rattle.frames.specs.List.{provenanceOf, entriesOf, firstOf};
+ghost use Rattle.frames.specs.Buffer.{entriesIn};
 ghost use Rattle.tables.specs.Held.{buffers, Records};
 ghost use Rattle.tree.specs.Table.{HoldsAll, Some, Each};
 ghost use Rattle.tree.specs.Requests as tree;
@@ -91,7 +91,7 @@ fn any_never_made(allocs: &[u64], list: Entries) -> bool
     let count = list.count;
     let mut i: usize = 0;
     while i < count {
-        let entry = entries::entry_at(list, i);
+        let entry = frames::entry_at(list, i);
         let provenance = Provenance::Of {
             allocation: entry.allocation,
             node: entry.node,
@@ -118,7 +118,7 @@ fn release_until(
 {
     let mut i: usize = 0;
     while i < words.len() {
-        let e = entries::entry_in(words[i]);
+        let e = frames::entry_in(words[i]);
         let refusal = release_entry(allocs, parents, protectors, codes, e);
         if refusal != 0 {
             return refusal;
@@ -322,7 +322,7 @@ fn end_call_refusal(
     if any_never_made(allocs, list) {
         return 4;
     }
-    let words = entries::words_of(list);
+    let words = frames::words_of(list);
     let count = list.count;
     release_lent(allocs, parents, protectors, codes, area, &words[0..count])
 }

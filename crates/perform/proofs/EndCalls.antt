@@ -13,7 +13,7 @@ use Rattle.definition.proofs.Alls.{all-getD}
 use Rattle.answer.specs.Answer.{answerOf}
 use Rattle.answer.specs.declared.Answer.{Answer}
 use Rattle.tables.specs.Held.{Trees}
-use Rattle.entries.specs.Buffer.{HoldsFrames, entriesIn, entriesAt}
+use Rattle.frames.specs.Buffer.{HoldsFrames, entriesIn, entriesAt}
 use Rattle.frame.specs.Release.{AllMade, afterEndCall, Ended}
 use Rattle.frame.proofs.EndCall.{end-call-encode, ended-answers, end-call-answer, end-call-memory, accepted-frames, refused-frames}
 use Rattle.perform.specs.Performed.{HoldsTrees, LeftTrees}

@@ -18,8 +18,8 @@ use Rattle.answer.specs.declared.Answer.{Answer}
 use Rattle.tables.specs.Encoding.{Buffers, wordsOf, held, encode}
 use Rattle.tables.specs.Held.{buffers, Holds}
 use Rattle.tables.proofs.ReadBack.{encode-of, holds-words}
-use Rattle.entries.specs.Buffer.{HoldsFrames, framesHeld}
-use Rattle.entries.proofs.FromValid.{valid-holds}
+use Rattle.frames.specs.Buffer.{HoldsFrames, framesHeld}
+use Rattle.frames.proofs.FromValid.{valid-holds}
 use Rattle.frame.specs.Release.{afterEndCall, HoldsNodes}
 use Rattle.frame.proofs.EndCall.{end-call-encode, end-call-memory}
 use Rattle.reborrow.proofs.Requests.{words-kept, without-node-same}

@@ -29,8 +29,8 @@ use Rattle.answer.specs.declared.Answer.the-variants.{Refused}
 use Rattle.tables.specs.Held.{Trees}
 use Rattle.layout.specs.Filled.{maskByte, maskBytes}
 use Rattle.layout.proofs.Answers.{HasMask}
-use Rattle.entries.specs.Buffer.{entriesAt, framesHeld, FitsEntry}
-use Rattle.entries.proofs.FromValid.{made-fits}
+use Rattle.frames.specs.Buffer.{entriesAt, framesHeld, FitsEntry}
+use Rattle.frames.proofs.FromValid.{made-fits}
 use Rattle.reborrow.specs.Settings.{maskOf, settingsOf}
 use Rattle.reborrow.specs.declared.ReborrowSettings as code
 use Rattle.reborrow.specs.Retag.{entered, Retagged}

@@ -7,8 +7,8 @@ use Rattle.definition.specs.Frame.{State}
 use Rattle.tables.specs.Encoding.{Buffers, wordsOf, held, encode}
 use Rattle.tables.specs.Held.{buffers, Holds, Records, Trees}
 use Rattle.tables.proofs.ReadBack.{encode-of}
-use Rattle.entries.specs.Buffer.{HoldsFrames}
-use Rattle.entries.proofs.FromValid.{valid-holds}
+use Rattle.frames.specs.Buffer.{HoldsFrames}
+use Rattle.frames.proofs.FromValid.{valid-holds}
 use Rattle.parts.specs.Trees.{HoldsMarked}
 use Rattle.parts.proofs.Lent.{records-of}
 use Rattle.perform.specs.Performed.{HoldsTrees}

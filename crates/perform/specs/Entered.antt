@@ -8,7 +8,7 @@ use lib.ListN.{length}
 use Rattle.definition.specs.Permission.{Protected, isYes}
 use Rattle.definition.specs.Memory.{Provenance}
 use Rattle.definition.specs.Frame.{Frame}
-use Rattle.entries.specs.Buffer.{entriesAt, FitsEntry, HoldsFrames}
+use Rattle.frames.specs.Buffer.{entriesAt, FitsEntry, HoldsFrames}
 
 -- the buffer holds the frames, and there is room for the entry
 pub record CanEnter (protected : Protected) (f : ℕ) (o : Option Provenance) (fs : List Frame) (F : List ℕ) : Type 0 where

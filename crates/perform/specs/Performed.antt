@@ -12,7 +12,7 @@ use Rattle.answer.specs.Answer.{answerOf}
 use Rattle.answer.specs.declared.Answer.{Answer}
 use Rattle.tables.specs.Encoding.{Buffers, encode}
 use Rattle.tables.specs.Held.{Holds, Trees}
-use Rattle.entries.specs.Buffer.{framesHeld}
+use Rattle.frames.specs.Buffer.{framesHeld}
 use Rattle.request.specs.declared.Kind.{Kind}
 use Rattle.request.specs.declared.Kind.the-variants.{Allocate, Deallocate, Load, Store, Retag, NewCall, EndCall, Dereferenceable, SignedDereferenceable, LeakCheck, Unused}
 use Rattle.request.specs.declared.Request.{Request}

@@ -4,7 +4,7 @@ ghost use Prim.Native.Nat.{_<_};
 ghost use mathlib.Core.Path.{_≡_};
 ghost use mathlib.Core.Bool.{false};
 ghost use Rattle.definition.specs.Frame.{State, frameAt, isOpen, newCall, endCall};
-ghost use Rattle.entries.specs.Buffer.{HoldsFrames};
+ghost use Rattle.frames.specs.Buffer.{HoldsFrames};
 ghost use Rattle.perform.specs.Performed.{HoldsTrees, LeftTrees, LeftFrames};
 
 pub fn new_call(frames: &mut [u32], f: usize) -> Answer
@@ -12,7 +12,7 @@ pub fn new_call(frames: &mut [u32], f: usize) -> Answer
     requires { ⌜ f < 32 ⌝ }
     ensures { λ r. ⌜ ((s : State) → HoldsFrames (s .frames) (now (frames .entry)) → LeftFrames (newCall f s) r (now (frames .exit))) ⌝ }
 {
-    entries::open_frame(frames, f);
+    frames::open_frame(frames, f);
     Answer::Accepted
 }
 
@@ -29,10 +29,10 @@ pub fn end_call(
     ensures { λ r. ⌜ ((s : State) → HoldsTrees s (now (allocs .entry)) (now (parents .entry)) (now (protectors .entry)) (now (codes .entry)) (now (frames .entry))
         → LeftTrees (endCall f s) r (now (allocs .entry)) (now (parents .entry)) (now (protectors .exit)) (now (codes .exit)) (now (frames .exit))) ⌝ }
 {
-    let words = entries::frame_words(frames, f);
+    let words = frames::frame_words(frames, f);
     let answer = frame::end_call_in_run(allocs, parents, protectors, codes, words);
     if answer.refusal() == 0 {
-        entries::close_frame(frames, f);
+        frames::close_frame(frames, f);
     }
     answer
 }

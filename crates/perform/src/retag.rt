@@ -1,6 +1,6 @@
 // Kind 4: the layout words to a mask, the core, and at function entry the frame's new entry.
 use answer::Answer;
-use entries::Entry;
+use frames::Entry;
 use layout::Mask;
 use permission::Protected;
 use pointer::Provenance;
@@ -20,7 +20,7 @@ ghost use Rattle.definition.specs.Run.{retagWithMask, performRetag};
 ghost use Rattle.pointer.specs.Pointer.{provenanceOf};
 ghost use Rattle.answer.specs.Answer.{answerOf};
 ghost use Rattle.permission.specs.Codes.{protector};
-ghost use Rattle.entries.specs.Buffer.{HoldsFrames, framesHeld};
+ghost use Rattle.frames.specs.Buffer.{HoldsFrames, framesHeld};
 ghost use Rattle.request.specs.Fields.{requestOf};
 ghost use Rattle.reborrow.specs.Settings.{maskOf, settingsOf};
 ghost use Rattle.reborrow.specs.Retag.{entered};
@@ -51,8 +51,8 @@ fn enter_node(frames: &mut [u32], f: usize, protected: Protected, allocation: u3
     let e = Entry { allocation, node };
     match protected {
         Protected::No => {}
-        Protected::Weak => entries::push_entry(frames, f, e),
-        Protected::Strong => entries::push_entry(frames, f, e),
+        Protected::Weak => frames::push_entry(frames, f, e),
+        Protected::Strong => frames::push_entry(frames, f, e),
     }
 }
 
@@ -103,7 +103,7 @@ fn reborrow_entered(
     let p = q.pointer();
     let f = q.frame_number();
     let w = settings(q);
-    let count = entries::entry_count(frames, f);
+    let count = frames::entry_count(frames, f);
     let answer = reborrow::reborrow(allocs, parents, protectors, codes, mask, len, w, p, count);
     let protected = w.protected;
     enter(frames, f, protected, answer);

@@ -26,7 +26,7 @@ use Rattle.tables.specs.Decoding.{view}
 use Rattle.tables.specs.Held.{Holds}
 use Rattle.wellformed.proofs.Sound.{sound}
 use Rattle.wellformed.proofs.Complete.{complete}
-use Rattle.entries.specs.List.{entryOf, firstOf}
+use Rattle.frames.specs.List.{entryOf, firstOf}
 use Rattle.reborrow.proofs.Requests.{without-node-same}
 use Rattle.retag.specs.declared.RetagSettings.{RetagSettings}
 use Rattle.retag.specs.Settings.{retagOf, fieldsOf, badFields}

@@ -31,9 +31,9 @@ use Rattle.tables.proofs.ReadBack.{view-held, encode-of, holds-words}
 use Rattle.wellformed.specs.WellFormed.{wellFormed}
 use Rattle.wellformed.proofs.Sound.{sound}
 use Rattle.wellformed.proofs.Complete.{complete}
-use Rattle.entries.specs.List as list
-use Rattle.entries.specs.List.{entryOf, firstOf, noEntry}
-use Rattle.entries.specs.declared.Entry.{Entry}
+use Rattle.frames.specs.List as list
+use Rattle.frames.specs.List.{entryOf, firstOf, noEntry}
+use Rattle.frames.specs.declared.Entry.{Entry}
 use Rattle.parts.specs.Trees.{HoldsMarked}
 use Rattle.parts.proofs.Lent.{holds-marked}
 use Rattle.retag.specs.declared.RetagSettings.{RetagSettings}

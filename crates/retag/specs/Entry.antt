@@ -19,8 +19,8 @@ use Rattle.answer.specs.declared.Answer.{Answer}
 use Rattle.tables.specs.Encoding.{Buffers, encode}
 use Rattle.tables.specs.Decoding.{view}
 use Rattle.wellformed.specs.WellFormed.{wellFormed}
-use Rattle.entries.specs.List.{entryOf, firstOf}
-use Rattle.entries.specs.declared.Entry.{Entry}
+use Rattle.frames.specs.List.{entryOf, firstOf}
+use Rattle.frames.specs.declared.Entry.{Entry}
 use Rattle.retag.specs.declared.RetagSettings.{RetagSettings}
 use Rattle.retag.specs.declared.RetagAnswer.{RetagAnswer}
 use Rattle.retag.specs.Settings.{retagOf, badFields}

@@ -16,7 +16,7 @@ use Rattle.answer.specs.declared.Answer.{Answer}
 use Rattle.answer.specs.declared.Answer.the-variants.{Refused}
 use Rattle.tables.specs.Encoding.{Buffers}
 use Rattle.tables.specs.Held.{Trees}
-use Rattle.entries.specs.List.{noEntry}
+use Rattle.frames.specs.List.{noEntry}
 use Rattle.retag.specs.declared.RetagOutcome.{RetagOutcome}
 use Rattle.retag.specs.Entry.{isLent}
 

@@ -1,8 +1,8 @@
 // Kind 4 on a lent memory and a lent frame, with nothing asked of the caller. mem.rs: `retag_ptr`.
 // specs/Entry.antt is the promise of `retag`; specs/Settings.antt says what its settings are in the definition.
 use answer::Answer;
-use entries::Entry;
-use entries::put_if;
+use frames::Entry;
+use frames::put_if;
 use layout::Mask;
 use permission::Protected;
 use pointer::Provenance;

@@ -19,9 +19,9 @@ use Rattle.tables.specs.Held.{buffers, Holds}
 use Rattle.tables.proofs.Focus.{length-held}
 use Rattle.tables.proofs.Sizes.{records-fit, parents-fit, protectors-fit, words-fit, codes-fit}
 use Rattle.tables.proofs.ReadBack.{holds-allocs, holds-parents, holds-protectors, holds-words, holds-codes}
-use Rattle.entries.specs.Buffer.{framesHeld}
-use Rattle.entries.proofs.FromValid.{valid-holds}
-use Rattle.entries.proofs.Frames.{buffer-length}
+use Rattle.frames.specs.Buffer.{framesHeld}
+use Rattle.frames.proofs.FromValid.{valid-holds}
+use Rattle.frames.proofs.Frames.{buffer-length}
 use Rattle.perform.specs.Performed.{HoldsState}
 use Rattle.answer.specs.Answer.{answerOf}
 use Rattle.answer.specs.declared.Answer.{Answer}

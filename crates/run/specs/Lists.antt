@@ -9,7 +9,7 @@ use Rattle.definition.specs.Run.{answers, final}
 use Rattle.definition.specs.Exchange.{Exchanged, exchangeAll, OrderIsFree}
 use Rattle.tables.specs.Encoding.{Buffers, encode}
 use Rattle.step.specs.Lengths.{haveLengths}
-use Rattle.entries.specs.Buffer.{framesHeld}
+use Rattle.frames.specs.Buffer.{framesHeld}
 use Rattle.transcript.specs.Transcript.{transcript, WrittenTo}
 use Rattle.transcript.specs.declared.Written.{Written}
 use Rattle.run.specs.declared.ListRun.{ListRun}

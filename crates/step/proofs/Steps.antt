@@ -21,8 +21,8 @@ use Rattle.definition.proofs.ValidRuns.{valid-step}
 use Rattle.answer.specs.declared.Answer.{Answer}
 use Rattle.answer.specs.declared.Answer.the-variants.{Refused}
 use Rattle.tables.specs.Encoding.{Buffers, encode}
-use Rattle.entries.specs.Buffer.{HoldsFrames, framesHeld}
-use Rattle.entries.proofs.FromValid.{valid-holds}
+use Rattle.frames.specs.Buffer.{HoldsFrames, framesHeld}
+use Rattle.frames.proofs.FromValid.{valid-holds}
 use Rattle.request.specs.declared.Request as code
 use Rattle.request.specs.Fields.{kindOf, requestOf}
 use Rattle.perform.specs.Performed.{HoldsState, Formed, outcomeOf, Left}

@@ -13,7 +13,7 @@ use Rattle.definition.proofs.ValidRuns.{valid-empty}
 use Rattle.tables.specs.Encoding.{Buffers}
 use Rattle.tables.specs.Held.{buffers}
 use Rattle.tables.proofs.ReadBack.{zeros-hold}
-use Rattle.entries.proofs.Frames.{cleared}
+use Rattle.frames.proofs.Frames.{cleared}
 use Rattle.perform.specs.Performed.{HoldsState}
 use Rattle.step.specs.Lengths.{haveLengths}
 

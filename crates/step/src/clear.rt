@@ -59,7 +59,7 @@ pub fn clear(
     zero_records(allocs);
     zero_parents(parents);
     tables::fill(protectors, 1024, 0);
-    entries::fill_zero(words);
+    frames::fill_zero(words);
     tables::fill(codes, 32768, 0);
-    entries::fill_zero(frames);
+    frames::fill_zero(frames);
 }

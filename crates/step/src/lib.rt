@@ -6,7 +6,7 @@ ghost use lib.ListN.{drop};
 ghost use Rattle.definition.specs.Frame.{State};
 ghost use Rattle.definition.specs.Request as definition;
 ghost use Rattle.tables.specs.Held.{buffers};
-ghost use Rattle.entries.specs.Buffer.{HoldsFrames};
+ghost use Rattle.frames.specs.Buffer.{HoldsFrames};
 ghost use Rattle.request.specs.Fields.{requestOf};
 ghost use Rattle.perform.specs.Performed.{HoldsState};
 ghost use Rattle.step.specs.Steps.{isRefused, Stepped};
@@ -20,7 +20,7 @@ fn is_refused(frames: &[u32], q: Request, request: &[u32]) -> bool
         → r ≡ isRefused s (now (request .entry))) ⌝ }
 {
     let f = q.frame_used();
-    let opened = entries::is_open(frames, f);
+    let opened = frames::is_open(frames, f);
     let following = request::following(request);
     request::is_miscounted(q, request.len()) | request::is_malformed(q, following, opened)
 }

@@ -10,7 +10,7 @@ use Rattle.answer.specs.Answer.{Gives, replied}
 use Rattle.answer.specs.Answer.Gives.{ThePointer}
 use Rattle.answer.specs.declared.Answer.{Answer}
 use Rattle.tables.specs.Encoding.{Buffers}
-use Rattle.entries.specs.declared.Entry.{Entry}
+use Rattle.frames.specs.declared.Entry.{Entry}
 use Rattle.library.specs.Entry.{entered, Entered, malformedAnswer}
 use Rattle.library.proofs.Entered.{malformed-entered}
 use Rattle.retag.specs.Entry as retag

@@ -17,7 +17,7 @@ use Rattle.answer.specs.Answer.Gives.{ThePointer}
 use Rattle.answer.specs.declared.Answer.{Answer}
 use Rattle.answer.specs.declared.Answer.the-variants.{Refused, Leak, Accepted, Pointer, Words}
 use Rattle.tables.specs.Encoding.{Buffers}
-use Rattle.entries.specs.declared.Entry.{Entry}
+use Rattle.frames.specs.declared.Entry.{Entry}
 use Rattle.retag.specs.Entry as retag
 use Rattle.retag.specs.Settings.{badFields, retagOf}
 use Rattle.retag.specs.declared.RetagAnswer.{RetagAnswer}

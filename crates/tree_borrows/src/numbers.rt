@@ -1,6 +1,6 @@
 // Pointers and answers as numbers.
 use answer::Answer;
-use entries::Entry;
+use frames::Entry;
 use pointer::Provenance;
 use pointer::ThinPointer;
 use retag::RetagOutcome;

@@ -6,12 +6,12 @@ use borrow.Author.Needs.{needs}
 use lib.ListN.{length, drop, drop-of-length-le}
 use Rattle.definition.specs.Memory.{Memory}
 use Rattle.definition.specs.Notation.{any}
-use Rattle.entries.proofs.ByValue.{entries-count}
-use Rattle.entries.proofs.Rows.{list-length}
+use Rattle.frames.proofs.ByValue.{entries-count}
+use Rattle.frames.proofs.Rows.{list-length}
 use Rattle.tables.specs.Held.{Records}
-use Rattle.entries.specs.List.{entriesOf}
+use Rattle.frames.specs.List.{entriesOf}
 use Rattle.bounds.proofs.never_made.Reads as never-made-reads
-use Rattle.entries.proofs.entry_at.Reads as entry-at-reads
+use Rattle.frames.proofs.entry_at.Reads as entry-at-reads
 use Rattle.frame.proofs.EndCall.{isUnmade, unmade-next, unmade-found}
 use Rattle.frame.proofs.any_never_made.Statement.{statement}
 use Rattle.frame.proofs.any_never_made.Tie as tie

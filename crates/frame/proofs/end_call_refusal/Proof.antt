@@ -5,7 +5,7 @@ use mathlib.Core.List.{List}
 use borrow.Author.Needs.{needs}
 use Rattle.definition.specs.Memory.{Provenance}
 use Rattle.definition.specs.Notation.{any}
-use Rattle.entries.specs.List.{entriesOf}
+use Rattle.frames.specs.List.{entriesOf}
 use Rattle.frame.specs.Release.{AllMade, ReleasedAll}
 use Rattle.frame.proofs.EndCall.{isUnmade, all-made, all-fit, written, refused-unmade, made-released}
 use Rattle.parts.proofs.Lent.{records-of}

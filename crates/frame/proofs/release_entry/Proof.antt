@@ -7,7 +7,7 @@ use borrow.Author.Needs.{needs}
 use denote.Ref.{now}
 use Rattle.definition.proofs.ValidMemory.{was-made}
 use Rattle.definition.specs.Memory.{Memory, allocationAt, nodeCount, wasMade}
-use Rattle.entries.specs.List.{provenanceOf}
+use Rattle.frames.specs.List.{provenanceOf}
 use Rattle.tables.specs.Encoding.{protectorsOf, held}
 use Rattle.tables.proofs.Lookup.{record-in}
 use Rattle.parts.specs.Trees.{HoldsMarked, PartsOf, TreeAt}

@@ -1,7 +1,7 @@
 -- The allocations of all entries were made, and the area has room for their codes (Spans).
 use native.Mathlib.Omega.{arith}
 use borrow.Author.Needs.{needs}
-use Rattle.entries.specs.Buffer.{entriesIn}
+use Rattle.frames.specs.Buffer.{entriesIn}
 use Rattle.parts.proofs.Lent.{records-of}
 use Rattle.frame.proofs.Spans.{spans-made, touched, codes-total}
 use Rattle.frame.proofs.release_lent.Statement.{statement}

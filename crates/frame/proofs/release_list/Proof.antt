@@ -3,8 +3,8 @@ use Prim.Native.Nat.{_≤_}
 use native.Mathlib.Omega.{arith}
 use borrow.Author.Needs.{needs}
 use lib.ListN.{length}
-use Rattle.entries.specs.Buffer.{entriesIn}
-use Rattle.entries.proofs.FrameWords.{words-count}
+use Rattle.frames.specs.Buffer.{entriesIn}
+use Rattle.frames.proofs.FrameWords.{words-count}
 use Rattle.parts.proofs.Lent.{records-of}
 use Rattle.frame.proofs.Releases.{all-by-one}
 use Rattle.frame.proofs.Spans.{spans-made, touched, codes-ordered, codes-total}

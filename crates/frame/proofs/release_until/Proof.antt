@@ -5,8 +5,8 @@ use native.Mathlib.Omega.{arith}
 use borrow.Author.Needs.{needs}
 use lib.ListN.{length, drop, drop-of-length-le}
 use Rattle.definition.specs.Memory.{Memory}
-use Rattle.entries.specs.Buffer.{entriesIn}
-use Rattle.entries.proofs.FrameWords.{word-at, words-count}
+use Rattle.frames.specs.Buffer.{entriesIn}
+use Rattle.frames.proofs.FrameWords.{word-at, words-count}
 use Rattle.parts.specs.Trees.{HoldsMarked}
 use Rattle.frame.specs.Release.{AllMade}
 use Rattle.frame.proofs.Releases.{Turn, turn-first, turn-at, turn-next, turn-stops, turn-done}

@@ -41,10 +41,10 @@ use denote.Exit.{yes}
 use Rattle.pointer.specs.Pointer.{thinPointerOf}
 use Rattle.tables.specs.Held.{buffers}
 use Rattle.retag.specs.Entry.{lent, Entered}
-use Rattle.entries.specs.declared.Entry.{Entry}
+use Rattle.frames.specs.declared.Entry.{Entry}
 use Rattle.retag.specs.declared.RetagOutcome.{RetagOutcome}
-use Rattle.entries.proofs.Entry as E
-use Rattle.entries.proofs.Entry.Laws as E′
+use Rattle.frames.proofs.Entry as E
+use Rattle.frames.proofs.Entry.Laws as E′
 use Rattle.retag.proofs.RetagOutcome as R
 use Rattle.retag.proofs.RetagOutcome.Laws as R′
 use Rattle.retag.specs.declared.RetagAnswer.{RetagAnswer}
@@ -56,15 +56,15 @@ use Rattle.retag.proofs.RetagSettings as RetagSettings-T
 use Rattle.retag.proofs.RetagSettings.Laws as RetagSettings-L
 use Rattle.pointer.proofs.ThinPointer as ThinPointer-T
 use Rattle.pointer.proofs.ThinPointer.Laws as ThinPointer-L
-use Rattle.entries.proofs.Rows.{mach}
+use Rattle.frames.proofs.Rows.{mach}
 use Rattle.retag.proofs.retag_list as work
 use Rattle.retag.proofs.retag_list.Symbol as work-def
 use Rattle.retag.proofs.retag_list.Symbol.{name as #work}
 use Rattle.retag.proofs.retag_list.Met as work-thm
-use Rattle.entries.proofs.put_if as put
-use Rattle.entries.proofs.put_if.Symbol as put-def
-use Rattle.entries.proofs.put_if.Symbol.{name as #put}
-use Rattle.entries.proofs.put_if.Met as put-thm
+use Rattle.frames.proofs.put_if as put
+use Rattle.frames.proofs.put_if.Symbol as put-def
+use Rattle.frames.proofs.put_if.Symbol.{name as #put}
+use Rattle.frames.proofs.put_if.Met as put-thm
 use Rattle.retag.proofs.retag.Key.{name as #top}
 use Rattle.retag.proofs.retag as fn
 use Rattle.retag.proofs.retag.Statement as stated
@@ -204,4 +204,4 @@ retag-spec 𝓤 H 𝓜 𝓖 𝓡 =
     (tables 𝓤 H 𝓜 𝓡 code.env .C) (tables 𝓤 H 𝓜 𝓡 code.env .Λ) #top code.function (code.unfolded 𝓤 H 𝓜 𝓡)
     (meets 𝓤 H (𝓖 .A) (givenOf 𝓤 H 𝓜 𝓖) (𝓜 .mem) (𝓡 .run) (tablesOf 𝓤 H 𝓜 (tables 𝓤 H 𝓜 𝓡 code.env))
     (cited 𝓤 H (Work 𝓤 H (𝓖 .A) (𝓜 .mem) (𝓡 .run)) 𝓜 𝓡 code.env #work work-def.routine code.calls-retag·retag-list (work-thm.met 𝓤 H 𝓜 𝓖 𝓡))
-    (cited 𝓤 H (Put 𝓤 H (𝓖 .A) (𝓜 .mem) (𝓡 .run)) 𝓜 𝓡 code.env #put put-def.routine code.calls-entries·put-if (put-thm.met 𝓤 H 𝓜 𝓖 𝓡)))
+    (cited 𝓤 H (Put 𝓤 H (𝓖 .A) (𝓜 .mem) (𝓡 .run)) 𝓜 𝓡 code.env #put put-def.routine code.calls-frames·put-if (put-thm.met 𝓤 H 𝓜 𝓖 𝓡)))

@@ -41,10 +41,10 @@ use denote.Exit.{yes}
 use Rattle.tables.specs.Held.{buffers}
 use Rattle.retag.specs.Entry.{lent}
 use Rattle.tree_borrows.specs.Numbers.{RetagReplied}
-use Rattle.entries.specs.declared.Entry.{Entry}
+use Rattle.frames.specs.declared.Entry.{Entry}
 use Rattle.tree_borrows.specs.declared.numbers.RetagMade.{RetagMade}
-use Rattle.entries.proofs.Entry as E
-use Rattle.entries.proofs.Entry.Laws as E′
+use Rattle.frames.proofs.Entry as E
+use Rattle.frames.proofs.Entry.Laws as E′
 use Rattle.tree_borrows.proofs.numbers.RetagMade as R
 use Rattle.tree_borrows.proofs.numbers.RetagMade.Laws as R′
 use Rattle.tree_borrows.specs.declared.numbers.RetagReply.{RetagReply}
@@ -56,15 +56,15 @@ use Rattle.tree_borrows.proofs.numbers.Settings as Settings-T
 use Rattle.tree_borrows.proofs.numbers.Settings.Laws as Settings-L
 use Rattle.tree_borrows.proofs.numbers.Place as Place-T
 use Rattle.tree_borrows.proofs.numbers.Place.Laws as Place-L
-use Rattle.entries.proofs.Rows.{mach}
+use Rattle.frames.proofs.Rows.{mach}
 use Rattle.tree_borrows.proofs.retag_reply as work
 use Rattle.tree_borrows.proofs.retag_reply.Symbol as work-def
 use Rattle.tree_borrows.proofs.retag_reply.Symbol.{name as #work}
 use Rattle.tree_borrows.proofs.retag_reply.Met as work-thm
-use Rattle.entries.proofs.put_if as put
-use Rattle.entries.proofs.put_if.Symbol as put-def
-use Rattle.entries.proofs.put_if.Symbol.{name as #put}
-use Rattle.entries.proofs.put_if.Met as put-thm
+use Rattle.frames.proofs.put_if as put
+use Rattle.frames.proofs.put_if.Symbol as put-def
+use Rattle.frames.proofs.put_if.Symbol.{name as #put}
+use Rattle.frames.proofs.put_if.Met as put-thm
 use Rattle.tree_borrows.proofs.tree_borrows_retag.Key.{name as #top}
 use Rattle.tree_borrows.proofs.tree_borrows_retag as fn
 use Rattle.tree_borrows.proofs.tree_borrows_retag.Statement as stated
@@ -204,4 +204,4 @@ tree-borrows-retag-spec 𝓤 H 𝓜 𝓖 𝓡 =
     (tables 𝓤 H 𝓜 𝓡 code.env .C) (tables 𝓤 H 𝓜 𝓡 code.env .Λ) #top code.function (code.unfolded 𝓤 H 𝓜 𝓡)
     (meets 𝓤 H (𝓖 .A) (givenOf 𝓤 H 𝓜 𝓖) (𝓜 .mem) (𝓡 .run) (tablesOf 𝓤 H 𝓜 (tables 𝓤 H 𝓜 𝓡 code.env))
     (cited 𝓤 H (Work 𝓤 H (𝓖 .A) (𝓜 .mem) (𝓡 .run)) 𝓜 𝓡 code.env #work work-def.routine code.calls-tree-borrows·retag-reply (work-thm.met 𝓤 H 𝓜 𝓖 𝓡))
-    (cited 𝓤 H (Put 𝓤 H (𝓖 .A) (𝓜 .mem) (𝓡 .run)) 𝓜 𝓡 code.env #put put-def.routine code.calls-entries·put-if (put-thm.met 𝓤 H 𝓜 𝓖 𝓡)))
+    (cited 𝓤 H (Put 𝓤 H (𝓖 .A) (𝓜 .mem) (𝓡 .run)) 𝓜 𝓡 code.env #put put-def.routine code.calls-frames·put-if (put-thm.met 𝓤 H 𝓜 𝓖 𝓡)))

@@ -4,7 +4,7 @@ use mathlib.Core.Path.{_≡_, refl, ap, _∙_}
 use mathlib.Core.List.{List, _++_}
 use native.Mathlib.Omega.{arith}
 use lib.ListN.{length, drop, set, replicate}
-use Rattle.entries.proofs.Fill.{zeros-more, zeros-length, zeros-all}
+use Rattle.frames.proofs.Fill.{zeros-more, zeros-length, zeros-all}
 use Rattle.library.proofs.start.zero_records.Statement.{statement}
 use Rattle.library.proofs.start.zero_records.Tie as tie
 

@@ -5,7 +5,7 @@ use borrow.Author.Needs.{needs}
 use Rattle.permission.specs.Codes.{protector}
 use Rattle.reborrow.specs.Retag.{entered}
 use Rattle.perform.specs.Entered.{CanEnter}
-use Rattle.entries.specs.Buffer.{framesHeld}
+use Rattle.frames.specs.Buffer.{framesHeld}
 use Rattle.answer.specs.declared.Answer.{Answer}
 use Rattle.answer.specs.Answer.{answerOf}
 use Rattle.perform.proofs.retag.enter.Statement.{statement}

@@ -2,7 +2,7 @@
 use mathlib.Core.Option.{some}
 use mathlib.Core.Path.{sym, ap, refl, _∙_}
 use borrow.Author.Needs.{needs}
-use Rattle.entries.specs.Buffer.{framesHeld}
+use Rattle.frames.specs.Buffer.{framesHeld}
 use Rattle.permission.specs.declared.Protected.{Protected}
 use Rattle.permission.specs.Codes.{protector}
 use Rattle.definition.specs.Permission.{isYes}

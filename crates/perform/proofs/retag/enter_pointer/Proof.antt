@@ -5,7 +5,7 @@ use Rattle.permission.specs.Codes.{protector}
 use Rattle.pointer.specs.declared.Provenance.{Provenance}
 use Rattle.reborrow.specs.Retag.{entered}
 use Rattle.perform.specs.Entered.{CanEnter}
-use Rattle.entries.specs.Buffer.{framesHeld}
+use Rattle.frames.specs.Buffer.{framesHeld}
 use Rattle.pointer.specs.Pointer.{provenanceOf}
 use Rattle.perform.proofs.retag.enter_pointer.Statement.{statement}
 use Rattle.perform.proofs.retag.enter_pointer.Tie as tie
