@@ -14,8 +14,8 @@ use Rattle.answer.specs.Answer.{answerOf}
 use Rattle.answer.specs.declared.Answer.{Answer}
 use Rattle.tables.specs.Held.{Trees}
 use Rattle.frames.specs.Buffer.{HoldsFrames, entriesIn, entriesAt}
-use Rattle.frame.specs.Release.{AllMade, afterEndCall, Ended}
-use Rattle.frame.proofs.EndCall.{end-call-encode, ended-answers, end-call-answer, end-call-memory, accepted-frames, refused-frames}
+use Rattle.end_call.specs.Release.{AllMade, afterEndCall, Ended}
+use Rattle.end_call.proofs.EndCall.{end-call-encode, ended-answers, end-call-answer, end-call-memory, accepted-frames, refused-frames}
 use Rattle.perform.specs.Performed.{HoldsTrees, LeftTrees}
 use Rattle.perform.proofs.States.{frames-held, all-held, trees-of}
 

@@ -30,7 +30,7 @@ pub fn end_call(
         → LeftTrees (endCall f s) r (now (allocs .entry)) (now (parents .entry)) (now (protectors .exit)) (now (codes .exit)) (now (frames .exit))) ⌝ }
 {
     let words = frames::frame_words(frames, f);
-    let answer = frame::end_call_in_run(allocs, parents, protectors, codes, words);
+    let answer = end_call::end_call_in_run(allocs, parents, protectors, codes, words);
     if answer.refusal() == 0 {
         frames::close_frame(frames, f);
     }

@@ -12,7 +12,7 @@ use crate::numbers::reply_of;
 use crate::numbers::retag_made;
 use crate::numbers::retag_settings;
 use crate::numbers::thin_pointer;
-use frame::end_call_list;
+use end_call::end_call_list;
 use frames::Entry;
 use frames::load;
 use frames::put_if;
@@ -23,7 +23,7 @@ ghost use mathlib.Core.List.{List};
 ghost use lib.ListN.{length, set};
 ghost use Rattle.frames.specs.List.{firstOf};
 ghost use Rattle.tables.specs.Held.{buffers};
-ghost use Rattle.frame.specs.EndCall.{ended};
+ghost use Rattle.end_call.specs.EndCall.{ended};
 ghost use Rattle.retag.specs.Entry as retag;
 ghost use Rattle.tree_borrows.specs.Numbers.{Replied, RetagReplied};
 
@@ -32,7 +32,7 @@ pub mod numbers;
 pub mod requests;
 pub mod start;
 
-// ---- kinds 4 and 6. Each has two functions, as in `retag` and `frame`: a lent slice of structs is for one that does nothing else.
+// ---- kinds 4 and 6. Each has two functions, as in `retag` and `end_call`: a lent slice of structs is for one that does nothing else.
 // All of a retag but the store into the frame's list, whatever stands there.
 fn retag_reply(
     len: usize,

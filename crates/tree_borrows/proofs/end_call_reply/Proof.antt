@@ -1,4 +1,4 @@
--- The answer of `frame`, as numbers.
+-- The answer of `end_call`, as numbers.
 use borrow.Author.Needs.{needs}
 use Rattle.tree_borrows.proofs.Replies.{in-numbers}
 use Rattle.tree_borrows.proofs.end_call_reply.Statement.{statement}
