@@ -2,4 +2,3 @@ pub mod Lent
 pub mod Releases
 pub mod Spans
 pub mod EndCall
-pub mod LentCall

@@ -1,2 +1,1 @@
 pub mod Release
-pub mod EndCall

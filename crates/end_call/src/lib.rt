@@ -3,7 +3,6 @@
 use answer::Answer;
 use frames::Entries;
 use frames::Entry;
-use frames::load;
 use pointer::Provenance;
 use tables::Starts;
 ghost use mathlib.Core.Path.{_≡_};
@@ -21,7 +20,6 @@ ghost use Rattle.tree.specs.Table.{HoldsAll, Some, Each};
 ghost use Rattle.tree.specs.Requests as tree;
 ghost use Rattle.parts.specs.Trees.{HoldsMarked};
 ghost use Rattle.end_call.specs.Release.{AllMade, Spans, Touched, Released, ReleasedUntil, ReleasedAll, Checked, Ended};
-ghost use Rattle.end_call.specs.EndCall.{isLent, EndedLent};
 
 // ---- one entry
 // In a live allocation of at most 4,096 bytes, with a row for work that has room for it: a short one is made in less time.
@@ -345,85 +343,4 @@ pub fn end_call_held(
     let refused = end_call_refusal(allocs, parents, protectors, codes, area, list);
     tables::fill(area, 32768, 0);
     answer::refused_with(refused)
-}
-
-// ---- an end call on what is lent (specs/EndCall.antt)
-// Not refused with 1: the entries' list, the working area and the buffers have their lengths, and the buffers hold a memory.
-fn is_lent(
-    len: usize,
-    count: usize,
-    area: &[u8],
-    allocs: &[u64],
-    parents: &[u16],
-    protectors: &[u8],
-    words: &[u32],
-    codes: &[u8],
-) -> bool
-    ensures { λ r. ⌜ r ≡ isLent len count (now (area .entry))
-        (buffers (now (allocs .entry)) (now (parents .entry)) (now (protectors .entry)) (now (words .entry)) (now (codes .entry))) ⌝ }
-{
-    if len != 64 {
-        return false;
-    }
-    if count > 64 {
-        return false;
-    }
-    if area.len() != 32768 {
-        return false;
-    }
-    wellformed::well_formed(allocs, parents, protectors, words, codes)
-}
-
-// The entries are the first `count` of a list of `len` places, of which the first 64 are given.
-pub fn end_call_list(
-    len: usize,
-    list: [Entry; 64],
-    count: usize,
-    allocs: &[u64],
-    parents: &[u16],
-    protectors: &mut [u8],
-    words: &[u32],
-    codes: &mut [u8],
-    area: &mut [u8],
-) -> Answer
-    ensures { λ r. ⌜ EndedLent len count (firstOf count list)
-        (buffers (now (allocs .entry)) (now (parents .entry)) (now (protectors .entry)) (now (words .entry)) (now (codes .entry))) (now (area .entry))
-        r (buffers (now (allocs .entry)) (now (parents .entry)) (now (protectors .exit)) (now (words .entry)) (now (codes .exit))) (now (area .exit)) ⌝ }
-{
-    if !is_lent(len, count, area, allocs, parents, protectors, words, codes) {
-        return Answer::Refused(1);
-    }
-    let list = Entries { list, count };
-    end_call_held(allocs, parents, protectors, codes, area, list)
-}
-
-// "The frame's protector list is lent as entries of allocation and node." For whatever is lent: 1, and nothing changes; or the end call of
-// the memory that the buffers hold, and the working area is zero.
-pub fn end_call(
-    entries: &[Entry],
-    count: usize,
-    allocs: &[u64],
-    parents: &[u16],
-    protectors: &mut [u8],
-    words: &[u32],
-    codes: &mut [u8],
-    area: &mut [u8],
-) -> Answer
-    ensures { λ r. ⌜ EndedLent (length (now (entries .entry))) count (firstOf count (now (entries .entry)))
-        (buffers (now (allocs .entry)) (now (parents .entry)) (now (protectors .entry)) (now (words .entry)) (now (codes .entry))) (now (area .entry))
-        r (buffers (now (allocs .entry)) (now (parents .entry)) (now (protectors .exit)) (now (words .entry)) (now (codes .exit))) (now (area .exit)) ⌝ }
-{
-    let len = entries.len();
-    let list = load(entries);
-    end_call_list(
-        len,
-        list,
-        count,
-        allocs,
-        parents,
-        protectors,
-        words,
-        codes,
-        area,
-    )
 }

@@ -13,11 +13,11 @@ use Rattle.tables.specs.Encoding.{Buffers}
 use Rattle.frames.specs.declared.Entry.{Entry}
 use Rattle.library.specs.Entry.{entered, Entered, malformedAnswer}
 use Rattle.library.proofs.Entered.{malformed-entered}
-use Rattle.retag.specs.Entry as retag
-use Rattle.retag.specs.Settings.{badFields, retagOf}
-use Rattle.retag.specs.Outcome.{malformedOutcome}
-use Rattle.retag.specs.declared.RetagOutcome.{RetagOutcome}
-use Rattle.retag.proofs.Lent as retags
+use Rattle.library_frames.specs.Retag as retag
+use Rattle.library_frames.specs.Settings.{badFields, retagOf}
+use Rattle.library_frames.specs.Outcome.{malformedOutcome}
+use Rattle.library_frames.specs.declared.retags.RetagOutcome.{RetagOutcome}
+use Rattle.library_frames.proofs.Lent as retags
 use Rattle.step.specs.Lengths.{haveLengths}
 use Rattle.run.specs.Lists.{ListRan}
 use Rattle.run.specs.declared.ListRun.{ListRun}

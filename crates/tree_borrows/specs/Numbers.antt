@@ -18,11 +18,11 @@ use Rattle.answer.specs.declared.Answer.{Answer}
 use Rattle.answer.specs.declared.Answer.the-variants.{Refused, Leak, Accepted, Pointer, Words}
 use Rattle.tables.specs.Encoding.{Buffers}
 use Rattle.frames.specs.declared.Entry.{Entry}
-use Rattle.retag.specs.Entry as retag
-use Rattle.retag.specs.Settings.{badFields, retagOf}
-use Rattle.retag.specs.declared.RetagAnswer.{RetagAnswer}
-use Rattle.retag.specs.declared.RetagOutcome.{RetagOutcome}
-use Rattle.retag.specs.declared.RetagSettings.{RetagSettings}
+use Rattle.library_frames.specs.Retag as retag
+use Rattle.library_frames.specs.Settings.{badFields, retagOf}
+use Rattle.library_frames.specs.declared.retags.RetagAnswer.{RetagAnswer}
+use Rattle.library_frames.specs.declared.retags.RetagOutcome.{RetagOutcome}
+use Rattle.library_frames.specs.declared.retags.RetagSettings.{RetagSettings}
 use Rattle.run.specs.declared.ListRun.{ListRun}
 use Rattle.run.specs.declared.ListRun.the-variants as ran
 use Rattle.tree_borrows.specs.declared.numbers.ListReply.{ListReply}

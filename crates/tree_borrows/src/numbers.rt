@@ -1,10 +1,10 @@
 // Pointers and answers as numbers.
 use answer::Answer;
 use frames::Entry;
+use library_frames::retags::RetagOutcome;
+use library_frames::retags::RetagSettings;
 use pointer::Provenance;
 use pointer::ThinPointer;
-use retag::RetagOutcome;
-use retag::RetagSettings;
 use run::ListRun;
 ghost use Prim.Native.Nat.{ℕ};
 ghost use mathlib.Core.Path.{_≡_};

@@ -41,8 +41,8 @@ use Rattle.frames.specs.List.{firstOf, loaded}
 use Rattle.tables.specs.Encoding.{Buffers}
 use Rattle.tables.specs.Held.{buffers}
 use Rattle.answer.specs.declared.Answer.{Answer}
-use Rattle.end_call.specs.EndCall.{ended}
-use Rattle.end_call.proofs.LentCall.{loaded-same}
+use Rattle.library_frames.specs.EndCall.{ended}
+use Rattle.library_frames.proofs.LentCall.{loaded-same}
 use Rattle.tree_borrows.specs.Numbers.{replyOf, Replied}
 use Rattle.tree_borrows.specs.declared.numbers.Reply.{Reply}
 use Rattle.tree_borrows.proofs.numbers.Reply as X

@@ -39,7 +39,7 @@ use denote.Triple.Table.{entered, cited}
 use denote.Triple.Walked.{says, Stays, stay-none-slice, stay-none, gave-slice, walkOf, goes-none-slice, goes-none, goes-gave-slice, Walks, ends-at, walked, walk-meets}
 use denote.Exit.{yes}
 use Rattle.tables.specs.Held.{buffers}
-use Rattle.retag.specs.Entry.{lent}
+use Rattle.library_frames.specs.Retag.{lent}
 use Rattle.tree_borrows.specs.Numbers.{RetagReplied}
 use Rattle.frames.specs.declared.Entry.{Entry}
 use Rattle.tree_borrows.specs.declared.numbers.RetagMade.{RetagMade}

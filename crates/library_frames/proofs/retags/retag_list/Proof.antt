@@ -1,0 +1,118 @@
+-- 1, 2, or the retag of the memory that is held (Lent).
+use mathlib.Core.Path.{sym, _∙_}
+use borrow.Author.Tests.{not-true, not-false}
+use Rattle.pointer.specs.Pointer.{thinPointerOf}
+use Rattle.tables.specs.Held.{buffers}
+use Rattle.tables.specs.Decoding.{view}
+use Rattle.library_frames.proofs.Lent.{lent-count, lent-nodes, not-lent, bad-field, retagged}
+use borrow.Author.Needs.{needs}
+use Rattle.library_frames.proofs.retags.retag_list.Statement.{statement}
+use Rattle.library_frames.proofs.retags.retag_list.Tie as tie
+
+is-lent-requires : tie.Need-is-lent-requires
+is-lent-requires c κs = search needs
+
+without-entry-requires : tie.Need-without-entry-requires
+without-entry-requires c κs = search needs
+
+same-length : tie.Need-same-length
+same-length c = search needs
+
+same-length-2 : tie.Need-same-length-2
+same-length-2 c = search needs
+
+same-length-3 : tie.Need-same-length-3
+same-length-3 c = search needs
+
+same-length-4 : tie.Need-same-length-4
+same-length-4 c = search needs
+
+returns : tie.Need-returns
+returns c =
+    let t = c .before .before .before .before .before .before .before .before .before .before .before .before .before .args in
+    not-lent (t .settings) (thinPointerOf (t .p)) (t .layout .now) (t .len) (t .count) (buffers (t .allocs .now) (t .parents .now) (t .protectors .now) (t .words .now) (t .codes .now))
+    (sym (c .before .before .is-lent .ensures) ∙ not-true _ (c .before .if1 .taken)) (c .without-entry .ensures)
+
+bad-fields-requires : tie.Need-bad-fields-requires
+bad-fields-requires c κs = search needs
+
+without-entry-requires-2 : tie.Need-without-entry-requires-2
+without-entry-requires-2 c κs = search needs
+
+same-length-5 : tie.Need-same-length-5
+same-length-5 c = search needs
+
+same-length-6 : tie.Need-same-length-6
+same-length-6 c = search needs
+
+same-length-7 : tie.Need-same-length-7
+same-length-7 c = search needs
+
+same-length-8 : tie.Need-same-length-8
+same-length-8 c = search needs
+
+returns-2 : tie.Need-returns-2
+returns-2 c =
+    let t = c .before .before .before .before .before .before .before .before .before .before .before .before .before .before .before .args in
+    bad-field (t .settings) (thinPointerOf (t .p)) (t .layout .now) (t .len) (t .count) (buffers (t .allocs .now) (t .parents .now) (t .protectors .now) (t .words .now) (t .codes .now))
+    (sym (c .before .before .before .before .is-lent .ensures) ∙ not-false _ (c .before .before .before .if1 .left)) (sym (c .before .before .bad-fields .ensures) ∙ c .before .if2 .taken) (c .«without-entry2» .ensures)
+
+retag-held-requires : tie.Need-retag-held-requires
+retag-held-requires c κs =
+    let t = c .before .before .before .before .before .before .before .before .before .before .before .before .before .before .before .before .before .before .args in
+    let b = buffers (t .allocs .now) (t .parents .now) (t .protectors .now) (t .words .now) (t .codes .now) in
+    (view b, lent-nodes (t .len) (t .count) b (sym (c .before .before .before .before .before .before .before .is-lent .ensures) ∙ not-false _ (c .before .before .before .before .before .before .if1 .left)))
+
+entered-node-requires : tie.Need-entered-node-requires
+entered-node-requires c κs = search needs
+
+with-entry-requires : tie.Need-with-entry-requires
+with-entry-requires c κs =
+    let t = c .before .before .before .before .before .before .before .before .before .before .before .before .before .before .before .before .before .before .before .before .before .before .before .before .before .before .before .before .args in
+    lent-count (t .len) (t .count) (buffers (t .allocs .now) (t .parents .now) (t .protectors .now) (t .words .now) (t .codes .now)) (sym (c .before .before .before .before .before .before .before .before .before .before .before .before .before .before .before .before .before .is-lent .ensures) ∙ not-false _ (c .before .before .before .before .before .before .before .before .before .before .before .before .before .before .before .before .if1 .left))
+
+same-length-9 : tie.Need-same-length-9
+same-length-9 c = search needs
+
+same-length-10 : tie.Need-same-length-10
+same-length-10 c = search needs
+
+same-length-11 : tie.Need-same-length-11
+same-length-11 c = search needs
+
+same-length-12 : tie.Need-same-length-12
+same-length-12 c = search needs
+
+returns-3 : tie.Need-returns-3
+returns-3 c =
+    let t = c .before .before .before .before .before .before .before .before .before .before .before .before .before .before .before .before .before .before .before .before .before .before .before .before .before .before .before .before .before .args in
+    retagged (t .settings) (thinPointerOf (t .p)) (t .layout .now) (t .len) (t .count) (buffers (t .allocs .now) (t .parents .now) (t .protectors .now) (t .words .now) (t .codes .now))
+    (sym (c .before .before .before .before .before .before .before .before .before .before .before .before .before .before .before .before .before .before .is-lent .ensures) ∙ not-false _ (c .before .before .before .before .before .before .before .before .before .before .before .before .before .before .before .before .before .if1 .left)) (sym (c .before .before .before .before .before .before .before .before .before .before .before .before .before .before .before .before .bad-fields .ensures) ∙ c .before .before .before .before .before .before .before .before .before .before .before .before .before .before .before .if2 .left)
+    (c .before .before .before .before .before .before .before .before .before .before .retag-held .ensures) (c .before .entered-node .result) (c .before .entered-node .ensures) (c .with-entry .ensures)
+
+pub retag-list-spec : {M : Type 1} → statement M
+retag-list-spec =
+    tie.close
+    (tie.spec
+    is-lent-requires
+    without-entry-requires
+    same-length
+    same-length-2
+    same-length-3
+    same-length-4
+    returns
+    bad-fields-requires
+    without-entry-requires-2
+    same-length-5
+    same-length-6
+    same-length-7
+    same-length-8
+    returns-2
+    retag-held-requires
+    entered-node-requires
+    with-entry-requires
+    same-length-9
+    same-length-10
+    same-length-11
+    same-length-12
+    returns-3)

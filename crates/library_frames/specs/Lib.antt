@@ -1,0 +1,4 @@
+pub mod Settings
+pub mod Retag
+pub mod Outcome
+pub mod EndCall

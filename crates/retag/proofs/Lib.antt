@@ -1,6 +1,0 @@
-pub mod Fields
-pub mod Entering
-pub mod Performed
-pub mod Masks
-pub mod Lent
-pub mod Again
