@@ -27,7 +27,7 @@ use Rattle.tables.specs.Held.{Holds}
 use Rattle.wellformed.proofs.Sound.{sound}
 use Rattle.wellformed.proofs.Complete.{complete}
 use Rattle.frames.specs.List.{entryOf, firstOf}
-use Rattle.reborrow.proofs.Requests.{without-node-same}
+use Rattle.retag.proofs.Requests.{without-node-same}
 use Rattle.library_frames.specs.declared.retags.RetagSettings.{RetagSettings}
 use Rattle.library_frames.specs.Settings.{retagOf, fieldsOf, badFields}
 use Rattle.library_frames.specs.Retag.{Lent, isLent, stateOf, left, entered}

@@ -21,10 +21,10 @@ use Rattle.answer.specs.declared.Answer.the-variants.{Refused}
 use Rattle.tables.specs.Held.{Trees}
 use Rattle.layout.specs.Filled.{maskByte, maskBytes, afterwards}
 use Rattle.layout.proofs.Answers.{HasMask}
-use Rattle.reborrow.specs.declared.ReborrowSettings as code
-use Rattle.reborrow.specs.Settings.{maskOf, settingsOf}
-use Rattle.reborrow.specs.Retag.{Retagged}
-use Rattle.reborrow.proofs.Requests.{without-node-same, without-node-answers, mask-back}
+use Rattle.retag.specs.declared.ReborrowSettings as code
+use Rattle.retag.specs.Settings.{maskOf, settingsOf}
+use Rattle.retag.specs.Retag.{Retagged}
+use Rattle.retag.proofs.Requests.{without-node-same, without-node-answers, mask-back}
 use Rattle.library_frames.specs.declared.retags.RetagSettings.{RetagSettings}
 use Rattle.library_frames.specs.Settings.{requestOf, retagOf, fieldsOf}
 use Rattle.library_frames.specs.Outcome.{Performed}

@@ -15,8 +15,8 @@ use Rattle.definition.specs.Retag.{ReborrowSettings, retagWithoutNode, retag}
 use Rattle.definition.specs.Request.{Request, pointer, functionEntry, addsNoNode, settingsOf}
 use Rattle.definition.specs.Run.{retagWithMask, performRetag}
 use Rattle.tables.specs.Encoding.{wordsOf, held}
-use Rattle.reborrow.specs.Retag.{entered}
-use Rattle.reborrow.proofs.Requests.{retag-frames, words-kept, without-node-same}
+use Rattle.retag.specs.Retag.{entered}
+use Rattle.retag.proofs.Requests.{retag-frames, words-kept, without-node-same}
 use Rattle.library_frames.specs.declared.retags.RetagSettings.{RetagSettings}
 use Rattle.library_frames.specs.Settings.{requestOf, retagOf, fieldsOf, protects}
 use Rattle.library_frames.specs.Outcome.{enteredNode}

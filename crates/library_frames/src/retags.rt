@@ -7,7 +7,7 @@ use layout::Mask;
 use permission::Protected;
 use pointer::Provenance;
 use pointer::ThinPointer;
-use reborrow::ReborrowSettings;
+use retag::ReborrowSettings;
 ghost use mathlib.Core.Path.{_≡_};
 ghost use mathlib.Core.List.{List};
 ghost use Prim.Native.Nat.{ℕ, _≤_};
@@ -23,7 +23,7 @@ ghost use Rattle.pointer.specs.declared.Provenance.the-variants.{None};
 ghost use Rattle.answer.specs.Answer.{answerOf};
 ghost use Rattle.permission.specs.Codes as permission;
 ghost use Rattle.tables.specs.Held.{buffers};
-ghost use Rattle.reborrow.specs.Settings.{settingsOf};
+ghost use Rattle.retag.specs.Settings.{settingsOf};
 ghost use Rattle.parts.specs.Trees.{HoldsMarked};
 ghost use Rattle.library_frames.specs.Settings.{requestOf, retagOf, fieldsOf, badFields, protects};
 ghost use Rattle.library_frames.specs.Retag.{lent, isLent, Entered};
@@ -110,7 +110,7 @@ fn retag_with_mask(
     match found {
         Mask::Of(len) => {
             let w = reborrow_settings(settings);
-            reborrow::reborrow(
+            retag::reborrow(
                 allocs,
                 parents,
                 protectors,
@@ -145,7 +145,7 @@ fn retag_held(
         r (now (allocs .exit)) (now (parents .exit)) (now (protectors .exit)) (now (codes .exit))) ⌝ }
 {
     if adds_no_node(settings) {
-        return reborrow::retag_without_node(allocs, p);
+        return retag::retag_without_node(allocs, p);
     }
     retag_with_mask(
         allocs,

@@ -22,7 +22,7 @@ use Rattle.frames.specs.Buffer.{HoldsFrames, framesHeld}
 use Rattle.frames.proofs.FromValid.{valid-holds}
 use Rattle.end_call.specs.Release.{afterEndCall, HoldsNodes}
 use Rattle.end_call.proofs.EndCall.{end-call-encode, end-call-memory}
-use Rattle.reborrow.proofs.Requests.{words-kept, without-node-same}
+use Rattle.retag.proofs.Requests.{words-kept, without-node-same}
 use Rattle.request.specs.declared.Kind.{Kind}
 use Rattle.request.specs.declared.Kind.the-variants.{Allocate, Deallocate, Load, Store, Retag, NewCall, EndCall, Dereferenceable, SignedDereferenceable, LeakCheck, Unused}
 use Rattle.request.specs.declared.Request as code

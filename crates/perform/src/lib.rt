@@ -9,7 +9,7 @@ ghost use Rattle.perform.specs.Performed.{HoldsState, Formed, outcomeOf,
 
 pub mod calls;
 pub mod in_memory;
-pub mod retag;
+pub mod retags;
 
 // Every kind. Those that need no frame go to `in_memory`.
 pub fn perform(
@@ -30,7 +30,7 @@ pub fn perform(
     let kind = q.kind;
     let f = q.frame_used();
     match kind {
-        Kind::Retag => crate::retag::retag(
+        Kind::Retag => crate::retags::retag(
             allocs,
             parents,
             protectors,

@@ -1,0 +1,84 @@
+-- The front of the mask becomes the codes of the inside bytes.
+use Prim.Native.Nat.{ℕ}
+use mathlib.Core.List.{List, _++_}
+use mathlib.Core.Path.{_≡_, sym, ap, _∙_}
+use borrow.Author.Needs.{needs}
+use denote.Ref.{now}
+use lib.Seq.{length-take-le, take-at}
+use lib.ListN.{length, take, drop}
+use Rattle.retag.specs.Settings.{maskOf}
+use Rattle.retag.proofs.reborrow.Statement.{statement}
+use Rattle.retag.proofs.reborrow.Tie as tie
+
+slice-relend-prefix-inside-codes : tie.Need-slice-relend-prefix-inside-codes
+slice-relend-prefix-inside-codes c = search needs
+
+slice-aggregate-inside-codes : tie.Need-slice-aggregate-inside-codes
+slice-aggregate-inside-codes c = sym (length-take-le (c .before .before .before .before .before .before .args .len) (c .before .before .before .before .before .before .args .mask .now) (c .before .before .before .before .before .before .pre .1))
+
+inside-codes-requires : tie.Need-inside-codes-requires
+inside-codes-requires c κs = search needs
+
+slice-reshare-prefix-reborrow-inside : tie.Need-slice-reshare-prefix-reborrow-inside
+slice-reshare-prefix-reborrow-inside c = search needs
+
+slice-aggregate-reborrow-inside : tie.Need-slice-aggregate-reborrow-inside
+slice-aggregate-reborrow-inside c =
+    let t = c .before .before .before .before .before .before .before .before .before .before .before .before .before .before in
+    let M = now (t .args .mask) in
+    let codes = c .before .before .before .before .before .before .before .inside-codes .last .0 in
+    let long : length codes ≡ t .args .len = c .before .before .before .before .before .before .before .inside-codes .kept .0 ∙ length-take-le (t .args .len) M (t .pre .1) in
+    let front = take-at codes (drop (t .args .len) M) (t .args .len) long in
+    sym (ap length front ∙ long)
+
+reborrow-inside-requires : tie.Need-reborrow-inside-requires
+reborrow-inside-requires c κs =
+    let t = c .before .before .before .before .before .before .before .before .before .before .before .before .before .before in
+    let M = now (t .args .mask) in
+    let codes = c .before .before .before .before .before .before .before .inside-codes .last .0 in
+    let long : length codes ≡ t .args .len = c .before .before .before .before .before .before .before .inside-codes .kept .0 ∙ length-take-le (t .args .len) M (t .pre .1) in
+    let front = take-at codes (drop (t .args .len) M) (t .args .len) long in
+    (t .pre .0, (maskOf (take (t .args .len) M), front ∙ c .before .before .before .before .before .before .before .inside-codes .ensures))
+
+same-length : tie.Need-same-length
+same-length c = search needs
+
+same-length-2 : tie.Need-same-length-2
+same-length-2 c = search needs
+
+same-length-3 : tie.Need-same-length-3
+same-length-3 c = search needs
+
+same-length-4 : tie.Need-same-length-4
+same-length-4 c = search needs
+
+same-length-5 : tie.Need-same-length-5
+same-length-5 c = search needs
+
+returns : tie.Need-returns
+returns c =
+    let t = c .before .before .before .before .before .before .before .before .before .before .before .before .before .before .before .before .before .before .before .before .before .before .before in
+    let M = now (t .args .mask) in
+    let codes = c .before .before .before .before .before .before .before .before .before .before .before .before .before .before .before .before .inside-codes .last .0 in
+    let long : length codes ≡ t .args .len = c .before .before .before .before .before .before .before .before .before .before .before .before .before .before .before .before .inside-codes .kept .0 ∙ length-take-le (t .args .len) M (t .pre .1) in
+    let front = take-at codes (drop (t .args .len) M) (t .args .len) long in (
+      λ s frame h e. c .before .before .before .before .before .before .before .before .reborrow-inside .ensures s frame (maskOf (take (t .args .len) M)) h (record { entered = e; inside = front ∙ c .before .before .before .before .before .before .before .before .before .before .before .before .before .before .before .before .inside-codes .ensures }),
+      ap (λ (l : List ℕ). l ++ drop (t .args .len) M) (c .before .before .before .before .before .before .before .before .before .before .before .before .before .before .before .before .inside-codes .ensures),
+    )
+
+pub reborrow-spec : {M : Type 1} → statement M
+reborrow-spec =
+    tie.close
+    (tie.spec
+    slice-relend-prefix-inside-codes
+    slice-aggregate-inside-codes
+    inside-codes-requires
+    slice-reshare-prefix-reborrow-inside
+    slice-aggregate-reborrow-inside
+    reborrow-inside-requires
+    same-length
+    same-length-2
+    same-length-3
+    same-length-4
+    same-length-5
+    returns)
