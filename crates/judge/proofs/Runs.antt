@@ -22,7 +22,7 @@ use Rattle.definition.proofs.Booleans.{and-left, and-right, or-neither}
 use Rattle.definition.proofs.Writes.{write-length, take-write}
 use Rattle.tables.specs.Encoding.{Buffers}
 use Rattle.tables.specs.Held.{Holds}
-use Rattle.perform.specs.Performed.{HoldsState}
+use Rattle.state.specs.State.{HoldsState}
 use Rattle.report.specs.Written.{Written}
 use Rattle.report.proofs.Lengths.{memory-length}
 use Rattle.stream.specs.Stream.{requestSize, nextRequest, programFrom}

@@ -16,7 +16,7 @@ use Rattle.definition.specs.Output.{answerLine}
 use Rattle.answer.specs.Answer.{answerOf}
 use Rattle.answer.specs.declared.Answer.{Answer}
 use Rattle.tables.specs.Encoding.{Buffers}
-use Rattle.perform.specs.Performed.{HoldsState}
+use Rattle.state.specs.State.{HoldsState}
 use Rattle.report.specs.Written.{WrittenInside}
 use Rattle.report.specs.Answer.{named}
 use Rattle.stream.specs.Stream.{requestSize, nextRequest}

@@ -11,7 +11,7 @@ use Rattle.definition.specs.Frame.{State}
 use Rattle.definition.specs.Run.{program}
 use Rattle.definition.specs.Output.{answerLines, output}
 use Rattle.tables.specs.Encoding.{Buffers}
-use Rattle.perform.specs.Performed.{HoldsState}
+use Rattle.state.specs.State.{HoldsState}
 use Rattle.stream.specs.Stream.{programFrom}
 use Rattle.judge.specs.declared.Place.{Place}
 use Rattle.judge.specs.declared.Judged.{Judged}

@@ -9,7 +9,7 @@ ghost use Rattle.definition.specs.Frame.{State};
 ghost use Rattle.definition.specs.Run.{wordsOf};
 ghost use Rattle.answer.specs.Answer.{answerOf};
 ghost use Rattle.tables.specs.Held.{buffers, Records};
-ghost use Rattle.perform.specs.Performed.{HoldsState};
+ghost use Rattle.state.specs.State.{HoldsState};
 ghost use Rattle.definition.specs.Output.{answerLine};
 ghost use Rattle.report.specs.Written.{WrittenInside};
 ghost use Rattle.report.specs.Answer.{named};

@@ -9,8 +9,8 @@ ghost use lib.Dec.{leb};
 ghost use lib.ListN.{length};
 ghost use Rattle.definition.specs.Frame.{empty};
 ghost use Rattle.tables.specs.Held.{buffers};
-ghost use Rattle.perform.specs.Performed.{HoldsState};
-ghost use Rattle.step.specs.Lengths.{haveLengths};
+ghost use Rattle.state.specs.State.{HoldsState};
+ghost use Rattle.state.specs.Lengths.{haveLengths};
 ghost use Rattle.judge.specs.Whole.{goesOn, PerformingIn, JudgedAs};
 
 fn has_room(at: usize, more: usize, room: usize) -> bool
@@ -116,7 +116,7 @@ pub fn judge(
     requires { ⌜ length (now request) ≡ 4100 ⌝ }
     ensures { λ r. ⌜ JudgedAs (now (run .entry)) (now (out .entry)) r (now (out .exit)) ⌝ }
 {
-    step::clear::clear(allocs, parents, protectors, words, codes, frames);
+    state::clear(allocs, parents, protectors, words, codes, frames);
     let p = answer_all(
         allocs,
         parents,

@@ -1,6 +1,5 @@
 -- What a memory and a call start from, on what is lent: 1 for another length, and nothing changes. mem.rs: `new`, `new_call`.
 use Prim.Native.Nat.{ℕ}
-use mathlib.Core.Bool.{Bool, _&&_}
 use mathlib.Core.List.{List, [], _∷_}
 use lib.Dec.{eqb}
 use lib.ListN.{length, replicate}
@@ -11,17 +10,12 @@ use Rattle.definition.specs.Retag.{entryBound}
 use Rattle.answer.specs.declared.Answer.{Answer}
 use Rattle.answer.specs.declared.Answer.the-variants.{Refused, Accepted}
 use Rattle.tables.specs.Encoding.{Buffers, encode}
+use Rattle.state.specs.Lengths.{haveMemoryLengths}
 
 -- ---- a memory
-abbrev pub haveLengths : Buffers → Bool
-haveLengths b =
-    eqb (length (b .allocs)) 768
-    && (eqb (length (b .parents)) 1024
-    && (eqb (length (b .protectors)) 1024 && (eqb (length (b .words)) 4096 && eqb (length (b .codes)) 32768)))
-
 -- "no allocation made"
 unfoldable pub renewed : Buffers → Answer × Buffers
-renewed b = if haveLengths b then (Accepted, encode (empty .memory)) else (Refused notWellFormed, b)
+renewed b = if haveMemoryLengths b then (Accepted, encode (empty .memory)) else (Refused notWellFormed, b)
 
 -- ---- a frame, whose places are lent as two numbers each: allocation and node
 abbrev pub noPlace : List ℕ

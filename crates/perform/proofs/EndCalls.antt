@@ -16,8 +16,9 @@ use Rattle.tables.specs.Held.{Trees}
 use Rattle.frames.specs.Buffer.{HoldsFrames, entriesIn, entriesAt}
 use Rattle.end_call.specs.Release.{AllMade, afterEndCall, Ended}
 use Rattle.end_call.proofs.EndCall.{end-call-encode, ended-answers, end-call-answer, end-call-memory, accepted-frames, refused-frames}
-use Rattle.perform.specs.Performed.{HoldsTrees, LeftTrees}
-use Rattle.perform.proofs.States.{frames-held, all-held, trees-of}
+use Rattle.perform.specs.Performed.{LeftTrees}
+use Rattle.state.specs.State.{HoldsTrees}
+use Rattle.state.proofs.States.{frames-held, all-held, trees-of}
 
 module _ {s : State} {A P R C F : List ℕ} (h : HoldsTrees s A P R C F) (f : ℕ) (words : List ℕ) (is : entriesIn words ≡ entriesAt (s .frames) f) where
   -- every entry of a frame was made

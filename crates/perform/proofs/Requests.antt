@@ -29,8 +29,9 @@ use Rattle.request.specs.declared.Request as code
 use Rattle.request.specs.Fields.{kindOf, requestOf, frameBy, frameUsed, openIn}
 use Rattle.request.proofs.Matches.{Among}
 use Rattle.request.proofs.WellFormed.{new-call-frame, end-call-frame}
-use Rattle.perform.specs.Performed.{HoldsState, Formed, outcomeOf, isInMemory, Asked, LeftMemory, Left, HoldsTrees, LeftTrees, LeftFrames}
-use Rattle.perform.proofs.States.{trees-of}
+use Rattle.perform.specs.Performed.{Formed, outcomeOf, isInMemory, Asked, LeftMemory, Left, LeftTrees, LeftFrames}
+use Rattle.state.specs.State.{HoldsState, HoldsTrees}
+use Rattle.state.proofs.States.{trees-of}
 
 -- ---- the kinds that need no frame
 abbrev alone : List ℕ

@@ -35,9 +35,10 @@ use Rattle.retag.specs.Settings.{maskOf, settingsOf}
 use Rattle.retag.specs.declared.ReborrowSettings as code
 use Rattle.retag.specs.Retag.{entered, Retagged}
 use Rattle.retag.proofs.Requests.{retag-frames, without-node-same, mask-back}
-use Rattle.perform.specs.Performed.{HoldsTrees, LeftTrees}
+use Rattle.perform.specs.Performed.{LeftTrees}
+use Rattle.state.specs.State.{HoldsTrees}
 use Rattle.perform.specs.Entered.{CanEnter}
-use Rattle.perform.proofs.States.{frames-held}
+use Rattle.state.proofs.States.{frames-held}
 
 -- ---- a frame's entry
 module _ (protected : Protected) (f : ℕ) (fs : List Frame) where

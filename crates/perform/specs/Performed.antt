@@ -1,4 +1,4 @@
--- What a request asks of the buffers of a run, and what it leaves, said of each state that they hold.
+-- What a request asks, and what it leaves in the buffers of a run, said of each state that they hold.
 use Prim.Native.Nat.{ℕ}
 use mathlib.Core.Path.{_≡_}
 use mathlib.Core.Bool.{Bool, true, false}
@@ -7,7 +7,7 @@ use Rattle.definition.specs.Memory as definition
 use Rattle.definition.specs.Frame.{State}
 use Rattle.definition.specs.Request.{isMalformed}
 use Rattle.definition.specs.Run.{IsWord, perform}
-use Rattle.definition.specs.Valid.{All, ValidState}
+use Rattle.definition.specs.Valid.{All}
 use Rattle.answer.specs.Answer.{answerOf}
 use Rattle.answer.specs.declared.Answer.{Answer}
 use Rattle.tables.specs.Encoding.{Buffers, encode}
@@ -17,12 +17,6 @@ use Rattle.request.specs.declared.Kind.{Kind}
 use Rattle.request.specs.declared.Kind.the-variants.{Allocate, Deallocate, Load, Store, Retag, NewCall, EndCall, Dereferenceable, SignedDereferenceable, LeakCheck, Unused}
 use Rattle.request.specs.declared.Request.{Request}
 use Rattle.request.specs.Fields.{kindOf, requestOf}
-
--- five buffers hold the memory of s, and one more its frames
-pub record HoldsState (s : State) (b : Buffers) (F : List ℕ) : Type 0 where
-  pub valid : ValidState s
-  pub memory : b ≡ encode (s .memory)
-  pub frames : F ≡ framesHeld (s .frames)
 
 -- 2 was passed, but for the number of words; these are 32-bit words
 pub record Formed (s : State) (q : Request) (following : List ℕ) : Type 0 where
@@ -65,11 +59,6 @@ pub record Left (o : definition.Answer × State) (r : Answer) (b : Buffers) (F :
   pub frames : F ≡ framesHeld (o .1 .frames)
 
 -- ---- requests to the trees and the frames; the words stay as they are
-pub record HoldsTrees (s : State) (A P R C F : List ℕ) : Type 0 where
-  pub valid : ValidState s
-  pub trees : Trees (s .memory) A P R C
-  pub frames : F ≡ framesHeld (s .frames)
-
 pub record LeftTrees (o : definition.Answer × State) (r : Answer) (A P R C F : List ℕ) : Type 0 where
   pub answers : (words : List ℕ) → answerOf r words ≡ o .0
   pub trees : Trees (o .1 .memory) A P R C

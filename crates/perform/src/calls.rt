@@ -5,7 +5,8 @@ ghost use mathlib.Core.Path.{_≡_};
 ghost use mathlib.Core.Bool.{false};
 ghost use Rattle.definition.specs.Frame.{State, frameAt, isOpen, newCall, endCall};
 ghost use Rattle.frames.specs.Buffer.{HoldsFrames};
-ghost use Rattle.perform.specs.Performed.{HoldsTrees, LeftTrees, LeftFrames};
+ghost use Rattle.perform.specs.Performed.{LeftTrees, LeftFrames};
+ghost use Rattle.state.specs.State.{HoldsTrees};
 
 pub fn new_call(frames: &mut [u32], f: usize) -> Answer
     requires { ⌜ ((s : State) × (HoldsFrames (s .frames) (now frames) × (isOpen (frameAt s f) ≡ false))) ⌝ }

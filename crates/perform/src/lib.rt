@@ -5,7 +5,8 @@ use request::Kind;
 use request::Request;
 ghost use Rattle.definition.specs.Frame.{State};
 ghost use Rattle.tables.specs.Held.{buffers};
-ghost use Rattle.perform.specs.Performed.{HoldsState, Formed, outcomeOf, Left};
+ghost use Rattle.perform.specs.Performed.{Formed, outcomeOf, Left};
+ghost use Rattle.state.specs.State.{HoldsState};
 
 pub mod calls;
 pub mod in_memory;

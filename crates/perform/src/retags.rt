@@ -24,7 +24,8 @@ ghost use Rattle.frames.specs.Buffer.{HoldsFrames, framesHeld};
 ghost use Rattle.request.specs.Fields.{requestOf};
 ghost use Rattle.retag.specs.Settings.{maskOf, settingsOf};
 ghost use Rattle.retag.specs.Retag.{entered};
-ghost use Rattle.perform.specs.Performed.{HoldsTrees, LeftTrees};
+ghost use Rattle.perform.specs.Performed.{LeftTrees};
+ghost use Rattle.state.specs.State.{HoldsTrees};
 ghost use Rattle.perform.specs.Entered.{CanEnter};
 
 // What a request says of its reborrow.

@@ -9,20 +9,14 @@ use lib.ListN.{length, getD, take, drop, length-drop, drop-of-length-le}
 use lib.Seq.{take-all, take-nil, drop-cons}
 use Rattle.definition.specs.Frame.{State, empty}
 use Rattle.definition.specs.Memory as definition
-use Rattle.definition.specs.Memory.{Memory}
 use Rattle.definition.specs.Run.{step, answers, final}
-use Rattle.definition.specs.Valid.{Valid}
 use Rattle.definition.proofs.Exchanges.{order-is-free}
 use Rattle.definition.proofs.Writes.{write-length}
-use Rattle.tables.specs.Encoding.{Buffers, recordOf, parentsOf, protectorsOf, wordsOf, codesOf, encode}
-use Rattle.tables.specs.Held.{buffers, Holds}
-use Rattle.tables.proofs.Focus.{length-held}
-use Rattle.tables.proofs.Sizes.{records-fit, parents-fit, protectors-fit, words-fit, codes-fit}
-use Rattle.tables.proofs.ReadBack.{holds-allocs, holds-parents, holds-protectors, holds-words, holds-codes}
+use Rattle.tables.specs.Encoding.{Buffers, encode}
+use Rattle.tables.specs.Held.{buffers}
 use Rattle.frames.specs.Buffer.{framesHeld}
-use Rattle.frames.proofs.FromValid.{valid-holds}
-use Rattle.frames.proofs.Frames.{buffer-length}
-use Rattle.perform.specs.Performed.{HoldsState}
+use Rattle.state.specs.State.{HoldsState}
+use Rattle.state.proofs.Held.{state-lengths}
 use Rattle.answer.specs.Answer.{answerOf}
 use Rattle.answer.specs.declared.Answer.{Answer}
 use Rattle.answer.proofs.Loaded.{loaded-length}
@@ -31,9 +25,8 @@ use Rattle.transcript.specs.declared.Written.{Written}
 use Rattle.run.specs.declared.ListRun.the-variants.{Refused, Answered}
 use Rattle.run.specs.Lists.{requestsFrom, requestsIn, Ran, ListRan}
 use Rattle.step.specs.Steps.{Stepped}
-use Rattle.step.specs.Lengths.{haveLengths}
+use Rattle.state.specs.Lengths.{haveLengths}
 use Rattle.run.specs.Turns.{Turned, Going}
-use Rattle.step.proofs.Zeros.{Lengths}
 
 -- ---- a part of the words
 module _ (words : List ℕ) (from end : ℕ) where
@@ -50,21 +43,6 @@ module _ (words : List ℕ) (from end : ℕ) where
   part-rest h =
       let n = length-drop from words in
       take-all (length words - from) (drop from words) (omega (arith, n)) ∙ sym (take-all (end - from) (drop from words) (omega (arith, n)))
-
--- ---- the lengths of buffers that hold a state
-pub state-lengths : {s : State} {A P R W C F : List ℕ} → HoldsState s (buffers A P R W C) F → Lengths (buffers A P R W C) F
-state-lengths {s} {A} {P} {R} {W} {C} {F} h =
-    let m : Memory = s .memory in
-    let v : Valid m = h .valid .memory in
-    let k : Holds m (buffers A P R W C) = record { valid = v; equal = h .memory } in
-    record {
-      allocs = ap length (holds-allocs k) ∙ length-held 768 recordOf m (records-fit m v);
-      parents = ap length (holds-parents k) ∙ length-held 1024 parentsOf m (parents-fit m v);
-      protectors = ap length (holds-protectors k) ∙ length-held 1024 protectorsOf m (protectors-fit m v);
-      words = ap length (holds-words k) ∙ length-held 4096 wordsOf m (words-fit m v);
-      codes = ap length (holds-codes k) ∙ length-held 32768 codesOf m (codes-fit m v);
-      frames = buffer-length (s .frames) F 0 (valid-holds s F (h .valid) (h .frames)) (omega arith);
-    }
 
 pub written-length : {text before out : List ℕ} {w : Written} → WrittenTo text before out w → length out ≡ length before
 written-length {text} {before} h = ap length (h .contents) ∙ write-length 0 text before

@@ -8,7 +8,7 @@ use Rattle.definition.specs.Frame.{empty}
 use Rattle.definition.specs.Run.{answers, final}
 use Rattle.definition.specs.Exchange.{Exchanged, exchangeAll, OrderIsFree}
 use Rattle.tables.specs.Encoding.{Buffers, encode}
-use Rattle.step.specs.Lengths.{haveLengths}
+use Rattle.state.specs.Lengths.{haveLengths}
 use Rattle.frames.specs.Buffer.{framesHeld}
 use Rattle.transcript.specs.Transcript.{transcript, WrittenTo}
 use Rattle.transcript.specs.declared.Written.{Written}

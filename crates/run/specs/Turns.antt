@@ -6,7 +6,7 @@ use lib.ListN.{drop}
 use Rattle.definition.specs.Frame.{State, empty}
 use Rattle.definition.specs.Run.{step, answers, final}
 use Rattle.tables.specs.Encoding.{Buffers}
-use Rattle.perform.specs.Performed.{HoldsState}
+use Rattle.state.specs.State.{HoldsState}
 use Rattle.transcript.specs.Transcript.{answerWords, transcript, WrittenTo}
 use Rattle.transcript.specs.declared.Written.{Written}
 use Rattle.run.specs.Lists.{requestsFrom, requestsIn}

@@ -5,7 +5,7 @@ use crate::wide;
 use transcript::Written;
 ghost use Rattle.definition.specs.Frame.{State, empty};
 ghost use Rattle.tables.specs.Held.{buffers};
-ghost use Rattle.perform.specs.Performed.{HoldsState};
+ghost use Rattle.state.specs.State.{HoldsState};
 ghost use Rattle.run.specs.Lists.{requestsIn, Ran, ListRan};
 ghost use Rattle.run.specs.Turns.{Turned};
 
@@ -84,10 +84,10 @@ pub fn run_list(
         (buffers (now (allocs .entry)) (now (parents .entry)) (now (protectors .entry)) (now (words .entry)) (now (codes .entry))) (now (frames .entry)) (now (answers .entry))
         r (buffers (now (allocs .exit)) (now (parents .exit)) (now (protectors .exit)) (now (words .exit)) (now (codes .exit))) (now (frames .exit)) (now (answers .exit)) ⌝ }
 {
-    if !step::clear::have_lengths(allocs, parents, protectors, words, codes, frames) {
+    if !state::have_lengths(allocs, parents, protectors, words, codes, frames) {
         return ListRun::Refused(1);
     }
-    step::clear::clear(allocs, parents, protectors, words, codes, frames);
+    state::clear(allocs, parents, protectors, words, codes, frames);
     let w = run_cleared(
         allocs,
         parents,

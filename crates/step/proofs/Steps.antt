@@ -25,7 +25,8 @@ use Rattle.frames.specs.Buffer.{HoldsFrames, framesHeld}
 use Rattle.frames.proofs.FromValid.{valid-holds}
 use Rattle.request.specs.declared.Request as code
 use Rattle.request.specs.Fields.{kindOf, requestOf}
-use Rattle.perform.specs.Performed.{HoldsState, Formed, outcomeOf, Left}
+use Rattle.perform.specs.Performed.{Formed, outcomeOf, Left}
+use Rattle.state.specs.State.{HoldsState}
 use Rattle.step.specs.Steps.{isRefused, Stepped}
 
 -- numbers that are each below 2^32

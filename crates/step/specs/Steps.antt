@@ -9,7 +9,7 @@ use Rattle.definition.specs.Run.{step}
 use Rattle.answer.specs.Answer.{answerOf}
 use Rattle.answer.specs.declared.Answer.{Answer}
 use Rattle.tables.specs.Encoding.{Buffers}
-use Rattle.perform.specs.Performed.{HoldsState}
+use Rattle.state.specs.State.{HoldsState}
 
 -- 2
 abbrev pub isRefused : State → List ℕ → Bool

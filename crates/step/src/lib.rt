@@ -8,10 +8,8 @@ ghost use Rattle.definition.specs.Request as definition;
 ghost use Rattle.tables.specs.Held.{buffers};
 ghost use Rattle.frames.specs.Buffer.{HoldsFrames};
 ghost use Rattle.request.specs.Fields.{requestOf};
-ghost use Rattle.perform.specs.Performed.{HoldsState};
+ghost use Rattle.state.specs.State.{HoldsState};
 ghost use Rattle.step.specs.Steps.{isRefused, Stepped};
-
-pub mod clear;
 
 // The request, of these fields, falls under 2.
 fn is_refused(frames: &[u32], q: Request, request: &[u32]) -> bool

@@ -18,7 +18,7 @@ use Rattle.library_frames.specs.Settings.{badFields, retagOf}
 use Rattle.library_frames.specs.Outcome.{malformedOutcome}
 use Rattle.library_frames.specs.declared.retags.RetagOutcome.{RetagOutcome}
 use Rattle.library_frames.proofs.Lent as retags
-use Rattle.step.specs.Lengths.{haveLengths}
+use Rattle.state.specs.Lengths.{haveLengths}
 use Rattle.run.specs.Lists.{ListRan}
 use Rattle.run.specs.declared.ListRun.{ListRun}
 use Rattle.run.specs.declared.ListRun.the-variants as ran

@@ -7,7 +7,7 @@ ghost use mathlib.Core.Bool.{true};
 ghost use mathlib.Core.List.{List};
 ghost use lib.ListN.{length};
 ghost use Rattle.tables.specs.Held.{buffers};
-ghost use Rattle.step.specs.Lengths.{haveLengths};
+ghost use Rattle.state.specs.Lengths.{haveLengths};
 ghost use Rattle.judge.specs.Whole.{JudgedAs};
 ghost use Rattle.vectors.specs.Sample.{recordAt, Agrees, one, Counted};
 

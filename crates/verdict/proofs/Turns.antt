@@ -15,13 +15,13 @@ use Rattle.definition.specs.Output.{memoryLines}
 use Rattle.definition.proofs.Booleans.{and-left, and-right, or-neither, not-not-false}
 use Rattle.tables.specs.Encoding.{Buffers}
 use Rattle.tables.specs.Held.{Holds, WellFormed}
-use Rattle.perform.specs.Performed.{HoldsState}
+use Rattle.state.specs.State.{HoldsState}
 use Rattle.report.specs.Written.{Written}
 use Rattle.stream.specs.Stream.{requestSize, nextRequest}
 use Rattle.judge.specs.declared.Place.{Place}
 use Rattle.judge.specs.Turn.{requestEnd, Taken}
 use Rattle.judge.specs.Whole.{Performing}
-use Rattle.judge.proofs.Held.{memory-held}
+use Rattle.state.proofs.Held.{memory-held}
 use Rattle.judge.proofs.Runs.{LineAdded, advanced, performing-start, performing-next, performing-end, text-behind, text-whole, memory-inside}
 use Rattle.verdict.specs.declared.Progress.{Progress}
 use Rattle.verdict.specs.Progress.{lacks, goesOn, atHand, textAtHand, mostText, Ready, HasRead, ReadOn, isLong, flushedAs, withTextTo}

@@ -9,7 +9,7 @@ use lib.ListN.{length, take}
 use Rattle.definition.specs.Frame.{empty}
 use Rattle.definition.specs.Output.{IsOutput}
 use Rattle.tables.specs.Encoding.{Buffers}
-use Rattle.perform.specs.Performed.{HoldsState}
+use Rattle.state.specs.State.{HoldsState}
 use Rattle.judge.specs.declared.Place.{Place}
 use Rattle.judge.specs.Whole.{Performing}
 use Rattle.verdict.specs.declared.Progress.{Progress}

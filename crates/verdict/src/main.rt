@@ -9,8 +9,8 @@ ghost use Rattle.definition.specs.Memory.{Memory};
 ghost use Rattle.definition.specs.Frame.{empty};
 ghost use Rattle.definition.specs.Output.{memoryLines};
 ghost use Rattle.tables.specs.Held.{buffers, Holds, WellFormed};
-ghost use Rattle.perform.specs.Performed.{HoldsState};
-ghost use Rattle.step.specs.Lengths.{haveLengths};
+ghost use Rattle.state.specs.State.{HoldsState};
+ghost use Rattle.state.specs.Lengths.{haveLengths};
 ghost use Rattle.report.specs.Written.{Written};
 ghost use Rattle.verdict.specs.Progress.{lacks, goesOn, Ready, failedAt, isLong, flushedAs, withTextTo, ReadOn};
 ghost use Rattle.verdict.specs.Came.{Came, TurnMade, TurnsMade, Printed};
@@ -271,7 +271,7 @@ fn judge_input(
     requires { ⌜ (length (now request) ≡ 4100) × ((length (now input) ≡ 65536) × (length (now out) ≡ 0x38000)) ⌝ }
     ensures { λ r. ⌜ Printed (r .failed) r (now (out .exit)) ⌝ }
 {
-    step::clear::clear(allocs, parents, protectors, words, codes, frames);
+    state::clear(allocs, parents, protectors, words, codes, frames);
     let p = take_turns(
         allocs,
         parents,

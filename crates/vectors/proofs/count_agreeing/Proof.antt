@@ -9,8 +9,8 @@ use denote.Ref.{now}
 use lib.ListN.{length}
 use lib.Dec.{ltb}
 use Rattle.definition.proofs.Booleans.{and-left, and-right}
-use Rattle.judge.proofs.Held.{have-lengths}
-use Rattle.step.proofs.Zeros.{lengths}
+use Rattle.state.proofs.Lengths.{have-lengths}
+use Rattle.state.proofs.Lengths.{lengths}
 use Rattle.tables.specs.Held.{buffers}
 use Rattle.vectors.proofs.Counting.{Counting, counting-start, counting-next, counting-over, at-most}
 use Rattle.vectors.specs.Sample.{runOf, textOf, Agrees}

@@ -2,7 +2,7 @@
 use Prim.Native.Nat.{ℕ}
 use borrow.Author.Needs.{needs}
 use lib.ListN.{replicate, length-replicate}
-use Rattle.judge.proofs.Held.{have-lengths}
+use Rattle.state.proofs.Lengths.{have-lengths}
 use Rattle.verdict.proofs.Turns.{text-inside}
 use Rattle.verdict.proofs.main.Statement.{statement}
 use Rattle.verdict.proofs.main.Tie as tie

@@ -2,7 +2,7 @@
 use mathlib.Core.Path.{subst}
 use borrow.Author.Needs.{needs}
 use Rattle.definition.specs.Run.{step}
-use Rattle.judge.proofs.Held.{records-held, words-held}
+use Rattle.state.proofs.Held.{records-held, words-held}
 use Rattle.judge.specs.Turn.{LineWritten}
 use Rattle.definition.specs.Memory as definition
 use Rattle.judge.proofs.turn.answer_words.Statement.{statement}

@@ -11,7 +11,7 @@ use lib.Dec.{ltb}
 use lib.ListN.{length, take}
 use lib.Seq.{length-take-le}
 use Rattle.definition.specs.Output.{memoryLines}
-use Rattle.judge.proofs.Held.{memory-held}
+use Rattle.state.proofs.Held.{memory-held}
 use Rattle.judge.proofs.Runs.{not-over, too-long, memory-inside, performing-end, right-leak, text-behind, text-short, text-whole}
 use Rattle.judge.specs.Whole.{memoryRoom}
 use Rattle.judge.proofs.whole.finish.Statement.{statement}

@@ -6,8 +6,8 @@ use Rattle.library.proofs.Blank.{not-lengths, made-new}
 use Rattle.library.proofs.start.new.Statement.{statement}
 use Rattle.library.proofs.start.new.Tie as tie
 
-have-lengths-requires : tie.Need-have-lengths-requires
-have-lengths-requires c κs = search needs
+have-memory-lengths-requires : tie.Need-have-memory-lengths-requires
+have-memory-lengths-requires c κs = search needs
 
 same-length : tie.Need-same-length
 same-length c = search needs
@@ -25,12 +25,12 @@ same-length-5 : tie.Need-same-length-5
 same-length-5 c = search needs
 
 returns : tie.Need-returns
-returns c = not-lengths _ (sym (c .before .have-lengths .ensures) ∙ not-true _ (c .if1 .taken))
+returns c = not-lengths _ (sym (c .before .have-memory-lengths .ensures) ∙ not-true _ (c .if1 .taken))
 
-clear-requires : tie.Need-clear-requires
-clear-requires c κs =
+clear-memory-requires : tie.Need-clear-memory-requires
+clear-memory-requires c κs =
     let s = c .before .before .before .before .before in
-    sym (s .before .have-lengths .ensures) ∙ not-false _ (s .if1 .left)
+    sym (s .before .have-memory-lengths .ensures) ∙ not-false _ (s .if1 .left)
 
 same-length-6 : tie.Need-same-length-6
 same-length-6 c = search needs
@@ -52,20 +52,20 @@ returns-2 c =
     let kept = c .before .before .before .before .before in
     let cleared = kept .before .before .before .before .before in
     let s = cleared .before .before .before .before .before .before in
-    made-new _ (sym (s .before .have-lengths .ensures) ∙ not-false _ (s .if1 .left)) (cleared .clear .ensures)
+    made-new _ (sym (s .before .have-memory-lengths .ensures) ∙ not-false _ (s .if1 .left)) (cleared .clear-memory .ensures)
 
 pub new-spec : {M : Type 1} → statement M
 new-spec =
     tie.close
     (tie.spec
-    have-lengths-requires
+    have-memory-lengths-requires
     same-length
     same-length-2
     same-length-3
     same-length-4
     same-length-5
     returns
-    clear-requires
+    clear-memory-requires
     same-length-6
     same-length-7
     same-length-8

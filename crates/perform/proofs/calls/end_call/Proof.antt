@@ -3,7 +3,7 @@ use mathlib.Core.List.{[]}
 use native.Mathlib.Omega.{arith}
 use borrow.Author.Needs.{needs}
 use Rattle.perform.proofs.EndCalls.{words-made, left-accepted, left-refused}
-use Rattle.perform.proofs.States.{frames-held, trees-held}
+use Rattle.state.proofs.States.{frames-held, trees-held}
 use Rattle.perform.proofs.calls.end_call.Statement.{statement}
 use Rattle.perform.proofs.calls.end_call.Tie as tie
 

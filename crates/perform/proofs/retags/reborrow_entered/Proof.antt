@@ -1,4 +1,4 @@
--- The core's answer says whom to enter; that there is room follows from the definition's valid state afterwards (Retags).
+-- The core's answer says whom to enter; that there is room follows from the definition's valid state afterwards (Retagging).
 use Prim.Native.Nat.{_<_}
 use mathlib.Core.Path.{subst}
 use lib.ListN.{take}
@@ -10,7 +10,7 @@ use Rattle.definition.specs.Frame.{State}
 use Rattle.retag.specs.Settings.{maskOf}
 use Rattle.definition.specs.Retag.{retag}
 use Rattle.perform.proofs.Retagging.{can-enter, left-entered}
-use Rattle.perform.proofs.States.{frames-held, trees-held}
+use Rattle.state.proofs.States.{frames-held, trees-held}
 use Rattle.perform.proofs.retags.reborrow_entered.Statement.{statement}
 use Rattle.perform.proofs.retags.reborrow_entered.Tie as tie
 

@@ -5,7 +5,7 @@ use Rattle.retag.proofs.Requests.{without-node-answers}
 use Rattle.definition.specs.Retag.{retagWithoutNode}
 use Rattle.definition.specs.Memory.{ThinPointer}
 use Rattle.request.specs.Fields.{requestOf}
-use Rattle.perform.proofs.States.{records-held}
+use Rattle.state.proofs.States.{records-held}
 use Rattle.perform.proofs.Retagging.{left-without-node, left-with-node}
 use Rattle.perform.proofs.retags.retag.Statement.{statement}
 use Rattle.perform.proofs.retags.retag.Tie as tie

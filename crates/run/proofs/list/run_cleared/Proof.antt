@@ -1,5 +1,6 @@
 -- After i turns what is left of the list, from the state that is held, comes to what the whole list does (Turns).
-use Rattle.run.proofs.Turns.{state-lengths, written-length, going-start, going-on, ran}
+use Rattle.run.proofs.Turns.{written-length, going-start, going-on, ran}
+use Rattle.state.proofs.Held.{state-lengths}
 use Rattle.tables.specs.Held.{buffers}
 use Rattle.run.specs.Turns.{Going}
 use lib.ListN.{length}

@@ -11,7 +11,7 @@ use Rattle.frames.specs.Buffer.{HoldsFrames}
 use Rattle.frames.proofs.FromValid.{valid-holds}
 use Rattle.parts.specs.Trees.{HoldsMarked}
 use Rattle.parts.proofs.Lent.{records-of}
-use Rattle.perform.specs.Performed.{HoldsTrees}
+use Rattle.state.specs.State.{HoldsTrees}
 
 -- ---- trees and frames
 module _ {s : State} {A P R C F : List ℕ} (h : HoldsTrees s A P R C F) where

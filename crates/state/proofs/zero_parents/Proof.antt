@@ -5,8 +5,8 @@ use mathlib.Core.List.{List, _++_}
 use native.Mathlib.Omega.{arith}
 use lib.ListN.{length, drop, set, replicate}
 use Rattle.frames.proofs.Fill.{zeros-more, zeros-length, zeros-all}
-use Rattle.library.proofs.start.zero_parents.Statement.{statement}
-use Rattle.library.proofs.start.zero_parents.Tie as tie
+use Rattle.state.proofs.zero_parents.Statement.{statement}
+use Rattle.state.proofs.zero_parents.Tie as tie
 
 abbrev Inv-loop : tie.InvT-loop
 Inv-loop parents₀ i₀ parents i = (i ≤ length parents₀) × (parents ≡ replicate i 0 ++ drop i parents₀)

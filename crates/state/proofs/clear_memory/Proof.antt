@@ -1,11 +1,10 @@
--- Each buffer is filled with zeros (Blank).
+-- Each buffer is filled with zeros (Lengths).
 use native.Mathlib.Omega.{arith}
 use borrow.Author.Needs.{needs}
-use Rattle.tables.specs.Encoding.{Buffers}
 use Rattle.tables.specs.Held.{buffers}
-use Rattle.library.proofs.Blank.{lengths, all-zero}
-use Rattle.library.proofs.start.clear.Statement.{statement}
-use Rattle.library.proofs.start.clear.Tie as tie
+use Rattle.state.proofs.Lengths.{memory-lengths, all-zero}
+use Rattle.state.proofs.clear_memory.Statement.{statement}
+use Rattle.state.proofs.clear_memory.Tie as tie
 
 zero-records-requires : tie.Need-zero-records-requires
 zero-records-requires c κs = search needs
@@ -18,7 +17,7 @@ fill-requires c κs =
     let parents-zero = c .before .before .before .before .before in
     let records-zero = parents-zero .before .before .before .before in
     let s = records-zero .before .before .before .before .before in
-    omega (arith, lengths (buffers (s .args .allocs .now) (s .args .parents .now) (s .args .protectors .now) (s .args .words .now) (s .args .codes .now)) (s .pre) .protectors)
+    omega (arith, memory-lengths (buffers (s .args .allocs .now) (s .args .parents .now) (s .args .protectors .now) (s .args .words .now) (s .args .codes .now)) (s .pre) .protectors)
 
 fill-zero-requires : tie.Need-fill-zero-requires
 fill-zero-requires c κs = search needs
@@ -30,7 +29,7 @@ fill-requires-2 c κs =
     let parents-zero = marks-zero .before .before .before .before in
     let records-zero = parents-zero .before .before .before .before in
     let s = records-zero .before .before .before .before .before in
-    omega (arith, lengths (buffers (s .args .allocs .now) (s .args .parents .now) (s .args .protectors .now) (s .args .words .now) (s .args .codes .now)) (s .pre) .codes)
+    omega (arith, memory-lengths (buffers (s .args .allocs .now) (s .args .parents .now) (s .args .protectors .now) (s .args .words .now) (s .args .codes .now)) (s .pre) .codes)
 
 same-length : tie.Need-same-length
 same-length c = search needs
@@ -59,8 +58,8 @@ returns c =
     all-zero (buffers (s .args .allocs .now) (s .args .parents .now) (s .args .protectors .now) (s .args .words .now) (s .args .codes .now)) (s .pre)
     (records-zero .zero-records .ensures) (parents-zero .zero-parents .ensures) (marks-zero .fill .ensures) (words-zero .fill-zero .ensures) (codes-zero .fill2 .ensures)
 
-pub clear-spec : {M : Type 1} → statement M
-clear-spec =
+pub clear-memory-spec : {M : Type 1} → statement M
+clear-memory-spec =
     tie.close
     (tie.spec
     zero-records-requires

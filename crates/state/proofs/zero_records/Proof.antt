@@ -5,8 +5,8 @@ use mathlib.Core.List.{List, _++_}
 use native.Mathlib.Omega.{arith}
 use lib.ListN.{length, drop, set, replicate}
 use Rattle.frames.proofs.Fill.{zeros-more, zeros-length, zeros-all}
-use Rattle.step.proofs.clear.zero_records.Statement.{statement}
-use Rattle.step.proofs.clear.zero_records.Tie as tie
+use Rattle.state.proofs.zero_records.Statement.{statement}
+use Rattle.state.proofs.zero_records.Tie as tie
 
 abbrev Inv-loop : tie.InvT-loop
 Inv-loop allocs₀ i₀ allocs i = (i ≤ length allocs₀) × (allocs ≡ replicate i 0 ++ drop i allocs₀)

@@ -1,0 +1,3 @@
+-- What a state is on lent buffers.
+pub mod Lengths
+pub mod State
