@@ -13,9 +13,9 @@ ghost use lib.ListN.{length, take, drop, replicate};
 ghost use Rattle.definition.specs.Notation.{any};
 ghost use Rattle.definition.specs.Memory.{Memory, wasMade};
 ghost use Rattle.definition.specs.Memory.Liveness.{Live};
-ghost use Rattle.frames.specs.List.{provenanceOf, entriesOf, firstOf};
+ghost use Rattle.frames.specs.List.{provenanceOf, entriesOf};
 ghost use Rattle.frames.specs.Buffer.{entriesIn};
-ghost use Rattle.tables.specs.Held.{buffers, Records};
+ghost use Rattle.tables.specs.Held.{Records};
 ghost use Rattle.tree.specs.Table.{HoldsAll, Some, Each};
 ghost use Rattle.tree.specs.Requests as tree;
 ghost use Rattle.parts.specs.Trees.{HoldsMarked};
@@ -146,9 +146,9 @@ fn greater(a: u32, b: u32) -> u32
 }
 
 // Allocations, from one on and before another.
-pub struct Span {
-    pub first: usize,
-    pub end: usize,
+struct Span {
+    first: usize,
+    end: usize,
 }
 
 // Those between the least and the greatest that an entry is in. An entry's number has its allocation in front.

@@ -27,7 +27,7 @@ pub struct Entries {
 
 // ---- by value
 // 64 places without an entry.
-pub fn blank() -> [Entry; 64]
+fn blank() -> [Entry; 64]
     ensures { λ r. ⌜ r ≡ replicate 64 noEntry ⌝ }
 {
     let e = Entry {
@@ -82,7 +82,7 @@ pub fn put_if(entries: &mut [Entry], i: usize, e: Entry)
 
 // ---- the frames of a run, in one buffer (specs/Buffer.antt). Frame f has the 65 numbers from f * 65 on.
 // An entry as one number.
-pub fn entry_word(e: Entry) -> u32
+fn entry_word(e: Entry) -> u32
     requires { ⌜ FitsEntry (provenanceOf e) ⌝ }
     ensures { λ r. ⌜ r ≡ entryWord (provenanceOf e) ⌝ }
 {

@@ -19,20 +19,20 @@ pub enum Mask {
 }
 
 // ---- words to their fields
-pub enum LayoutStrategy {
+enum LayoutStrategy {
     Sized,
     Slice,
     TraitObject,
     Tuple,
 }
 
-pub struct Header {
-    pub layout: LayoutStrategy,
-    pub cells: u32,
-    pub size: u32,
+struct Header {
+    layout: LayoutStrategy,
+    cells: u32,
+    size: u32,
 }
 
-pub enum PointerMeta {
+enum PointerMeta {
     NoMetadata,
     ElementCount(u32),
     VTablePointer,

@@ -5,14 +5,14 @@ ghost use Rattle.tables.specs.Held.{buffers};
 ghost use Rattle.library.specs.Fields.{badExponent, badAllocation, badStore};
 ghost use Rattle.library.specs.Entry.{malformedAnswer};
 
-pub fn bad_exponent(exponent: u64) -> bool
+pub(crate) fn bad_exponent(exponent: u64) -> bool
     ensures { λ r. ⌜ r ≡ badExponent exponent ⌝ }
 {
     exponent > 29
 }
 
 // Of an allocation and a deallocation.
-pub fn bad_allocation(kind: u64, exponent: u64) -> bool
+pub(crate) fn bad_allocation(kind: u64, exponent: u64) -> bool
     ensures { λ r. ⌜ r ≡ badAllocation kind exponent ⌝ }
 {
     if bad_exponent(exponent) {
@@ -21,7 +21,7 @@ pub fn bad_allocation(kind: u64, exponent: u64) -> bool
     kind > 4
 }
 
-pub fn bad_store(bytes: &[u32], exponent: u64) -> bool
+pub(crate) fn bad_store(bytes: &[u32], exponent: u64) -> bool
     ensures { λ r. ⌜ r ≡ badStore (now (bytes .entry)) exponent ⌝ }
 {
     if bad_exponent(exponent) {

@@ -8,7 +8,7 @@ ghost use Rattle.frames.specs.Buffer.{HoldsFrames};
 ghost use Rattle.perform.specs.Performed.{LeftTrees, LeftFrames};
 ghost use Rattle.state.specs.State.{HoldsTrees};
 
-pub fn new_call(frames: &mut [u32], f: usize) -> Answer
+pub(crate) fn new_call(frames: &mut [u32], f: usize) -> Answer
     requires { ⌜ ((s : State) × (HoldsFrames (s .frames) (now frames) × (isOpen (frameAt s f) ≡ false))) ⌝ }
     requires { ⌜ f < 32 ⌝ }
     ensures { λ r. ⌜ ((s : State) → HoldsFrames (s .frames) (now (frames .entry)) → LeftFrames (newCall f s) r (now (frames .exit))) ⌝ }
@@ -17,7 +17,7 @@ pub fn new_call(frames: &mut [u32], f: usize) -> Answer
     Answer::Accepted
 }
 
-pub fn end_call(
+pub(crate) fn end_call(
     allocs: &[u64],
     parents: &[u16],
     protectors: &mut [u8],

@@ -14,7 +14,7 @@ fn wide(x: u32) -> u64
 }
 
 // Kinds 0 to 3 and 7 to 9, each by its core.
-pub fn in_memory(
+pub(crate) fn in_memory(
     allocs: &mut [u64],
     parents: &[u16],
     protectors: &[u8],

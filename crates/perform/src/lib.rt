@@ -8,9 +8,9 @@ ghost use Rattle.tables.specs.Held.{buffers};
 ghost use Rattle.perform.specs.Performed.{Formed, outcomeOf, Left};
 ghost use Rattle.state.specs.State.{HoldsState};
 
-pub mod calls;
-pub mod in_memory;
-pub mod retags;
+mod calls;
+mod in_memory;
+mod retags;
 
 // Every kind. Those that need no frame go to `in_memory`.
 pub fn perform(

@@ -144,7 +144,7 @@ fn retag_with_mask(
     }
 }
 
-pub fn retag(
+pub(crate) fn retag(
     allocs: &mut [u64],
     parents: &mut [u16],
     protectors: &mut [u8],

@@ -27,10 +27,10 @@ ghost use Rattle.library_frames.specs.EndCall.{ended};
 ghost use Rattle.library_frames.specs.Retag as retag;
 ghost use Rattle.tree_borrows.specs.Numbers.{Replied, RetagReplied};
 
-pub mod lists;
-pub mod numbers;
-pub mod requests;
-pub mod start;
+mod lists;
+mod numbers;
+mod requests;
+mod start;
 
 // ---- kinds 4 and 6. Each has two functions, as in `retag` and `end_call`: a lent slice of structs is for one that does nothing else.
 // All of a retag but the store into the frame's list, whatever stands there.

@@ -67,7 +67,7 @@ pub struct RetagMade {
 }
 
 // 2, of a pointer.
-pub fn bad_place(p: Place) -> bool
+pub(crate) fn bad_place(p: Place) -> bool
     ensures { λ r. ⌜ r ≡ badPlace p ⌝ }
 {
     if p.provenance > 1 {
@@ -79,7 +79,7 @@ pub fn bad_place(p: Place) -> bool
     (p.allocation != 0) | (p.node != 0)
 }
 
-pub fn thin_pointer(p: Place) -> ThinPointer
+pub(crate) fn thin_pointer(p: Place) -> ThinPointer
     ensures { λ r. ⌜ thinPointerOf r ≡ pointerOf p ⌝ }
 {
     let addr = p.address;
@@ -95,13 +95,13 @@ pub fn thin_pointer(p: Place) -> ThinPointer
 }
 
 // 2, of a retag's flags.
-pub fn bad_flags(s: Settings) -> bool
+pub(crate) fn bad_flags(s: Settings) -> bool
     ensures { λ r. ⌜ r ≡ badFlags s ⌝ }
 {
     (s.function_entry > 1) | ((s.unpin > 1) | (s.freeze > 1))
 }
 
-pub fn retag_settings(s: Settings) -> RetagSettings
+pub(crate) fn retag_settings(s: Settings) -> RetagSettings
     ensures { λ r. ⌜ r ≡ settingsOf s ⌝ }
 {
     RetagSettings {
@@ -131,7 +131,7 @@ fn pointer_reply(p: Provenance) -> Reply
     }
 }
 
-pub fn reply_of(answer: Answer) -> Reply
+pub(crate) fn reply_of(answer: Answer) -> Reply
     ensures { λ r. ⌜ r ≡ replyOf answer ⌝ }
 {
     match answer {
@@ -164,7 +164,7 @@ pub fn reply_of(answer: Answer) -> Reply
 }
 
 // An answer that hands out the words which a reply names.
-pub fn loaded(reply: Reply) -> Answer
+pub(crate) fn loaded(reply: Reply) -> Answer
     ensures { λ r. ⌜ ((words : List ℕ) → answerOf r words .words ≡ loadedWords reply words) ⌝ }
 {
     if reply.gives == 2 {
@@ -176,7 +176,7 @@ pub fn loaded(reply: Reply) -> Answer
     Answer::Accepted
 }
 
-pub fn retag_made(outcome: RetagOutcome) -> RetagMade
+pub(crate) fn retag_made(outcome: RetagOutcome) -> RetagMade
     ensures { λ r. ⌜ r ≡ madeOf outcome ⌝ }
 {
     let answer = outcome.answer;
@@ -198,7 +198,7 @@ fn flag(set: bool) -> u8
     if set { 1 } else { 0 }
 }
 
-pub fn list_reply(answer: ListRun) -> ListReply
+pub(crate) fn list_reply(answer: ListRun) -> ListReply
     ensures { λ r. ⌜ r ≡ listReplyOf answer ⌝ }
 {
     match answer {

@@ -8,7 +8,7 @@ ghost use Rattle.tables.specs.Held.{buffers};
 ghost use Rattle.wellformed.specs.WellFormed.{badRecord, badWord, badPlace, badCode, badNodes, Nodes, badAllocation, Front, badRest, badAllocations, clashes, clashesFirst, anyClash, wellFormed, Decides};
 
 // ---- something other than zero
-pub fn any_nonzero_u8(b: &[u8]) -> bool
+fn any_nonzero_u8(b: &[u8]) -> bool
     ensures { λ r. ⌜ r ≡ any nonzero (now (b .entry)) ⌝ }
 {
     let mut i: usize = 0;
@@ -21,7 +21,7 @@ pub fn any_nonzero_u8(b: &[u8]) -> bool
     false
 }
 
-pub fn any_nonzero_u16(b: &[u16]) -> bool
+fn any_nonzero_u16(b: &[u16]) -> bool
     ensures { λ r. ⌜ r ≡ any nonzero (now (b .entry)) ⌝ }
 {
     let mut i: usize = 0;
@@ -34,7 +34,7 @@ pub fn any_nonzero_u16(b: &[u16]) -> bool
     false
 }
 
-pub fn any_nonzero_u32(b: &[u32]) -> bool
+fn any_nonzero_u32(b: &[u32]) -> bool
     ensures { λ r. ⌜ r ≡ any nonzero (now (b .entry)) ⌝ }
 {
     let mut i: usize = 0;
@@ -47,7 +47,7 @@ pub fn any_nonzero_u32(b: &[u32]) -> bool
     false
 }
 
-pub fn any_nonzero_u64(b: &[u64]) -> bool
+fn any_nonzero_u64(b: &[u64]) -> bool
     ensures { λ r. ⌜ r ≡ any nonzero (now (b .entry)) ⌝ }
 {
     let mut i: usize = 0;
@@ -61,13 +61,7 @@ pub fn any_nonzero_u64(b: &[u64]) -> bool
 }
 
 // Behind the last allocation.
-pub fn bad_rest(
-    allocs: &[u64],
-    parents: &[u16],
-    protectors: &[u8],
-    words: &[u32],
-    codes: &[u8],
-) -> bool
+fn bad_rest(allocs: &[u64], parents: &[u16], protectors: &[u8], words: &[u32], codes: &[u8]) -> bool
     ensures { λ r. ⌜ r ≡ badRest (now (allocs .entry)) (now (parents .entry)) (now (protectors .entry)) (now (words .entry)) (now (codes .entry)) ⌝ }
 {
     if any_nonzero_u64(allocs) {
@@ -86,14 +80,14 @@ pub fn bad_rest(
 }
 
 // ---- bytes
-pub fn any_bad_word(words: &[u32]) -> bool
+fn any_bad_word(words: &[u32]) -> bool
     ensures { λ r. ⌜ r ≡ any badWord (now (words .entry)) ⌝ }
 {
     pointer::any_bad_byte(words)
 }
 
 // ---- nodes
-pub fn bad_place(n: usize, parent: usize, protector: u8) -> bool
+fn bad_place(n: usize, parent: usize, protector: u8) -> bool
     ensures { λ r. ⌜ r ≡ badPlace n parent protector ⌝ }
 {
     if n == 0 {
@@ -109,7 +103,7 @@ pub fn bad_place(n: usize, parent: usize, protector: u8) -> bool
 }
 
 // Codes 6 to e are the protected ones.
-pub fn bad_code(live: bool, protector: u8, code: u8) -> bool
+fn bad_code(live: bool, protector: u8, code: u8) -> bool
     ensures { λ r. ⌜ r ≡ badCode live protector code ⌝ }
 {
     if code > 14 {
@@ -121,7 +115,7 @@ pub fn bad_code(live: bool, protector: u8, code: u8) -> bool
     if protector == 0 { code > 5 } else { code < 6 }
 }
 
-pub fn any_bad_code(live: bool, protector: u8, row: &[u8]) -> bool
+fn any_bad_code(live: bool, protector: u8, row: &[u8]) -> bool
     ensures { λ r. ⌜ r ≡ any (badCode live protector) (now (row .entry)) ⌝ }
 {
     let mut i: usize = 0;
@@ -141,7 +135,7 @@ fn wide(x: u16) -> usize
 }
 
 // The first `count` nodes, with rows of `size` codes.
-pub fn bad_nodes(
+fn bad_nodes(
     live: bool,
     size: usize,
     count: usize,
@@ -170,7 +164,7 @@ pub fn bad_nodes(
 }
 
 // ---- one allocation
-pub fn bad_record(state: u64, kind: u64, exponent: u64, address: u64, size: u64, nodes: u64) -> bool
+fn bad_record(state: u64, kind: u64, exponent: u64, address: u64, size: u64, nodes: u64) -> bool
     ensures { λ r. ⌜ r ≡ badRecord state kind exponent address size nodes ⌝ }
 {
     if state == 0 {
@@ -200,7 +194,7 @@ pub fn bad_record(state: u64, kind: u64, exponent: u64, address: u64, size: u64,
 }
 
 // The allocation at the front of the five lists.
-pub fn bad_allocation(
+fn bad_allocation(
     allocs: &[u64],
     parents: &[u16],
     protectors: &[u8],
@@ -237,7 +231,7 @@ pub fn bad_allocation(
 }
 
 // ---- all of them, and zeros behind
-pub fn bad_allocations(
+fn bad_allocations(
     allocs: &[u64],
     parents: &[u16],
     protectors: &[u8],
@@ -282,7 +276,7 @@ pub fn bad_allocations(
 
 // ---- pairs
 // Allocation j is live and overlaps the range.
-pub fn clashes_at(allocs: &[u64], j: usize, address: u64, size: u64) -> bool
+fn clashes_at(allocs: &[u64], j: usize, address: u64, size: u64) -> bool
     requires { ⌜ j * 6 + 6 ≤ length (now allocs) ⌝ }
     ensures { λ r. ⌜ r ≡ clashes address size (drop (j * 6) (now (allocs .entry))) ⌝ }
 {
@@ -294,7 +288,7 @@ pub fn clashes_at(allocs: &[u64], j: usize, address: u64, size: u64) -> bool
 }
 
 // Allocation i is live and overlaps a later one of `count`.
-pub fn clashes_later(allocs: &[u64], i: usize, count: usize) -> bool
+fn clashes_later(allocs: &[u64], i: usize, count: usize) -> bool
     requires { ⌜ (i < count) × (count * 6 ≤ length (now allocs)) ⌝ }
     ensures { λ r. ⌜ r ≡ clashesFirst (count - (i + 1)) (drop (i * 6) (now (allocs .entry))) ⌝ }
 {
@@ -314,7 +308,7 @@ pub fn clashes_later(allocs: &[u64], i: usize, count: usize) -> bool
     false
 }
 
-pub fn any_clash(allocs: &[u64], count: usize) -> bool
+fn any_clash(allocs: &[u64], count: usize) -> bool
     requires { ⌜ count * 6 ≤ length (now allocs) ⌝ }
     ensures { λ r. ⌜ r ≡ anyClash count (now (allocs .entry)) ⌝ }
 {
