@@ -54,10 +54,10 @@ pub all-fit : {m : Memory} (es : List Provenance) {A P R C : List ℕ} → Holds
 all-fit {m} es h made = all-imp (λ e. wasMade m e ≡ true) FitsEntry (λ e w. made-fits m e (h .valid) w) es made
 
 -- the numbers that were written for a list, as a part that is lent
-pub written : (list : Entries) (words : List ℕ) → entriesIn (take (list .count) words) ≡ entriesOf list → entriesIn (take (list .count - 0) words) ≡ entriesOf list
-written list words e =
+pub written : (list : Entries) (numbers : List ℕ) → entriesIn (take (list .count) numbers) ≡ entriesOf list → entriesIn (take (list .count - 0) numbers) ≡ entriesOf list
+written list numbers e =
     let z : list .count - 0 ≡ list .count = omega arith in
-    ap (λ (n : ℕ). entriesIn (take n words)) z ∙ e
+    ap (λ (n : ℕ). entriesIn (take n numbers)) z ∙ e
 
 none-unmade : (m : Memory) (es : List Provenance) → AllMade m es → any (isUnmade m) es ≡ false
 unfolding any

@@ -32,49 +32,49 @@ use Rattle.end_call.proofs.Releases.{records-until}
 
 -- ---- the least and the greatest number of a list
 -- of the first i; the greatest is one of them all
-pub record Ranged (words : List ℕ) (i least greatest : ℕ) : Type 0 where
+pub record Ranged (numbers : List ℕ) (i least greatest : ℕ) : Type 0 where
   pub ordered : least ≤ greatest
-  pub among : All (λ w. (least ≤ w) × (w ≤ greatest)) (take i words)
-  pub one : (n : ℕ) → All (λ w. w < n) words → greatest < n
+  pub among : All (λ w. (least ≤ w) × (w ≤ greatest)) (take i numbers)
+  pub one : (n : ℕ) → All (λ w. w < n) numbers → greatest < n
 
-pub ranged-first : (words : List ℕ) → 0 < length words → Ranged words 1 (getD words 0 0) (getD words 0 0)
-ranged-first words h = record {
+pub ranged-first : (numbers : List ℕ) → 0 < length numbers → Ranged numbers 1 (getD numbers 0 0) (getD numbers 0 0)
+ranged-first numbers h = record {
   ordered = omega arith;
-  among = rw (take-suc words 0 0 h) ((omega arith, omega arith), tt);
-  one = λ n below. all-at (λ w. w < n) words 0 0 below h;
+  among = rw (take-suc numbers 0 0 h) ((omega arith, omega arith), tt);
+  one = λ n below. all-at (λ w. w < n) numbers 0 0 below h;
 }
 
-pub ranged-more : (words : List ℕ) (i least greatest l g : ℕ) → i < length words → Ranged words i least greatest
-    → (l ≤ least) × (l ≤ getD words i 0)
-    → (greatest ≤ g) × ((getD words i 0 ≤ g) × ((n : ℕ) → greatest < n → getD words i 0 < n → g < n))
-    → Ranged words (i + 1) l g
-ranged-more words i least greatest l g h r low high = record {
+pub ranged-more : (numbers : List ℕ) (i least greatest l g : ℕ) → i < length numbers → Ranged numbers i least greatest
+    → (l ≤ least) × (l ≤ getD numbers i 0)
+    → (greatest ≤ g) × ((getD numbers i 0 ≤ g) × ((n : ℕ) → greatest < n → getD numbers i 0 < n → g < n))
+    → Ranged numbers (i + 1) l g
+ranged-more numbers i least greatest l g h r low high = record {
   ordered = omega (arith, low .1, high .1 .0);
   among =
-      rw (add-one, take-suc words i 0 h)
-      (all-append (λ w. (l ≤ w) × (w ≤ g)) (take i words) (getD words i 0 ∷ [])
-      (all-imp (λ w. (least ≤ w) × (w ≤ greatest)) (λ w. (l ≤ w) × (w ≤ g)) (λ w b. (omega (arith, b .0, low .0), omega (arith, b .1, high .0))) (take i words) (r .among))
+      rw (add-one, take-suc numbers i 0 h)
+      (all-append (λ w. (l ≤ w) × (w ≤ g)) (take i numbers) (getD numbers i 0 ∷ [])
+      (all-imp (λ w. (least ≤ w) × (w ≤ greatest)) (λ w. (l ≤ w) × (w ≤ g)) (λ w b. (omega (arith, b .0, low .0), omega (arith, b .1, high .0))) (take i numbers) (r .among))
       ((low .1, high .1 .0), tt));
-  one = λ n below. high .1 .1 n (r .one n below) (all-at (λ w. w < n) words i 0 below h);
+  one = λ n below. high .1 .1 n (r .one n below) (all-at (λ w. w < n) numbers i 0 below h);
 }
 
-among-in : (l g : ℕ) (words : List ℕ) → All (λ w. (l ≤ w) × (w ≤ g)) words → All (λ e. (l / 4096 ≤ e .allocation) × (e .allocation < g / 4096 + 1)) (entriesIn words)
+among-in : (l g : ℕ) (numbers : List ℕ) → All (λ w. (l ≤ w) × (w ≤ g)) numbers → All (λ e. (l / 4096 ≤ e .allocation) × (e .allocation < g / 4096 + 1)) (entriesIn numbers)
 among-in l g [] a = tt
-among-in l g (w ∷ words) a = let low : l ≤ w = a .0 .0 in let high : w ≤ g = a .0 .1 in ((omega arith, omega arith), among-in l g words (a .1))
+among-in l g (w ∷ numbers) a = let low : l ≤ w = a .0 .0 in let high : w ≤ g = a .0 .1 in ((omega arith, omega arith), among-in l g numbers (a .1))
 
-below-in : (n : ℕ) (words : List ℕ) → All (λ e. e .allocation < n) (entriesIn words) → All (λ w. w < n * 4096) words
+below-in : (n : ℕ) (numbers : List ℕ) → All (λ e. e .allocation < n) (entriesIn numbers) → All (λ w. w < n * 4096) numbers
 below-in n [] a = tt
-below-in n (w ∷ words) a = let low : w / 4096 < n = a .0 in (omega arith, below-in n words (a .1))
+below-in n (w ∷ numbers) a = let low : w / 4096 < n = a .0 in (omega arith, below-in n numbers (a .1))
 
-pub spans-none : (words : List ℕ) → length words ≡ 0 → Spans (entriesIn words) 0 0
+pub spans-none : (numbers : List ℕ) → length numbers ≡ 0 → Spans (entriesIn numbers) 0 0
 spans-none [] e = record { ordered = omega arith; among = tt; least = λ n a. omega arith }
-spans-none (w ∷ words) e = absurd (omega arith)
+spans-none (w ∷ numbers) e = absurd (omega arith)
 
-pub spans-ranged : (words : List ℕ) (i l g : ℕ) → i ≡ length words → Ranged words i l g → Spans (entriesIn words) (l / 4096) (g / 4096 + 1)
-spans-ranged words i l g e r = record {
+pub spans-ranged : (numbers : List ℕ) (i l g : ℕ) → i ≡ length numbers → Ranged numbers i l g → Spans (entriesIn numbers) (l / 4096) (g / 4096 + 1)
+spans-ranged numbers i l g e r = record {
   ordered = omega (arith, r .ordered);
-  among = among-in l g words (subst (λ (x : List ℕ). All (λ w. (l ≤ w) × (w ≤ g)) x) (ap (λ (k : ℕ). take k words) e ∙ take-length words) (r .among));
-  least = λ n a. omega (arith, r .one (n * 4096) (below-in n words a));
+  among = among-in l g numbers (subst (λ (x : List ℕ). All (λ w. (l ≤ w) × (w ≤ g)) x) (ap (λ (k : ℕ). take k numbers) e ∙ take-length numbers) (r .among));
+  least = λ n a. omega (arith, r .one (n * 4096) (below-in n numbers a));
 }
 
 -- the allocations of entries that were made

@@ -102,21 +102,21 @@ fn any_never_made(allocs: &[u64], list: Entries) -> bool
     false
 }
 
-// "Release, in list order", each on what the ones before it left, up to the first refusal. The words are the entries' numbers.
+// "Release, in list order", each on what the ones before it left, up to the first refusal. Each number is an entry's.
 fn release_until(
     allocs: &[u64],
     parents: &[u16],
     protectors: &mut [u8],
     codes: &mut [u8],
-    words: &[u32],
+    numbers: &[u32],
 ) -> u8
-    requires { ⌜ ((m : Memory) × (HoldsMarked m (now allocs) (now parents) (now protectors) (now codes) × AllMade m (entriesIn (now words)))) ⌝ }
-    ensures { λ r. ⌜ ((m : Memory) → HoldsMarked m (now (allocs .entry)) (now (parents .entry)) (now (protectors .entry)) (now (codes .entry)) → AllMade m (entriesIn (now (words .entry)))
-        → ReleasedUntil m (entriesIn (now (words .entry))) r (now (protectors .exit)) (now (codes .exit))) ⌝ }
+    requires { ⌜ ((m : Memory) × (HoldsMarked m (now allocs) (now parents) (now protectors) (now codes) × AllMade m (entriesIn (now numbers)))) ⌝ }
+    ensures { λ r. ⌜ ((m : Memory) → HoldsMarked m (now (allocs .entry)) (now (parents .entry)) (now (protectors .entry)) (now (codes .entry)) → AllMade m (entriesIn (now (numbers .entry)))
+        → ReleasedUntil m (entriesIn (now (numbers .entry))) r (now (protectors .exit)) (now (codes .exit))) ⌝ }
 {
     let mut i: usize = 0;
-    while i < words.len() {
-        let e = frames::entry_in(words[i]);
+    while i < numbers.len() {
+        let e = frames::entry_in(numbers[i]);
         let refusal = release_entry(allocs, parents, protectors, codes, e);
         if refusal != 0 {
             return refusal;
@@ -152,19 +152,19 @@ struct Span {
 }
 
 // Those between the least and the greatest that an entry is in. An entry's number has its allocation in front.
-fn span_of(words: &[u32]) -> Span
-    ensures { λ r. ⌜ Spans (entriesIn (now (words .entry))) (r .first) (r .end) ⌝ }
+fn span_of(numbers: &[u32]) -> Span
+    ensures { λ r. ⌜ Spans (entriesIn (now (numbers .entry))) (r .first) (r .end) ⌝ }
 {
-    if words.len() == 0 {
+    if numbers.len() == 0 {
         return Span { first: 0, end: 0 };
     }
-    let mut least = words[0];
-    let mut greatest = words[0];
+    let mut least = numbers[0];
+    let mut greatest = numbers[0];
     let mut i: usize = 1;
-    while i < words.len() {
-        let word = words[i];
-        least = lesser(least, word);
-        greatest = greater(greatest, word);
+    while i < numbers.len() {
+        let number = numbers[i];
+        least = lesser(least, number);
+        greatest = greater(greatest, number);
         i += 1;
     }
     Span {
@@ -198,14 +198,14 @@ fn release_all(
     protectors: &mut [u8],
     codes: &mut [u8],
     area: &mut [u8],
-    words: &[u32],
+    numbers: &[u32],
     from: Starts,
     to: Starts,
 ) -> u8
-    requires { ⌜ ((m : Memory) × (HoldsMarked m (now allocs) (now parents) (now protectors) (now codes) × AllMade m (entriesIn (now words)))) ⌝ }
-    requires { ⌜ Touched (now allocs) (entriesIn (now words)) from to × (to .codes - from .codes ≤ length (now area)) ⌝ }
-    ensures { λ r. ⌜ ((m : Memory) → HoldsMarked m (now (allocs .entry)) (now (parents .entry)) (now (protectors .entry)) (now (codes .entry)) → AllMade m (entriesIn (now (words .entry)))
-        → ReleasedAll m (entriesIn (now (words .entry))) r (now (protectors .exit)) (now (codes .exit))) ⌝ }
+    requires { ⌜ ((m : Memory) × (HoldsMarked m (now allocs) (now parents) (now protectors) (now codes) × AllMade m (entriesIn (now numbers)))) ⌝ }
+    requires { ⌜ Touched (now allocs) (entriesIn (now numbers)) from to × (to .codes - from .codes ≤ length (now area)) ⌝ }
+    ensures { λ r. ⌜ ((m : Memory) → HoldsMarked m (now (allocs .entry)) (now (parents .entry)) (now (protectors .entry)) (now (codes .entry)) → AllMade m (entriesIn (now (numbers .entry)))
+        → ReleasedAll m (entriesIn (now (numbers .entry))) r (now (protectors .exit)) (now (codes .exit))) ⌝ }
 {
     let node_start = from.nodes;
     let node_end = to.nodes;
@@ -214,7 +214,7 @@ fn release_all(
     let mut marks = [0u8; 1024];
     save(&mut marks, protectors, node_start, node_end);
     save(area, codes, code_start, code_end);
-    let refused = release_until(allocs, parents, protectors, codes, words);
+    let refused = release_until(allocs, parents, protectors, codes, numbers);
     if refused != 0 {
         put_back(protectors, &marks, node_start, node_end);
         put_back(codes, area, code_start, code_end);
@@ -228,16 +228,16 @@ fn release_list(
     parents: &[u16],
     protectors: &mut [u8],
     codes: &mut [u8],
-    words: &[u32],
+    numbers: &[u32],
 ) -> u8
-    requires { ⌜ ((m : Memory) × (HoldsMarked m (now allocs) (now parents) (now protectors) (now codes) × AllMade m (entriesIn (now words)))) ⌝ }
-    ensures { λ r. ⌜ ((m : Memory) → HoldsMarked m (now (allocs .entry)) (now (parents .entry)) (now (protectors .entry)) (now (codes .entry)) → AllMade m (entriesIn (now (words .entry)))
-        → ReleasedAll m (entriesIn (now (words .entry))) r (now (protectors .exit)) (now (codes .exit))) ⌝ }
+    requires { ⌜ ((m : Memory) × (HoldsMarked m (now allocs) (now parents) (now protectors) (now codes) × AllMade m (entriesIn (now numbers)))) ⌝ }
+    ensures { λ r. ⌜ ((m : Memory) → HoldsMarked m (now (allocs .entry)) (now (parents .entry)) (now (protectors .entry)) (now (codes .entry)) → AllMade m (entriesIn (now (numbers .entry)))
+        → ReleasedAll m (entriesIn (now (numbers .entry))) r (now (protectors .exit)) (now (codes .exit))) ⌝ }
 {
-    if words.len() < 2 {
-        return release_until(allocs, parents, protectors, codes, words);
+    if numbers.len() < 2 {
+        return release_until(allocs, parents, protectors, codes, numbers);
     }
-    let span = span_of(words);
+    let span = span_of(numbers);
     let from = tables::starts_at(allocs, span.first);
     let to = tables::starts_at(allocs, span.end);
     if to.codes - from.codes <= 1024 {
@@ -248,7 +248,7 @@ fn release_list(
             protectors,
             codes,
             &mut area,
-            words,
+            numbers,
             from,
             to,
         );
@@ -260,7 +260,7 @@ fn release_list(
         protectors,
         codes,
         &mut area,
-        words,
+        numbers,
         from,
         to,
     )
@@ -273,33 +273,33 @@ fn release_lent(
     protectors: &mut [u8],
     codes: &mut [u8],
     area: &mut [u8],
-    words: &[u32],
+    numbers: &[u32],
 ) -> u8
-    requires { ⌜ ((m : Memory) × (HoldsMarked m (now allocs) (now parents) (now protectors) (now codes) × AllMade m (entriesIn (now words)))) ⌝ }
+    requires { ⌜ ((m : Memory) × (HoldsMarked m (now allocs) (now parents) (now protectors) (now codes) × AllMade m (entriesIn (now numbers)))) ⌝ }
     requires { ⌜ length (now area) ≡ 32768 ⌝ }
-    ensures { λ r. ⌜ ((m : Memory) → HoldsMarked m (now (allocs .entry)) (now (parents .entry)) (now (protectors .entry)) (now (codes .entry)) → AllMade m (entriesIn (now (words .entry)))
-        → ReleasedAll m (entriesIn (now (words .entry))) r (now (protectors .exit)) (now (codes .exit))) ⌝ }
+    ensures { λ r. ⌜ ((m : Memory) → HoldsMarked m (now (allocs .entry)) (now (parents .entry)) (now (protectors .entry)) (now (codes .entry)) → AllMade m (entriesIn (now (numbers .entry)))
+        → ReleasedAll m (entriesIn (now (numbers .entry))) r (now (protectors .exit)) (now (codes .exit))) ⌝ }
 {
-    let span = span_of(words);
+    let span = span_of(numbers);
     let from = tables::starts_at(allocs, span.first);
     let to = tables::starts_at(allocs, span.end);
-    release_all(allocs, parents, protectors, codes, area, words, from, to)
+    release_all(allocs, parents, protectors, codes, area, numbers, from, to)
 }
 
 // ---- an end call
-// In a run, where every entry of a frame was made, and nobody lends a working area. The words are the entries' numbers.
+// In a run, where every entry of a frame was made, and nobody lends a working area. Each number is an entry's.
 pub fn end_call_in_run(
     allocs: &[u64],
     parents: &[u16],
     protectors: &mut [u8],
     codes: &mut [u8],
-    words: &[u32],
+    numbers: &[u32],
 ) -> Answer
-    requires { ⌜ ((m : Memory) × (HoldsMarked m (now allocs) (now parents) (now protectors) (now codes) × AllMade m (entriesIn (now words)))) ⌝ }
-    ensures { λ r. ⌜ ((m : Memory) → HoldsMarked m (now (allocs .entry)) (now (parents .entry)) (now (protectors .entry)) (now (codes .entry)) → AllMade m (entriesIn (now (words .entry)))
-        → Ended m (entriesIn (now (words .entry))) r (now (protectors .exit)) (now (codes .exit))) ⌝ }
+    requires { ⌜ ((m : Memory) × (HoldsMarked m (now allocs) (now parents) (now protectors) (now codes) × AllMade m (entriesIn (now numbers)))) ⌝ }
+    ensures { λ r. ⌜ ((m : Memory) → HoldsMarked m (now (allocs .entry)) (now (parents .entry)) (now (protectors .entry)) (now (codes .entry)) → AllMade m (entriesIn (now (numbers .entry)))
+        → Ended m (entriesIn (now (numbers .entry))) r (now (protectors .exit)) (now (codes .exit))) ⌝ }
 {
-    let refused = release_list(allocs, parents, protectors, codes, words);
+    let refused = release_list(allocs, parents, protectors, codes, numbers);
     answer::refused_with(refused)
 }
 
@@ -320,9 +320,9 @@ fn end_call_refusal(
     if any_never_made(allocs, list) {
         return 4;
     }
-    let words = frames::words_of(list);
+    let numbers = frames::numbers_of(list);
     let count = list.count;
-    release_lent(allocs, parents, protectors, codes, area, &words[0..count])
+    release_lent(allocs, parents, protectors, codes, area, &numbers[0..count])
 }
 
 // A refusal leaves marks and codes as they were. The working area is zero afterwards, whatever it held and whatever the answer.

@@ -1,6 +1,6 @@
 pub mod ByValue
 pub mod Fill
-pub mod FrameWords
+pub mod FrameNumbers
 pub mod Frames
 pub mod FromValid
 pub mod Rows

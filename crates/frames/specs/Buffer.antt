@@ -12,28 +12,28 @@ use Rattle.frames.specs.List.{provenanceOf}
 use Rattle.frames.specs.declared.Entry.{Entry}
 
 -- an entry as one number, and read back from it
-abbrev pub entryWord : Provenance → ℕ
-entryWord e = e .allocation * 4096 + e .node
+abbrev pub entryNumber : Provenance → ℕ
+entryNumber e = e .allocation * 4096 + e .node
 
 abbrev pub entryIn : ℕ → Entry
 entryIn w = record { allocation = w / 4096; node = w % 4096 }
 
 -- the entries that numbers stand for
 abbrev pub entriesIn : List ℕ → List Provenance
-entriesIn words = map (λ w. provenanceOf (entryIn w)) words
+entriesIn numbers = map (λ w. provenanceOf (entryIn w)) numbers
 
 -- 0 for a closed frame, else 1 and the number of its entries
-abbrev pub headWord : Frame → ℕ
-headWord Closed = 0
-headWord (Open es) = suc (length es)
+abbrev pub headNumber : Frame → ℕ
+headNumber Closed = 0
+headNumber (Open es) = suc (length es)
 
 -- a frame's 65 numbers: zeros behind its entries
-unfoldable pub frameWords : Frame → List ℕ
-frameWords f = headWord f ∷ (map entryWord (entries f) ++ replicate (64 - length (entries f)) 0)
+unfoldable pub frameNumbers : Frame → List ℕ
+frameNumbers f = headNumber f ∷ (map entryNumber (entries f) ++ replicate (64 - length (entries f)) 0)
 
 unfoldable pub framesHeld : List Frame → List ℕ
 framesHeld [] = []
-framesHeld (f ∷ fs) = frameWords f ++ framesHeld fs
+framesHeld (f ∷ fs) = frameNumbers f ++ framesHeld fs
 
 -- the entries of frame f
 abbrev pub entriesAt : List Frame → ℕ → List Provenance

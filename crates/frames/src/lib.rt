@@ -10,7 +10,7 @@ ghost use Rattle.definition.specs.Frame.{Frame, isOpen, empty};
 ghost use Rattle.definition.specs.Frame.Frame.{Closed, Open};
 ghost use Rattle.definition.specs.Valid.{All};
 ghost use Rattle.frames.specs.List.{provenanceOf, noEntry, entriesOf, loaded};
-ghost use Rattle.frames.specs.Buffer.{entryWord, entryIn, entriesIn, entriesAt, FitsEntry, HoldsFrames};
+ghost use Rattle.frames.specs.Buffer.{entryNumber, entryIn, entriesIn, entriesAt, FitsEntry, HoldsFrames};
 
 // Whom a frame protects: a node of an allocation. It has C's layout, so that C and Rust can lend a list of them.
 #[repr(C)]
@@ -82,9 +82,9 @@ pub fn put_if(entries: &mut [Entry], i: usize, e: Entry)
 
 // ---- the frames of a run, in one buffer (specs/Buffer.antt). Frame f has the 65 numbers from f * 65 on.
 // An entry as one number.
-fn entry_word(e: Entry) -> u32
+fn entry_number(e: Entry) -> u32
     requires { ⌜ FitsEntry (provenanceOf e) ⌝ }
-    ensures { λ r. ⌜ r ≡ entryWord (provenanceOf e) ⌝ }
+    ensures { λ r. ⌜ r ≡ entryNumber (provenanceOf e) ⌝ }
 {
     let allocation = e.allocation;
     let node = e.node;
@@ -92,29 +92,29 @@ fn entry_word(e: Entry) -> u32
 }
 
 // The entry that a number stands for.
-pub fn entry_in(word: u32) -> Entry
-    ensures { λ r. ⌜ r ≡ entryIn word ⌝ }
+pub fn entry_in(number: u32) -> Entry
+    ensures { λ r. ⌜ r ≡ entryIn number ⌝ }
 {
     Entry {
-        allocation: word / 4096,
-        node: word % 4096,
+        allocation: number / 4096,
+        node: number % 4096,
     }
 }
 
 // The entries of a list, each as its number, and zeros after them.
-pub fn words_of(list: Entries) -> [u32; 64]
+pub fn numbers_of(list: Entries) -> [u32; 64]
     requires { ⌜ (list .count ≤ 64) × All FitsEntry (entriesOf list) ⌝ }
     ensures { λ r. ⌜ entriesIn (take (list .count) r) ≡ entriesOf list ⌝ }
 {
     let count = list.count;
-    let mut words = [0u32; 64];
+    let mut numbers = [0u32; 64];
     let mut i = 0;
     while i < count {
         let e = entry_at(list, i);
-        words[i] = entry_word(e);
+        numbers[i] = entry_number(e);
         i = i + 1;
     }
-    words
+    numbers
 }
 
 // Zeros at every place.
@@ -159,7 +159,7 @@ pub fn entry_count(frames: &[u32], f: usize) -> usize
 }
 
 // The numbers of a frame's entries.
-pub fn frame_words(frames: &[u32], f: usize) -> &[u32]
+pub fn frame_numbers(frames: &[u32], f: usize) -> &[u32]
     requires { ⌜ ((fs : List Frame) × HoldsFrames fs (now frames)) ⌝ }
     requires { ⌜ f < 32 ⌝ }
     ensures { λ r. ⌜ ((fs : List Frame) → HoldsFrames fs (now (frames .entry)) → entriesIn (now r) ≡ entriesAt fs f) ⌝ }
@@ -198,8 +198,8 @@ pub fn push_entry(frames: &mut [u32], f: usize, e: Entry)
     ensures { λ _. ⌜ ((fs : List Frame) → HoldsFrames fs (now (frames .entry)) → HoldsFrames (set fs f (Open (entriesAt fs f ++ (provenanceOf e ∷ [])))) (now (frames .exit))) ⌝ }
 {
     let count = entry_count(frames, f);
-    let word = entry_word(e);
+    let number = entry_number(e);
     let at = f * 65;
     frames[at] = count as u32 + 2;
-    frames[at + 1 + count] = word;
+    frames[at + 1 + count] = number;
 }

@@ -17,22 +17,22 @@ use Rattle.wellformed.proofs.Sound.{sound}
 use Rattle.wellformed.proofs.Complete.{complete}
 use Rattle.memory.specs.Access.{loadOf, storeOf}
 use Rattle.library.specs.Fields.{badExponent, badAllocation, badStore}
-use Rattle.library.specs.Entry.{entered}
-use Rattle.library.proofs.Entered.{entered-bad, entered-held}
+use Rattle.library.specs.Entry.{served}
+use Rattle.library.proofs.Served.{served-bad, served-held}
 use Rattle.library.proofs.Fine.{allocation-exponent, store-bytes}
 
 -- what an entry leaves of b is well formed
 abbrev pub FormedAfter : Buffers → Bool → (Memory → definition.Answer × Memory) → Type 0
-FormedAfter b bad request = wellFormed (entered bad request b .1) ≡ true
+FormedAfter b bad request = wellFormed (served bad request b .1) ≡ true
 
 module _ (b : Buffers) (formed : wellFormed b ≡ true) where
   -- a request that keeps a memory valid
   stays-formed : (bad : Bool) (request : Memory → definition.Answer × Memory) → (bad ≡ false → (m : Memory) → Valid m → Valid (request m .1)) → FormedAfter b bad request
   stays-formed true request keeps =
-      ap (λ (o : definition.Answer × Buffers). wellFormed (o .1)) (entered-bad true request b (sound b formed) refl) ∙ formed
+      ap (λ (o : definition.Answer × Buffers). wellFormed (o .1)) (served-bad true request b (sound b formed) refl) ∙ formed
   stays-formed false request keeps =
       let next = request (view b) .1 in
-      ap (λ (o : definition.Answer × Buffers). wellFormed (o .1)) (entered-held false request b (sound b formed) refl)
+      ap (λ (o : definition.Answer × Buffers). wellFormed (o .1)) (served-held false request b (sound b formed) refl)
       ∙ complete next (encode next) (record { valid = keeps refl (view b) (sound b formed .valid); equal = refl })
 
   pub formed-allocate : (kind len exponent address : ℕ) → FormedAfter b (badAllocation kind exponent) (allocate (allocationKind kind) len exponent address)

@@ -1,4 +1,4 @@
-pub mod Entered
+pub mod Served
 pub mod Fine
 pub mod Performed
 pub mod Again

@@ -14,7 +14,7 @@ use Rattle.wellformed.proofs.Sound.{sound}
 use Rattle.memory.specs.Access.{loadOf}
 use Rattle.memory.proofs.LoadStore.{load-means}
 use Rattle.library.specs.Fields.{badExponent}
-use Rattle.library.specs.Entry.{entered, givenBy}
+use Rattle.library.specs.Entry.{served, givenBy}
 
 module _ (p : ThinPointer) (len exponent : ℕ) (b : Buffers) where
   abbrev load : MemoryAccess
@@ -25,12 +25,12 @@ module _ (p : ThinPointer) (len exponent : ℕ) (b : Buffers) where
       ap (λ (words : List ℕ). answerOf (replyTo (givenBy load b) (performAccess load (view b) .0)) words) (holds-words (sound b formed))
       ∙ load-means p len exponent (sound b formed .valid)
 
-  pub entered-words : answerOf (replyTo (givenBy load b) (entered (badExponent exponent) (performAccess load) b .0)) (b .words) ≡ entered (badExponent exponent) (performAccess load) b .0
-  unfolding entered
-  entered-words = by (wellFormed b) (badExponent exponent) refl refl
+  pub served-words : answerOf (replyTo (givenBy load b) (served (badExponent exponent) (performAccess load) b .0)) (b .words) ≡ served (badExponent exponent) (performAccess load) b .0
+  unfolding served
+  served-words = by (wellFormed b) (badExponent exponent) refl refl
     where
       by : (formed bad : Bool) → wellFormed b ≡ formed → badExponent exponent ≡ bad
-          → answerOf (replyTo (givenBy load b) (entered (badExponent exponent) (performAccess load) b .0)) (b .words) ≡ entered (badExponent exponent) (performAccess load) b .0
+          → answerOf (replyTo (givenBy load b) (served (badExponent exponent) (performAccess load) b .0)) (b .words) ≡ served (badExponent exponent) (performAccess load) b .0
       by false bad e f = rw e
       by true true e f = rw (e, f)
       by true false e f = rw (e, f) (held e)

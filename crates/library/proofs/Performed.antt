@@ -20,23 +20,23 @@ use Rattle.memory.specs.Deallocate.{Deallocated}
 use Rattle.memory.proofs.Allocated.{can-allocate, allocate-encode}
 use Rattle.memory.proofs.Afterwards.{load-encode, store-encode, deallocate-encode}
 use Rattle.library.specs.Fields.{badExponent, badAllocation, badStore}
-use Rattle.library.specs.Entry.{Entered, givenBy, leakEntered}
-use Rattle.library.proofs.Entered.{performed, answered}
+use Rattle.library.specs.Entry.{Served, givenBy, leakServed}
+use Rattle.library.proofs.Served.{performed, answered}
 use Rattle.library.proofs.Fine.{allocation-kind, allocation-exponent}
 
 -- ---- they change nothing
 module _ (p : ThinPointer) (back ahead : ℕ) (b : Buffers) (formed : wellFormed b ≡ true) where
-  pub dereferenced : {r : Answer} → r ≡ replyTo Nothing (dereferenceable p back ahead (view b) .0) → Entered Nothing false (dereferenceable p back ahead) b r b
+  pub dereferenced : {r : Answer} → r ≡ replyTo Nothing (dereferenceable p back ahead (view b) .0) → Served Nothing false (dereferenceable p back ahead) b r b
   unfolding dereferenceable
   dereferenced e = answered Nothing false (dereferenceable p back ahead) b formed refl e refl
 
 module _ (b : Buffers) where
-  pub leak-not-formed : wellFormed b ≡ false → Refused 1 ≡ leakEntered b
-  unfolding leakEntered
+  pub leak-not-formed : wellFormed b ≡ false → Refused 1 ≡ leakServed b
+  unfolding leakServed
   leak-not-formed e = rw e
 
-  pub leak-answered : wellFormed b ≡ true → {r : Answer} → r ≡ leakReply (view b) → r ≡ leakEntered b
-  unfolding leakEntered
+  pub leak-answered : wellFormed b ≡ true → {r : Answer} → r ≡ leakReply (view b) → r ≡ leakServed b
+  unfolding leakServed
   leak-answered formed e = rw formed e
 
 -- ---- an allocation
@@ -47,7 +47,7 @@ module _ (b : Buffers) (formed : wellFormed b ≡ true) (kind exponent : ℕ) (f
       (allocation-exponent kind exponent fine)
 
   pub allocated : (len address : ℕ) {r : Answer} {A′ C′ : List ℕ} → Allocated (allocate (allocationKind kind) len exponent address (view b)) r A′ C′
-      → Entered ThePointer (badAllocation kind exponent) (allocate (allocationKind kind) len exponent address) b r (buffers A′ (b .parents) (b .protectors) (b .words) C′)
+      → Served ThePointer (badAllocation kind exponent) (allocate (allocationKind kind) len exponent address) b r (buffers A′ (b .parents) (b .protectors) (b .words) C′)
   allocated len address a =
       performed ThePointer (badAllocation kind exponent) (allocate (allocationKind kind) len exponent address) b formed fine (a .reply)
       (allocate-encode (view b) (allocationKind kind) len exponent address (sound b formed) a)
@@ -55,20 +55,20 @@ module _ (b : Buffers) (formed : wellFormed b ≡ true) (kind exponent : ℕ) (f
 -- ---- loads, stores, deallocations
 module _ (b : Buffers) (formed : wellFormed b ≡ true) (p : ThinPointer) (exponent : ℕ) where
   pub loaded : badExponent exponent ≡ false → (len : ℕ) {r : Answer} {C′ : List ℕ} → Loaded (loadOf p len exponent) (view b) r C′
-      → Entered (givenBy (loadOf p len exponent) b) (badExponent exponent) (performAccess (loadOf p len exponent)) b r (buffers (b .allocs) (b .parents) (b .protectors) (b .words) C′)
+      → Served (givenBy (loadOf p len exponent) b) (badExponent exponent) (performAccess (loadOf p len exponent)) b r (buffers (b .allocs) (b .parents) (b .protectors) (b .words) C′)
   loaded fine len a =
       performed (givenBy (loadOf p len exponent) b) (badExponent exponent) (performAccess (loadOf p len exponent)) b formed fine (a .reply)
       (load-encode (sound b formed) p len exponent a)
 
   pub stored : (bytes : List ℕ) → badStore bytes exponent ≡ false → {r : Answer} {W′ C′ : List ℕ} → Stored (storeOf p bytes exponent) (view b) r W′ C′
-      → Entered Nothing (badStore bytes exponent) (performAccess (storeOf p bytes exponent)) b r (buffers (b .allocs) (b .parents) (b .protectors) W′ C′)
+      → Served Nothing (badStore bytes exponent) (performAccess (storeOf p bytes exponent)) b r (buffers (b .allocs) (b .parents) (b .protectors) W′ C′)
   stored bytes fine a =
       performed Nothing (badStore bytes exponent) (performAccess (storeOf p bytes exponent)) b formed fine (a .reply)
       (store-encode (sound b formed) p bytes exponent a)
 
   pub deallocated : (kind len : ℕ) → badAllocation kind exponent ≡ false → {r : Answer} {A′ C′ : List ℕ}
       → Deallocated p (allocationKind kind) len exponent (view b) r A′ C′
-      → Entered Nothing (badAllocation kind exponent) (deallocate p (allocationKind kind) len exponent) b r (buffers A′ (b .parents) (b .protectors) (b .words) C′)
+      → Served Nothing (badAllocation kind exponent) (deallocate p (allocationKind kind) len exponent) b r (buffers A′ (b .parents) (b .protectors) (b .words) C′)
   deallocated kind len fine a =
       performed Nothing (badAllocation kind exponent) (deallocate p (allocationKind kind) len exponent) b formed fine (a .reply)
       (deallocate-encode p (allocationKind kind) len exponent (view b) (sound b formed) a)

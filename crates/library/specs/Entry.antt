@@ -1,5 +1,5 @@
 -- What an entry comes to, for whatever reaches it: 1, then 2, then the request on the memory that the lent buffers hold.
--- proofs/Entered.antt: `wellFormed b` is true exactly where some valid memory encodes to b, and that memory is `view b`.
+-- proofs/Served.antt: `wellFormed b` is true exactly where some valid memory encodes to b, and that memory is `view b`.
 use mathlib.Core.Path.{_≡_}
 use mathlib.Core.Bool.{Bool, not}
 use Rattle.definition.specs.Notation.{if_then_else_, _when_, _or_}
@@ -20,13 +20,13 @@ abbrev pub encoded : definition.Answer × Memory → definition.Answer × Buffer
 encoded outcome = (outcome .0, encode (outcome .1))
 
 -- the answer and the buffers afterwards; `bad` says that a field falls under 2
-unfoldable pub entered : Bool → (Memory → definition.Answer × Memory) → Buffers → definition.Answer × Buffers
-entered bad request b =
+unfoldable pub served : Bool → (Memory → definition.Answer × Memory) → Buffers → definition.Answer × Buffers
+served bad request b =
     unlessRefused (notWellFormed when not (wellFormed b) or malformed when bad) b (encoded (request (view b)))
 
 -- an entry's promise: it answers r and leaves b′; what it gives where it is accepted
-abbrev pub Entered : Gives → Bool → (Memory → definition.Answer × Memory) → Buffers → Answer → Buffers → Type 0
-Entered gives bad request b r b′ = _≡_ {A = Answer × Buffers} (r, b′) (replied gives (entered bad request b))
+abbrev pub Served : Gives → Bool → (Memory → definition.Answer × Memory) → Buffers → Answer → Buffers → Type 0
+Served gives bad request b r b′ = _≡_ {A = Answer × Buffers} (r, b′) (replied gives (served bad request b))
 
 -- what a load gives, on lent buffers: the part of their words where the pointer points (proofs/Loads.antt: it holds the definition's loaded words)
 abbrev pub givenBy : MemoryAccess → Buffers → Gives
@@ -37,5 +37,5 @@ unfoldable pub malformedAnswer : Buffers → Answer
 malformedAnswer b = if wellFormed b then Refused malformed else Refused notWellFormed
 
 -- what a leak check answers: 1, or the lowest leak, or none. It changes nothing
-unfoldable pub leakEntered : Buffers → Answer
-leakEntered b = if wellFormed b then leakReply (view b) else Refused notWellFormed
+unfoldable pub leakServed : Buffers → Answer
+leakServed b = if wellFormed b then leakReply (view b) else Refused notWellFormed

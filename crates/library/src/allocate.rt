@@ -5,7 +5,7 @@ ghost use Rattle.answer.specs.Answer.Gives.{ThePointer};
 ghost use Rattle.tables.specs.Decoding.{allocationKind};
 ghost use Rattle.tables.specs.Held.{buffers};
 ghost use Rattle.library.specs.Fields.{badAllocation};
-ghost use Rattle.library.specs.Entry.{Entered};
+ghost use Rattle.library.specs.Entry.{Served};
 
 // Create a new allocation at a proposed address. The kinds: "0 Stack, 1 Heap, 2 Global, 3 Function, 4 VTable"; the alignment is 2 to the exponent.
 pub fn allocate(
@@ -19,7 +19,7 @@ pub fn allocate(
     exponent: u64,
     address: u64,
 ) -> Answer
-    ensures { λ r. ⌜ Entered ThePointer (badAllocation kind exponent) (definition.allocate (allocationKind kind) len exponent address)
+    ensures { λ r. ⌜ Served ThePointer (badAllocation kind exponent) (definition.allocate (allocationKind kind) len exponent address)
         (buffers (now (allocs .entry)) (now (parents .entry)) (now (protectors .entry)) (now (words .entry)) (now (codes .entry)))
         r
         (buffers (now (allocs .exit)) (now (parents .entry)) (now (protectors .entry)) (now (words .entry)) (now (codes .exit))) ⌝ }

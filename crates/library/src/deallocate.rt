@@ -7,7 +7,7 @@ ghost use Rattle.answer.specs.Answer.Gives.{Nothing};
 ghost use Rattle.tables.specs.Decoding.{allocationKind};
 ghost use Rattle.tables.specs.Held.{buffers};
 ghost use Rattle.library.specs.Fields.{badAllocation};
-ghost use Rattle.library.specs.Entry.{Entered};
+ghost use Rattle.library.specs.Entry.{Served};
 
 // Remove an allocation: kind, size and alignment are those that it was made with.
 pub fn deallocate(
@@ -21,7 +21,7 @@ pub fn deallocate(
     len: u64,
     exponent: u64,
 ) -> Answer
-    ensures { λ r. ⌜ Entered Nothing (badAllocation kind exponent) (definition.deallocate (thinPointerOf p) (allocationKind kind) len exponent)
+    ensures { λ r. ⌜ Served Nothing (badAllocation kind exponent) (definition.deallocate (thinPointerOf p) (allocationKind kind) len exponent)
         (buffers (now (allocs .entry)) (now (parents .entry)) (now (protectors .entry)) (now (words .entry)) (now (codes .entry)))
         r
         (buffers (now (allocs .exit)) (now (parents .entry)) (now (protectors .entry)) (now (words .entry)) (now (codes .exit))) ⌝ }

@@ -6,7 +6,7 @@ ghost use Rattle.definition.specs.Memory as definition;
 ghost use Rattle.pointer.specs.Pointer.{thinPointerOf, back, ahead};
 ghost use Rattle.answer.specs.Answer.Gives.{Nothing};
 ghost use Rattle.tables.specs.Held.{buffers};
-ghost use Rattle.library.specs.Entry.{Entered};
+ghost use Rattle.library.specs.Entry.{Served};
 
 // Test whether the given pointer is dereferenceable for the given size.
 pub fn dereferenceable(
@@ -18,7 +18,7 @@ pub fn dereferenceable(
     p: ThinPointer,
     len: u64,
 ) -> Answer
-    ensures { λ r. ⌜ Entered Nothing false (definition.dereferenceable (thinPointerOf p) 0 len)
+    ensures { λ r. ⌜ Served Nothing false (definition.dereferenceable (thinPointerOf p) 0 len)
         (buffers (now (allocs .entry)) (now (parents .entry)) (now (protectors .entry)) (now (words .entry)) (now (codes .entry)))
         r
         (buffers (now (allocs .entry)) (now (parents .entry)) (now (protectors .entry)) (now (words .entry)) (now (codes .entry))) ⌝ }
@@ -39,7 +39,7 @@ pub fn signed_dereferenceable(
     p: ThinPointer,
     len: i64,
 ) -> Answer
-    ensures { λ r. ⌜ Entered Nothing false (definition.dereferenceable (thinPointerOf p) (back len) (ahead len))
+    ensures { λ r. ⌜ Served Nothing false (definition.dereferenceable (thinPointerOf p) (back len) (ahead len))
         (buffers (now (allocs .entry)) (now (parents .entry)) (now (protectors .entry)) (now (words .entry)) (now (codes .entry)))
         r
         (buffers (now (allocs .entry)) (now (parents .entry)) (now (protectors .entry)) (now (words .entry)) (now (codes .entry))) ⌝ }

@@ -2,7 +2,7 @@
 use answer::Answer;
 ghost use mathlib.Core.Path.{_≡_};
 ghost use Rattle.tables.specs.Held.{buffers};
-ghost use Rattle.library.specs.Entry.{leakEntered};
+ghost use Rattle.library.specs.Entry.{leakServed};
 
 // Check if there are any memory leaks; the answer names the lowest.
 pub fn leak_check(
@@ -12,7 +12,7 @@ pub fn leak_check(
     words: &[u32],
     codes: &[u8],
 ) -> Answer
-    ensures { λ r. ⌜ r ≡ leakEntered (buffers (now (allocs .entry)) (now (parents .entry)) (now (protectors .entry)) (now (words .entry)) (now (codes .entry))) ⌝ }
+    ensures { λ r. ⌜ r ≡ leakServed (buffers (now (allocs .entry)) (now (parents .entry)) (now (protectors .entry)) (now (words .entry)) (now (codes .entry))) ⌝ }
 {
     if !wellformed::well_formed(allocs, parents, protectors, words, codes) {
         return Answer::Refused(1);

@@ -7,7 +7,7 @@ ghost use Rattle.answer.specs.Answer.{HandsOut};
 ghost use Rattle.tables.specs.Held.{buffers};
 ghost use Rattle.memory.specs.Access.{loadOf};
 ghost use Rattle.library.specs.Fields.{badExponent};
-ghost use Rattle.library.specs.Entry.{Entered, givenBy};
+ghost use Rattle.library.specs.Entry.{Served, givenBy};
 
 // The loaded words are a part of the lent data, which the answer names: it starts at the pointer's offset behind the allocation's words, and has
 // the length asked for. `load_view` hands it out.
@@ -21,7 +21,7 @@ pub fn load(
     len: u64,
     exponent: u64,
 ) -> Answer
-    ensures { λ r. ⌜ Entered
+    ensures { λ r. ⌜ Served
         (givenBy (loadOf (thinPointerOf p) len exponent)
         (buffers (now (allocs .entry)) (now (parents .entry)) (now (protectors .entry)) (now (words .entry)) (now (codes .entry))))
         (badExponent exponent) (performAccess (loadOf (thinPointerOf p) len exponent))

@@ -7,7 +7,7 @@ ghost use Rattle.answer.specs.Answer.Gives.{Nothing};
 ghost use Rattle.tables.specs.Held.{buffers};
 ghost use Rattle.memory.specs.Access.{storeOf};
 ghost use Rattle.library.specs.Fields.{badStore};
-ghost use Rattle.library.specs.Entry.{Entered};
+ghost use Rattle.library.specs.Entry.{Served};
 
 // Write some bytes to memory; the length is theirs.
 pub fn store(
@@ -20,7 +20,7 @@ pub fn store(
     bytes: &[u32],
     exponent: u64,
 ) -> Answer
-    ensures { λ r. ⌜ Entered Nothing (badStore (now (bytes .entry)) exponent) (performAccess (storeOf (thinPointerOf p) (now (bytes .entry)) exponent))
+    ensures { λ r. ⌜ Served Nothing (badStore (now (bytes .entry)) exponent) (performAccess (storeOf (thinPointerOf p) (now (bytes .entry)) exponent))
         (buffers (now (allocs .entry)) (now (parents .entry)) (now (protectors .entry)) (now (words .entry)) (now (codes .entry)))
         r
         (buffers (now (allocs .entry)) (now (parents .entry)) (now (protectors .entry)) (now (words .exit)) (now (codes .exit))) ⌝ }

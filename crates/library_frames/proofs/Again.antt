@@ -30,9 +30,9 @@ use Rattle.frames.specs.List.{entryOf, firstOf}
 use Rattle.retag.proofs.Requests.{without-node-same}
 use Rattle.library_frames.specs.declared.retags.RetagSettings.{RetagSettings}
 use Rattle.library_frames.specs.Settings.{retagOf, fieldsOf, badFields}
-use Rattle.library_frames.specs.Retag.{Lent, isLent, stateOf, left, entered}
+use Rattle.library_frames.specs.Retag.{Lent, isLent, stateOf, left, served}
 use Rattle.library_frames.proofs.Performed.{by-cases}
-use Rattle.library_frames.proofs.Lent.{lent-places, lent-count, lent-formed, first-length, entered-bad, entered-good}
+use Rattle.library_frames.proofs.Lent.{lent-places, lent-count, lent-formed, first-length, served-bad, served-good}
 
 -- not refused with 1
 abbrev pub Passes : Lent → Type 0
@@ -112,9 +112,9 @@ module _ (settings : RetagSettings) (p : ThinPointer) (layout : List ℕ) (l : L
       )
       (complete m (encode m) (record { valid = left-valid; equal = refl }))
 
-  pub passes-again : Passes (entered (badFields settings layout) (retagOf settings p layout) l .1)
+  pub passes-again : Passes (served (badFields settings layout) (retagOf settings p layout) l .1)
   passes-again = by (badFields settings layout) refl
     where
-      by : (bad : Bool) → badFields settings layout ≡ bad → Passes (entered (badFields settings layout) (retagOf settings p layout) l .1)
-      by true e = subst⁻¹ (λ (o : Answer × Lent). Passes (o .1)) (entered-bad (badFields settings layout) (retagOf settings p layout) l passes e) passes
-      by false e = subst⁻¹ (λ (o : Answer × Lent). Passes (o .1)) (entered-good (badFields settings layout) (retagOf settings p layout) l passes e) left-passes
+      by : (bad : Bool) → badFields settings layout ≡ bad → Passes (served (badFields settings layout) (retagOf settings p layout) l .1)
+      by true e = subst⁻¹ (λ (o : Answer × Lent). Passes (o .1)) (served-bad (badFields settings layout) (retagOf settings p layout) l passes e) passes
+      by false e = subst⁻¹ (λ (o : Answer × Lent). Passes (o .1)) (served-good (badFields settings layout) (retagOf settings p layout) l passes e) left-passes

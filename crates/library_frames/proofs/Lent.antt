@@ -1,4 +1,4 @@
--- What `entered` is, case by case, and a law for each way the entry returns.
+-- What `served` is, case by case, and a law for each way the entry returns.
 use Prim.Native.Nat.{ℕ, zero, suc, _≤_}
 use mathlib.Core.Path.{_≡_, refl, sym, ap, subst⁻¹, _∙_}
 use mathlib.Core.Bool.{Bool, true, false, _&&_}
@@ -39,7 +39,7 @@ use Rattle.parts.proofs.Lent.{holds-marked}
 use Rattle.library_frames.specs.declared.retags.RetagSettings.{RetagSettings}
 use Rattle.library_frames.specs.declared.retags.RetagOutcome.{RetagOutcome}
 use Rattle.library_frames.specs.Settings.{retagOf, badFields, protects}
-use Rattle.library_frames.specs.Retag.{Lent, lent, isLent, stateOf, left, entered, Entered}
+use Rattle.library_frames.specs.Retag.{Lent, lent, isLent, stateOf, left, served, Served}
 use Rattle.library_frames.specs.Outcome.{Performed, enteredNode, outcomeOf, malformedOutcome}
 use Rattle.library_frames.proofs.Performed.{framesEntered, perform-words, perform-frames}
 
@@ -83,29 +83,29 @@ module _ (len count : ℕ) (b : Buffers) (fine : isLent len count b ≡ true) wh
   pub lent-nodes : HoldsMarked (view b) (b .allocs) (b .parents) (b .protectors) (b .codes)
   lent-nodes = holds-marked (sound b lent-formed)
 
--- ---- what `entered` is
+-- ---- what `served` is
 module _ (bad : Bool) (request : State → definition.Answer × State) (l : Lent) where
   -- other than 64 places, more than 64 entries, or buffers that no valid memory encodes to
-  pub entered-none : isLent (length (l .places)) (l .count) (l .memory) ≡ false → entered bad request l ≡ (definition.refusedWith 1, l)
-  unfolding entered
-  entered-none e = rw e
+  pub served-none : isLent (length (l .places)) (l .count) (l .memory) ≡ false → served bad request l ≡ (definition.refusedWith 1, l)
+  unfolding served
+  served-none e = rw e
 
   module _ (fine : isLent (length (l .places)) (l .count) (l .memory) ≡ true) where
-    pub entered-bad : bad ≡ true → entered bad request l ≡ (definition.refusedWith 2, l)
-    unfolding entered
-    entered-bad e = rw (fine, e)
+    pub served-bad : bad ≡ true → served bad request l ≡ (definition.refusedWith 2, l)
+    unfolding served
+    served-bad e = rw (fine, e)
 
-    pub entered-good : bad ≡ false → entered bad request l ≡ (request (stateOf l) .0, left l (request (stateOf l) .1))
-    unfolding entered
-    entered-good e = rw (fine, e)
+    pub served-good : bad ≡ false → served bad request l ≡ (request (stateOf l) .0, left l (request (stateOf l) .1))
+    unfolding served
+    served-good e = rw (fine, e)
 
 -- the request of a memory that they hold
-pub entered-held : (request : State → definition.Answer × State) (l : Lent) (m : Memory) → Holds m (l .memory) → length (l .places) ≡ 64 → l .count ≤ 64
-    → entered false request l
+pub served-held : (request : State → definition.Answer × State) (l : Lent) (m : Memory) → Holds m (l .memory) → length (l .places) ≡ 64 → l .count ≤ 64
+    → served false request l
     ≡ (let outcome = request (record { memory = m; frames = Open (firstOf (l .count) (l .places)) ∷ [] }) in (outcome .0, left l (outcome .1)))
-entered-held request l m h places few =
+served-held request l m h places few =
     let fine : isLent (length (l .places)) (l .count) (l .memory) ≡ true = rw (eq-eqb _ 64 places, le-leb _ 64 few) (complete m (l .memory) h) in
-    entered-good false request l fine refl
+    served-good false request l fine refl
     ∙ ap (λ (x : Memory). let outcome = request (record { memory = x; frames = Open (firstOf (l .count) (l .places)) ∷ [] }) in (outcome .0, left l (outcome .1)))
     (view-held m (l .memory) h)
 
@@ -125,20 +125,20 @@ module _ (len count : ℕ) (b : Buffers) where
     passes e = ap (λ (n : ℕ). isLent n count b) whole ∙ e
 
   module _ (bad : Bool) (request : State → definition.Answer × State) (places : List Entry) (whole : length places ≡ len) where
-    refused-one : isLent len count b ≡ false → _≡_ {A = Answer × Lent} (Refused 1, lent (set places len noEntry) count b) (replied ThePointer (entered bad request (lent places count b)))
-    refused-one e = refused-same 1 (λ z. omega arith) places whole ∙ ap (replied ThePointer) (sym (entered-none bad request (lent places count b) (passes places whole e)))
+    refused-one : isLent len count b ≡ false → _≡_ {A = Answer × Lent} (Refused 1, lent (set places len noEntry) count b) (replied ThePointer (served bad request (lent places count b)))
+    refused-one e = refused-same 1 (λ z. omega arith) places whole ∙ ap (replied ThePointer) (sym (served-none bad request (lent places count b) (passes places whole e)))
 
-    refused-two : isLent len count b ≡ true → bad ≡ true → _≡_ {A = Answer × Lent} (Refused 2, lent (set places len noEntry) count b) (replied ThePointer (entered bad request (lent places count b)))
-    refused-two e f = refused-same 2 (λ z. omega arith) places whole ∙ ap (replied ThePointer) (sym (entered-bad bad request (lent places count b) (passes places whole e) f))
+    refused-two : isLent len count b ≡ true → bad ≡ true → _≡_ {A = Answer × Lent} (Refused 2, lent (set places len noEntry) count b) (replied ThePointer (served bad request (lent places count b)))
+    refused-two e f = refused-same 2 (λ z. omega arith) places whole ∙ ap (replied ThePointer) (sym (served-bad bad request (lent places count b) (passes places whole e) f))
 
   -- where a field falls under 2
-  pub malformed-entered : (request : State → definition.Answer × State) (places : List Entry) → length places ≡ len
+  pub malformed-served : (request : State → definition.Answer × State) (places : List Entry) → length places ≡ len
       → let r = malformedOutcome len count b in
-      _≡_ {A = Answer × Lent} (r .answer .answer, lent (set places (r .at) (r .entry)) (r .answer .count) b) (replied ThePointer (entered true request (lent places count b)))
-  malformed-entered request places whole = by (isLent len count b) refl
+      _≡_ {A = Answer × Lent} (r .answer .answer, lent (set places (r .at) (r .entry)) (r .answer .count) b) (replied ThePointer (served true request (lent places count b)))
+  malformed-served request places whole = by (isLent len count b) refl
     where
       by : (t : Bool) → isLent len count b ≡ t
-          → _≡_ {A = Answer × Lent} ((if t then Refused 2 else Refused 1), lent (set places len noEntry) count b) (replied ThePointer (entered true request (lent places count b)))
+          → _≡_ {A = Answer × Lent} ((if t then Refused 2 else Refused 1), lent (set places len noEntry) count b) (replied ThePointer (served true request (lent places count b)))
       by true e = refused-two true request places whole e refl
       by false e = refused-one true request places whole e
 
@@ -146,7 +146,7 @@ module _ (len count : ℕ) (b : Buffers) where
 module _ (settings : RetagSettings) (p : definition.ThinPointer) (layout : List ℕ) (len count : ℕ) (b : Buffers) where
   -- the entry's promise of an outcome of the code, which leaves b′
   abbrev Promised : RetagOutcome → Buffers → Type 0
-  Promised r b′ = (places : List Entry) → length places ≡ len → Entered settings p layout (lent places count b) (r .answer) (set places (r .at) (r .entry)) b′
+  Promised r b′ = (places : List Entry) → length places ≡ len → Served settings p layout (lent places count b) (r .answer) (set places (r .at) (r .entry)) b′
 
   pub not-lent : isLent len count b ≡ false → {r : RetagOutcome} → r ≡ outcomeOf (Refused 1) None count len → Promised r b
   not-lent e is =
@@ -208,13 +208,13 @@ module _ (settings : RetagSettings) (p : definition.ThinPointer) (layout : List 
             let counted = left-count answer node ∙ ap (λ (fs : List Frame). length (entries (getD fs 0 Closed))) left-frames in
             λ i. record { places = placed i; count = counted i; memory = left-memory i }
 
-        pub performed : Entered settings p layout (lent places count b) (outcomeOf answer node count len .answer)
+        pub performed : Served settings p layout (lent places count b) (outcomeOf answer node count len .answer)
             (set places (outcomeOf answer node count len .at) (outcomeOf answer node count len .entry)) (buffers A P R (b .words) C)
         unfolding replied
         performed =
             let answered = left-answer answer node ∙ k .reply in
             (λ i. (answered i, all-left i))
-            ∙ ap (replied ThePointer) (sym (entered-good (badFields settings layout) (retagOf settings p layout) (lent places count b) (passes len count b places whole fine) good))
+            ∙ ap (replied ThePointer) (sym (served-good (badFields settings layout) (retagOf settings p layout) (lent places count b) (passes len count b places whole fine) good))
 
     pub retagged : badFields settings layout ≡ false → {answer : Answer} {A P R C : List ℕ}
         → ((s : State) → HoldsMarked (s .memory) (b .allocs) (b .parents) (b .protectors) (b .codes) → count ≡ length (entries (frameAt s 0))

@@ -52,13 +52,13 @@ left l s =
     }
 
 -- the answer, and what is lent afterwards; `bad` says that a field falls under 2
-unfoldable pub entered : Bool → (State → definition.Answer × State) → Lent → definition.Answer × Lent
-entered bad request l =
+unfoldable pub served : Bool → (State → definition.Answer × State) → Lent → definition.Answer × Lent
+served bad request l =
     let outcome = request (stateOf l) in
     unlessRefused (notWellFormed when not (isLent (length (l .places)) (l .count) (l .memory)) or malformed when bad) l
     (outcome .0, left l (outcome .1))
 
 -- the entry's promise: it answers r, with the number of entries, and leaves these places and buffers
-abbrev pub Entered : RetagSettings → ThinPointer → List ℕ → Lent → RetagAnswer → List Entry → Buffers → Type 0
-Entered settings p layout l r places b =
-    _≡_ {A = Answer × Lent} (r .answer, lent places (r .count) b) (replied ThePointer (entered (badFields settings layout) (retagOf settings p layout) l))
+abbrev pub Served : RetagSettings → ThinPointer → List ℕ → Lent → RetagAnswer → List Entry → Buffers → Type 0
+Served settings p layout l r places b =
+    _≡_ {A = Answer × Lent} (r .answer, lent places (r .count) b) (replied ThePointer (served (badFields settings layout) (retagOf settings p layout) l))

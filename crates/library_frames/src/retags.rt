@@ -26,7 +26,7 @@ ghost use Rattle.tables.specs.Held.{buffers};
 ghost use Rattle.retag.specs.Settings.{settingsOf};
 ghost use Rattle.parts.specs.Trees.{HoldsMarked};
 ghost use Rattle.library_frames.specs.Settings.{requestOf, retagOf, fieldsOf, badFields, protects};
-ghost use Rattle.library_frames.specs.Retag.{lent, isLent, Entered};
+ghost use Rattle.library_frames.specs.Retag.{lent, isLent, Served};
 ghost use Rattle.library_frames.specs.Outcome.{Performed, enteredNode, outcomeOf, malformedOutcome};
 
 // What is retagged: extra (0 shared reference, 1 mutable reference, 2 box, 3 raw, 4 function, 5 vtable pointer), and the flags. They are read
@@ -268,7 +268,7 @@ pub fn retag_list(
     settings: RetagSettings,
 ) -> RetagOutcome
     ensures { λ r. ⌜ ((places : List Entry) → length places ≡ len
-        → Entered settings (thinPointerOf p) (now (layout .entry))
+        → Served settings (thinPointerOf p) (now (layout .entry))
         (lent places count (buffers (now (allocs .entry)) (now (parents .entry)) (now (protectors .entry)) (now (words .entry)) (now (codes .entry))))
         (r .answer) (set places (r .at) (r .entry))
         (buffers (now (allocs .exit)) (now (parents .exit)) (now (protectors .exit)) (now (words .entry)) (now (codes .exit)))) ⌝ }
@@ -307,7 +307,7 @@ pub fn retag(
     p: ThinPointer,
     settings: RetagSettings,
 ) -> RetagAnswer
-    ensures { λ r. ⌜ Entered settings (thinPointerOf p) (now (layout .entry))
+    ensures { λ r. ⌜ Served settings (thinPointerOf p) (now (layout .entry))
         (lent (now (entries .entry)) count (buffers (now (allocs .entry)) (now (parents .entry)) (now (protectors .entry)) (now (words .entry)) (now (codes .entry))))
         r (now (entries .exit))
         (buffers (now (allocs .exit)) (now (parents .exit)) (now (protectors .exit)) (now (words .entry)) (now (codes .exit))) ⌝ }

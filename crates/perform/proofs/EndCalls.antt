@@ -17,13 +17,13 @@ use Rattle.frames.specs.Buffer.{HoldsFrames, entriesIn, entriesAt}
 use Rattle.end_call.specs.Release.{AllMade, afterEndCall, Ended}
 use Rattle.end_call.proofs.EndCall.{end-call-encode, ended-answers, end-call-answer, end-call-memory, accepted-frames, refused-frames}
 use Rattle.perform.specs.Performed.{LeftTrees}
-use Rattle.state.specs.State.{HoldsTrees}
+use Rattle.state.specs.State.{HoldsTreesAndFrames}
 use Rattle.state.proofs.States.{frames-held, all-held, trees-of}
 
-module _ {s : State} {A P R C F : List ℕ} (h : HoldsTrees s A P R C F) (f : ℕ) (words : List ℕ) (is : entriesIn words ≡ entriesAt (s .frames) f) where
+module _ {s : State} {A P R C F : List ℕ} (h : HoldsTreesAndFrames s A P R C F) (f : ℕ) (words : List ℕ) (is : entriesIn words ≡ entriesAt (s .frames) f) where
   -- every entry of a frame was made
-  pub words-made : AllMade (s .memory) (entriesIn words)
-  words-made = subst⁻¹ (AllMade (s .memory)) is (all-getD (ValidFrame (s .memory)) (s .frames) f Closed (h .valid .frames) (record { room = omega arith; made = tt }) .made)
+  pub numbers-made : AllMade (s .memory) (entriesIn words)
+  numbers-made = subst⁻¹ (AllMade (s .memory)) is (all-getD (ValidFrame (s .memory)) (s .frames) f Closed (h .valid .frames) (record { room = omega arith; made = tt }) .made)
 
   module _ {r : Answer} {R′ C′ : List ℕ} (k : Ended (s .memory) (entriesIn words) r R′ C′) where
     ended : Ended (s .memory) (entries (frameAt s f)) r R′ C′

@@ -30,7 +30,7 @@ use Rattle.request.specs.Fields.{kindOf, requestOf, frameBy, frameUsed, openIn}
 use Rattle.request.proofs.Matches.{Among}
 use Rattle.request.proofs.WellFormed.{new-call-frame, end-call-frame}
 use Rattle.perform.specs.Performed.{Formed, outcomeOf, isInMemory, Asked, LeftMemory, Left, LeftTrees, LeftFrames}
-use Rattle.state.specs.State.{HoldsState, HoldsTrees}
+use Rattle.state.specs.State.{HoldsState, HoldsTreesAndFrames}
 use Rattle.state.proofs.States.{trees-of}
 
 -- ---- the kinds that need no frame
@@ -82,7 +82,7 @@ module _ {s : State} {A P R W C F : List ℕ} (h : HoldsState s (buffers A P R W
   memory-held : Holds (s .memory) (buffers A P R W C)
   memory-held = record { valid = h .valid .memory; equal = h .memory }
 
-  pub trees : HoldsTrees s A P R C F
+  pub trees : HoldsTreesAndFrames s A P R C F
   trees = record { valid = h .valid; trees = trees-of (s .memory) (h .memory); frames = h .frames }
 
   pub frames : HoldsFrames (s .frames) F

@@ -36,7 +36,7 @@ use Rattle.retag.specs.declared.ReborrowSettings as code
 use Rattle.retag.specs.Retag.{entered, Retagged}
 use Rattle.retag.proofs.Requests.{retag-frames, without-node-same, mask-back}
 use Rattle.perform.specs.Performed.{LeftTrees}
-use Rattle.state.specs.State.{HoldsTrees}
+use Rattle.state.specs.State.{HoldsTreesAndFrames}
 use Rattle.perform.specs.Entered.{CanEnter}
 use Rattle.state.proofs.States.{frames-held}
 
@@ -50,7 +50,7 @@ module _ (protected : Protected) (f : ℕ) (fs : List Frame) where
   is-entered e child = ap (λ (b : Bool). if b then set fs f (Open (entriesAt fs f ++ (child ∷ []))) else fs) e
 
 -- ---- a retag that has a mask
-module _ {s : State} {A P R C F : List ℕ} (h : HoldsTrees s A P R C F) (settings : code.ReborrowSettings) (mask : FreezeMask) (f : ℕ) (inside : f < 32) (p : ThinPointer) where
+module _ {s : State} {A P R C F : List ℕ} (h : HoldsTreesAndFrames s A P R C F) (settings : code.ReborrowSettings) (mask : FreezeMask) (f : ℕ) (inside : f < 32) (p : ThinPointer) where
   abbrev w : ReborrowSettings
   w = settingsOf settings mask
 
@@ -103,7 +103,7 @@ unfolding maskBytes
 mask-read has = ap maskOf (has .front) ∙ mask-back maskByte refl (λ e. omega (arith, e)) (has .mask)
 
 -- ---- the cases
-module _ {s : State} {A P R C F : List ℕ} (h : HoldsTrees s A P R C F) where
+module _ {s : State} {A P R C F : List ℕ} (h : HoldsTreesAndFrames s A P R C F) where
   -- nothing changes
   pub left-same : {o : definition.Answer × State} {r : Answer} → ((words : List ℕ) → answerOf r words ≡ o .0) → o .1 ≡ s → LeftTrees o r A P R C F
   left-same {o} {r} f e = record {

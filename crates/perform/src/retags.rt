@@ -25,7 +25,7 @@ ghost use Rattle.request.specs.Fields.{requestOf};
 ghost use Rattle.retag.specs.Settings.{maskOf, settingsOf};
 ghost use Rattle.retag.specs.Retag.{entered};
 ghost use Rattle.perform.specs.Performed.{LeftTrees};
-ghost use Rattle.state.specs.State.{HoldsTrees};
+ghost use Rattle.state.specs.State.{HoldsTreesAndFrames};
 ghost use Rattle.perform.specs.Entered.{CanEnter};
 
 // What a request says of its reborrow.
@@ -95,9 +95,9 @@ fn reborrow_entered(
     len: usize,
     q: Request,
 ) -> Answer
-    requires { ⌜ ((s : State) × HoldsTrees s (now allocs) (now parents) (now protectors) (now codes) (now frames)) ⌝ }
+    requires { ⌜ ((s : State) × HoldsTreesAndFrames s (now allocs) (now parents) (now protectors) (now codes) (now frames)) ⌝ }
     requires { ⌜ len ≤ length (now mask) ⌝ }
-    ensures { λ r. ⌜ ((s : State) (ws : List ℕ) → HoldsTrees s (now (allocs .entry)) (now (parents .entry)) (now (protectors .entry)) (now (codes .entry)) (now (frames .entry))
+    ensures { λ r. ⌜ ((s : State) (ws : List ℕ) → HoldsTreesAndFrames s (now (allocs .entry)) (now (parents .entry)) (now (protectors .entry)) (now (codes .entry)) (now (frames .entry))
         → LeftTrees (reborrows.retag (definition.settingsOf (requestOf q ws) (maskOf (take len (now (mask .entry))))) (frameNumber (requestOf q ws)) (pointer (requestOf q ws)) s)
         r (now (allocs .exit)) (now (parents .exit)) (now (protectors .exit)) (now (codes .exit)) (now (frames .exit))) ⌝ }
 {
@@ -121,8 +121,8 @@ fn retag_with_mask(
     q: Request,
     following: &[u32],
 ) -> Answer
-    requires { ⌜ ((s : State) × HoldsTrees s (now allocs) (now parents) (now protectors) (now codes) (now frames)) ⌝ }
-    ensures { λ r. ⌜ ((s : State) → HoldsTrees s (now (allocs .entry)) (now (parents .entry)) (now (protectors .entry)) (now (codes .entry)) (now (frames .entry))
+    requires { ⌜ ((s : State) × HoldsTreesAndFrames s (now allocs) (now parents) (now protectors) (now codes) (now frames)) ⌝ }
+    ensures { λ r. ⌜ ((s : State) → HoldsTreesAndFrames s (now (allocs .entry)) (now (parents .entry)) (now (protectors .entry)) (now (codes .entry)) (now (frames .entry))
         → LeftTrees (retagWithMask (freezeMask (now (following .entry))) s (requestOf q (now (following .entry))))
         r (now (allocs .exit)) (now (parents .exit)) (now (protectors .exit)) (now (codes .exit)) (now (frames .exit))) ⌝ }
 {
@@ -153,8 +153,8 @@ pub(crate) fn retag(
     q: Request,
     following: &[u32],
 ) -> Answer
-    requires { ⌜ ((s : State) × HoldsTrees s (now allocs) (now parents) (now protectors) (now codes) (now frames)) ⌝ }
-    ensures { λ r. ⌜ ((s : State) → HoldsTrees s (now (allocs .entry)) (now (parents .entry)) (now (protectors .entry)) (now (codes .entry)) (now (frames .entry))
+    requires { ⌜ ((s : State) × HoldsTreesAndFrames s (now allocs) (now parents) (now protectors) (now codes) (now frames)) ⌝ }
+    ensures { λ r. ⌜ ((s : State) → HoldsTreesAndFrames s (now (allocs .entry)) (now (parents .entry)) (now (protectors .entry)) (now (codes .entry)) (now (frames .entry))
         → LeftTrees (performRetag s (requestOf q (now (following .entry))))
         r (now (allocs .exit)) (now (parents .exit)) (now (protectors .exit)) (now (codes .exit)) (now (frames .exit))) ⌝ }
 {

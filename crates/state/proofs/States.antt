@@ -11,10 +11,10 @@ use Rattle.frames.specs.Buffer.{HoldsFrames}
 use Rattle.frames.proofs.FromValid.{valid-holds}
 use Rattle.parts.specs.Trees.{HoldsMarked}
 use Rattle.parts.proofs.Lent.{records-of}
-use Rattle.state.specs.State.{HoldsTrees}
+use Rattle.state.specs.State.{HoldsTreesAndFrames}
 
 -- ---- trees and frames
-module _ {s : State} {A P R C F : List ℕ} (h : HoldsTrees s A P R C F) where
+module _ {s : State} {A P R C F : List ℕ} (h : HoldsTreesAndFrames s A P R C F) where
   pub frames-held : HoldsFrames (s .frames) F
   frames-held = valid-holds s F (h .valid) (h .frames)
 

@@ -15,7 +15,7 @@ pub record HoldsState (s : State) (b : Buffers) (F : List ℕ) : Type 0 where
   pub frames : F ≡ framesHeld (s .frames)
 
 -- all of it but the words
-pub record HoldsTrees (s : State) (A P R C F : List ℕ) : Type 0 where
+pub record HoldsTreesAndFrames (s : State) (A P R C F : List ℕ) : Type 0 where
   pub valid : ValidState s
   pub trees : Trees (s .memory) A P R C
   pub frames : F ≡ framesHeld (s .frames)

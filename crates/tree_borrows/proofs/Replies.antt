@@ -11,8 +11,8 @@ use Rattle.answer.specs.Answer.Gives.{ThePointer}
 use Rattle.answer.specs.declared.Answer.{Answer}
 use Rattle.tables.specs.Encoding.{Buffers}
 use Rattle.frames.specs.declared.Entry.{Entry}
-use Rattle.library.specs.Entry.{entered, Entered, malformedAnswer}
-use Rattle.library.proofs.Entered.{malformed-entered}
+use Rattle.library.specs.Entry.{served, Served, malformedAnswer}
+use Rattle.library.proofs.Served.{malformed-served}
 use Rattle.library_frames.specs.Retag as retag
 use Rattle.library_frames.specs.Settings.{badFields, retagOf}
 use Rattle.library_frames.specs.Outcome.{malformedOutcome}
@@ -43,12 +43,12 @@ or-false more e = ap (λ (t : Bool). t || more) e
 -- the fields: `all` is the test of all of them
 module _ (gives : Gives) (all : Bool) (request : Memory → definition.Answer × Memory) (b : Buffers) where
   -- one that only C has falls under 2
-  pub bad-place : all ≡ true → {a : Answer} {r : Reply} → r ≡ replyOf a → a ≡ malformedAnswer b → Replied r b (replied gives (entered all request b))
-  bad-place e {a} q f = rw e (in-numbers (q ∙ ap replyOf f) (malformed-entered gives request b))
+  pub bad-place : all ≡ true → {a : Answer} {r : Reply} → r ≡ replyOf a → a ≡ malformedAnswer b → Replied r b (replied gives (served all request b))
+  bad-place e {a} q f = rw e (in-numbers (q ∙ ap replyOf f) (malformed-served gives request b))
 
   -- none does
-  pub good-place : (bad : Bool) → all ≡ bad → {a : Answer} {r : Reply} {b′ : Buffers} → r ≡ replyOf a → Entered gives bad request b a b′
-      → Replied r b′ (replied gives (entered all request b))
+  pub good-place : (bad : Bool) → all ≡ bad → {a : Answer} {r : Reply} {b′ : Buffers} → r ≡ replyOf a → Served gives bad request b a b′
+      → Replied r b′ (replied gives (served all request b))
   good-place bad e q k = rw e (in-numbers q k)
 
 -- ---- a retag
@@ -60,10 +60,10 @@ module _ (settings : Settings) (p : Place) (layout : List ℕ) (len count : ℕ)
   pub bad-retag : badPlace p || badFlags settings ≡ true → o ≡ malformedOutcome len count b → Promised made b
   bad-retag e f =
       rw (is, f, e)
-      (ap (λ (x : Answer × retag.Lent). (replyOf (x .0), x .1)) (retags.malformed-entered len count b (retagOf (settingsOf settings) (pointerOf p) layout) places whole))
+      (ap (λ (x : Answer × retag.Lent). (replyOf (x .0), x .1)) (retags.malformed-served len count b (retagOf (settingsOf settings) (pointerOf p) layout) places whole))
 
   pub good-retag : badPlace p || badFlags settings ≡ false → {b′ : Buffers}
-      → retag.Entered (settingsOf settings) (pointerOf p) layout (retag.lent places count b) (o .answer) (set places (o .at) (o .entry)) b′ → Promised made b′
+      → retag.Served (settingsOf settings) (pointerOf p) layout (retag.lent places count b) (o .answer) (set places (o .at) (o .entry)) b′ → Promised made b′
   good-retag e k = rw (is, e) (ap (λ (x : Answer × retag.Lent). (replyOf (x .0), x .1)) k)
 
 -- ---- a list

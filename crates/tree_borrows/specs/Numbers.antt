@@ -109,7 +109,7 @@ abbrev pub RetagReplied : Settings → Place → List ℕ → retag.Lent → Ret
 RetagReplied settings p layout l r places b =
     Replied (r .reply) (retag.lent places (r .count) b)
     (replied ThePointer
-    (retag.entered ((badPlace p || badFlags settings) || badFields (settingsOf settings) layout) (retagOf (settingsOf settings) (pointerOf p) layout) l))
+    (retag.served ((badPlace p || badFlags settings) || badFields (settingsOf settings) layout) (retagOf (settingsOf settings) (pointerOf p) layout) l))
 
 -- ---- a list's
 abbrev pub listReplyOf : ListRun → ListReply

@@ -17,7 +17,7 @@ ghost use Rattle.tables.specs.Decoding.{allocationKind};
 ghost use Rattle.tables.specs.Held.{buffers};
 ghost use Rattle.memory.specs.Access.{loadOf, storeOf};
 ghost use Rattle.library.specs.Fields.{badExponent, badAllocation, badStore};
-ghost use Rattle.library.specs.Entry.{entered, givenBy, leakEntered};
+ghost use Rattle.library.specs.Entry.{served, givenBy, leakServed};
 ghost use Rattle.tree_borrows.specs.Numbers.{pointerOf, badPlace, replyOf, loadedWords, copiedTo, Replied};
 
 // Kind 0.
@@ -35,7 +35,7 @@ pub extern "C" fn tree_borrows_allocate(
 ) -> Reply
     ensures { λ r. ⌜ Replied r
         (buffers (now (allocs .exit)) (now (parents .entry)) (now (protectors .entry)) (now (words .entry)) (now (codes .exit)))
-        (replied ThePointer (entered (badAllocation kind exponent) (definition.allocate (allocationKind kind) len exponent address)
+        (replied ThePointer (served (badAllocation kind exponent) (definition.allocate (allocationKind kind) len exponent address)
         (buffers (now (allocs .entry)) (now (parents .entry)) (now (protectors .entry)) (now (words .entry)) (now (codes .entry))))) ⌝ }
 {
     let answer = library::allocate::allocate(
@@ -67,7 +67,7 @@ pub extern "C" fn tree_borrows_deallocate(
 ) -> Reply
     ensures { λ r. ⌜ Replied r
         (buffers (now (allocs .exit)) (now (parents .entry)) (now (protectors .entry)) (now (words .entry)) (now (codes .exit)))
-        (replied Nothing (entered (badPlace p || badAllocation kind exponent) (definition.deallocate (pointerOf p) (allocationKind kind) len exponent)
+        (replied Nothing (served (badPlace p || badAllocation kind exponent) (definition.deallocate (pointerOf p) (allocationKind kind) len exponent)
         (buffers (now (allocs .entry)) (now (parents .entry)) (now (protectors .entry)) (now (words .entry)) (now (codes .entry))))) ⌝ }
 {
     if bad_place(p) {
@@ -105,7 +105,7 @@ pub extern "C" fn tree_borrows_load(
         (buffers (now (allocs .entry)) (now (parents .entry)) (now (protectors .entry)) (now (words .entry)) (now (codes .exit)))
         (replied (givenBy (loadOf (pointerOf p) len exponent)
         (buffers (now (allocs .entry)) (now (parents .entry)) (now (protectors .entry)) (now (words .entry)) (now (codes .entry))))
-        (entered (badPlace p || badExponent exponent) (definition.performAccess (loadOf (pointerOf p) len exponent))
+        (served (badPlace p || badExponent exponent) (definition.performAccess (loadOf (pointerOf p) len exponent))
         (buffers (now (allocs .entry)) (now (parents .entry)) (now (protectors .entry)) (now (words .entry)) (now (codes .entry))))) ⌝ }
 {
     if bad_place(p) {
@@ -155,7 +155,7 @@ pub extern "C" fn tree_borrows_store(
 ) -> Reply
     ensures { λ r. ⌜ Replied r
         (buffers (now (allocs .entry)) (now (parents .entry)) (now (protectors .entry)) (now (words .exit)) (now (codes .exit)))
-        (replied Nothing (entered (badPlace p || badStore (now (bytes .entry)) exponent) (definition.performAccess (storeOf (pointerOf p) (now (bytes .entry)) exponent))
+        (replied Nothing (served (badPlace p || badStore (now (bytes .entry)) exponent) (definition.performAccess (storeOf (pointerOf p) (now (bytes .entry)) exponent))
         (buffers (now (allocs .entry)) (now (parents .entry)) (now (protectors .entry)) (now (words .entry)) (now (codes .entry))))) ⌝ }
 {
     if bad_place(p) {
@@ -189,7 +189,7 @@ pub extern "C" fn tree_borrows_dereferenceable(
 ) -> Reply
     ensures { λ r. ⌜ Replied r
         (buffers (now (allocs .entry)) (now (parents .entry)) (now (protectors .entry)) (now (words .entry)) (now (codes .entry)))
-        (replied Nothing (entered (badPlace p) (definition.dereferenceable (pointerOf p) 0 len)
+        (replied Nothing (served (badPlace p) (definition.dereferenceable (pointerOf p) 0 len)
         (buffers (now (allocs .entry)) (now (parents .entry)) (now (protectors .entry)) (now (words .entry)) (now (codes .entry))))) ⌝ }
 {
     if bad_place(p) {
@@ -222,7 +222,7 @@ pub extern "C" fn tree_borrows_signed_dereferenceable(
 ) -> Reply
     ensures { λ r. ⌜ Replied r
         (buffers (now (allocs .entry)) (now (parents .entry)) (now (protectors .entry)) (now (words .entry)) (now (codes .entry)))
-        (replied Nothing (entered (badPlace p) (definition.dereferenceable (pointerOf p) (back len) (ahead len))
+        (replied Nothing (served (badPlace p) (definition.dereferenceable (pointerOf p) (back len) (ahead len))
         (buffers (now (allocs .entry)) (now (parents .entry)) (now (protectors .entry)) (now (words .entry)) (now (codes .entry))))) ⌝ }
 {
     if bad_place(p) {
@@ -251,7 +251,7 @@ pub extern "C" fn tree_borrows_leak_check(
     words: &[u32],
     codes: &[u8],
 ) -> Reply
-    ensures { λ r. ⌜ r ≡ replyOf (leakEntered (buffers (now (allocs .entry)) (now (parents .entry)) (now (protectors .entry)) (now (words .entry)) (now (codes .entry)))) ⌝ }
+    ensures { λ r. ⌜ r ≡ replyOf (leakServed (buffers (now (allocs .entry)) (now (parents .entry)) (now (protectors .entry)) (now (words .entry)) (now (codes .entry)))) ⌝ }
 {
     let answer = library::leak_check::leak_check(allocs, parents, protectors, words, codes);
     reply_of(answer)

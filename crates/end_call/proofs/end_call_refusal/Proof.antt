@@ -18,8 +18,8 @@ any-never-made-requires c κs = let s = c .before .before .before .before .befor
 returns : tie.Need-returns
 returns c = λ m h. refused-unmade (sym (c .before .any-never-made .ensures m (records-of h)) ∙ c .if1 .taken) h
 
-words-of-requires : tie.Need-words-of-requires
-words-of-requires c κs =
+numbers-of-requires : tie.Need-numbers-of-requires
+numbers-of-requires c κs =
     let s = c .before .before .before .before .before .before .before in
     let m = s .pre .0 .0 in
     let h = s .pre .0 .1 in
@@ -43,7 +43,7 @@ release-lent-requires c κs =
     let h = s .pre .0 .1 in
     let list = s .args .list in
     let n : any (isUnmade m) (entriesOf list) ≡ false = sym (w .before .before .any-never-made .ensures m (records-of h)) ∙ w .before .if1 .left in
-    ((m, (h, subst⁻¹ (AllMade m) (written list (w .words-of .result) (w .words-of .ensures)) (all-made m (entriesOf list) n))), s .pre .1 .1)
+    ((m, (h, subst⁻¹ (AllMade m) (written list (w .numbers-of .result) (w .numbers-of .ensures)) (all-made m (entriesOf list) n))), s .pre .1 .1)
 
 same-length : tie.Need-same-length
 same-length c = search needs
@@ -61,7 +61,7 @@ returns-2 c = λ m h.
     let list = s .args .list in
     let r = c .before .before .before .before .before .before .release-lent in
     let n : any (isUnmade m) (entriesOf list) ≡ false = sym (w .before .before .any-never-made .ensures m (records-of h)) ∙ w .before .if1 .left in
-    let same = written list (w .words-of .result) (w .words-of .ensures) in
+    let same = written list (w .numbers-of .result) (w .numbers-of .ensures) in
     made-released n
     (subst (λ (es : List Provenance). ReleasedAll m es (r .result) (r .last .1 .1 .0) (r .last .1 .1 .1 .0)) same
     (r .ensures m h (subst⁻¹ (AllMade m) same (all-made m (entriesOf list) n))))
@@ -72,7 +72,7 @@ end-call-refusal-spec =
     (tie.spec
     any-never-made-requires
     returns
-    words-of-requires
+    numbers-of-requires
     sub-release-lent
     part-release-lent-start
     part-release-lent-end

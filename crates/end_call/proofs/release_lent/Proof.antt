@@ -15,13 +15,13 @@ starts-at-requires c κs =
     let s = c .before .before .before .before .before .before .before in
     let m = s .pre .0 .0 in
     let spans = c .span-of .ensures in
-    (m, (records-of (s .pre .0 .1 .0), omega (arith, spans .ordered, spans-made m (entriesIn (s .args .words .now)) _ _ spans (s .pre .0 .1 .1))))
+    (m, (records-of (s .pre .0 .1 .0), omega (arith, spans .ordered, spans-made m (entriesIn (s .args .numbers .now)) _ _ spans (s .pre .0 .1 .1))))
 
 starts-at-requires-2 : tie.Need-starts-at-requires-2
 starts-at-requires-2 c κs =
     let s = c .before .before .before .before .before .before .before .before in
     let m = s .pre .0 .0 in
-    (m, (records-of (s .pre .0 .1 .0), spans-made m (entriesIn (s .args .words .now)) _ _ (c .before .span-of .ensures) (s .pre .0 .1 .1)))
+    (m, (records-of (s .pre .0 .1 .0), spans-made m (entriesIn (s .args .numbers .now)) _ _ (c .before .span-of .ensures) (s .pre .0 .1 .1)))
 
 release-all-requires : tie.Need-release-all-requires
 release-all-requires c κs =

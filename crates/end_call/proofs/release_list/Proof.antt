@@ -4,7 +4,7 @@ use native.Mathlib.Omega.{arith}
 use borrow.Author.Needs.{needs}
 use lib.ListN.{length}
 use Rattle.frames.specs.Buffer.{entriesIn}
-use Rattle.frames.proofs.FrameWords.{words-count}
+use Rattle.frames.proofs.FrameNumbers.{numbers-count}
 use Rattle.parts.proofs.Lent.{records-of}
 use Rattle.end_call.proofs.Releases.{all-by-one}
 use Rattle.end_call.proofs.Spans.{spans-made, touched, codes-ordered, codes-total}
@@ -23,9 +23,9 @@ same-length-2 c = search needs
 returns : tie.Need-returns
 returns c = λ m h made.
     let released = c .before .before .before .before in
-    let words = c .before .before .before .before .before .before .before .before .before .before .before .before .before .args .words .now in
-    let few : length (entriesIn words) ≤ 1 = omega (arith, words-count words, c .before .before .before .before .before .before .before .if1 .taken) in
-    all-by-one (entriesIn words) few (released .release-until .ensures m h made)
+    let numbers = c .before .before .before .before .before .before .before .before .before .before .before .before .before .args .numbers .now in
+    let few : length (entriesIn numbers) ≤ 1 = omega (arith, numbers-count numbers, c .before .before .before .before .before .before .before .if1 .taken) in
+    all-by-one (entriesIn numbers) few (released .release-until .ensures m h made)
 
 span-of-requires : tie.Need-span-of-requires
 span-of-requires c κs = search needs
@@ -35,13 +35,13 @@ starts-at-requires c κs =
     let s = c .before .before .before .before .before .before .before in
     let m = s .pre .0 in
     let spans = c .span-of .ensures in
-    (m, (records-of (s .pre .1 .0), omega (arith, spans .ordered, spans-made m (entriesIn (s .args .words .now)) _ _ spans (s .pre .1 .1))))
+    (m, (records-of (s .pre .1 .0), omega (arith, spans .ordered, spans-made m (entriesIn (s .args .numbers .now)) _ _ spans (s .pre .1 .1))))
 
 starts-at-requires-2 : tie.Need-starts-at-requires-2
 starts-at-requires-2 c κs =
     let s = c .before .before .before .before .before .before .before .before in
     let m = s .pre .0 in
-    (m, (records-of (s .pre .1 .0), spans-made m (entriesIn (s .args .words .now)) _ _ (c .before .span-of .ensures) (s .pre .1 .1)))
+    (m, (records-of (s .pre .1 .0), spans-made m (entriesIn (s .args .numbers .now)) _ _ (c .before .span-of .ensures) (s .pre .1 .1)))
 
 sub-if2 : tie.Need-sub-if2
 sub-if2 c =

@@ -6,7 +6,7 @@ use borrow.Author.Needs.{needs}
 use lib.ListN.{length, drop, drop-of-length-le}
 use Rattle.definition.specs.Memory.{Memory}
 use Rattle.frames.specs.Buffer.{entriesIn}
-use Rattle.frames.proofs.FrameWords.{word-at, words-count}
+use Rattle.frames.proofs.FrameNumbers.{number-at, numbers-count}
 use Rattle.parts.specs.Trees.{HoldsMarked}
 use Rattle.end_call.specs.Release.{AllMade}
 use Rattle.end_call.proofs.Releases.{Turn, turn-first, turn-at, turn-next, turn-stops, turn-done}
@@ -14,12 +14,12 @@ use Rattle.end_call.proofs.release_until.Statement.{statement}
 use Rattle.end_call.proofs.release_until.Tie as tie
 
 abbrev Inv-loop : tie.InvT-loop
-Inv-loop allocs parents protectors₀ codes₀ words i₀ protectors codes i =
-    (i ≤ length words) × (length protectors ≡ length protectors₀) × (length codes ≡ length codes₀)
-    × ((m : Memory) → HoldsMarked m allocs parents protectors₀ codes₀ → AllMade m (entriesIn words) → Turn m (entriesIn words) (drop i (entriesIn words)) allocs parents protectors codes)
+Inv-loop allocs parents protectors₀ codes₀ numbers i₀ protectors codes i =
+    (i ≤ length numbers) × (length protectors ≡ length protectors₀) × (length codes ≡ length codes₀)
+    × ((m : Memory) → HoldsMarked m allocs parents protectors₀ codes₀ → AllMade m (entriesIn numbers) → Turn m (entriesIn numbers) (drop i (entriesIn numbers)) allocs parents protectors codes)
 
 abbrev μ-loop : tie.MeasureT-loop
-μ-loop allocs parents protectors₀ codes₀ words i₀ protectors codes i = length words - i
+μ-loop allocs parents protectors₀ codes₀ numbers i₀ protectors codes i = length numbers - i
 
 loop-holds : tie.Need-loop-holds Inv-loop μ-loop
 loop-holds c = (omega arith, refl, refl, λ m h made. turn-first h made)
@@ -38,9 +38,9 @@ release-entry-requires c κs =
     let found = c .before .before in
     let t = found .before .before .before in
     let s = t .before .before .before .before .before .before in
-    let words = s .args .words .now in
-    let l : t .loop .i < length (entriesIn words) = omega (arith, words-count words) in
-    let turn = turn-at (t .loop .i) _ _ l (word-at words (t .loop .i) (found .entry-in .result) (found .entry-in .ensures)) (t .loop .inv .3 (s .pre .0) (s .pre .1 .0) (s .pre .1 .1)) in
+    let numbers = s .args .numbers .now in
+    let l : t .loop .i < length (entriesIn numbers) = omega (arith, numbers-count numbers) in
+    let turn = turn-at (t .loop .i) _ _ l (number-at numbers (t .loop .i) (found .entry-in .result) (found .entry-in .ensures)) (t .loop .inv .3 (s .pre .0) (s .pre .1 .0) (s .pre .1 .1)) in
     (turn .memory, (turn .holds, turn .made .0))
 
 same-length : tie.Need-same-length Inv-loop μ-loop
@@ -55,9 +55,9 @@ returns c = λ m h made.
     let found = released .before .before .before in
     let t = found .before .before .before in
     let s = t .before .before .before .before .before .before in
-    let words = s .args .words .now in
-    let l : t .loop .i < length (entriesIn words) = omega (arith, words-count words) in
-    let turn = turn-at (t .loop .i) _ _ l (word-at words (t .loop .i) (found .entry-in .result) (found .entry-in .ensures)) (t .loop .inv .3 m h made) in
+    let numbers = s .args .numbers .now in
+    let l : t .loop .i < length (entriesIn numbers) = omega (arith, numbers-count numbers) in
+    let turn = turn-at (t .loop .i) _ _ l (number-at numbers (t .loop .i) (found .entry-in .result) (found .entry-in .ensures)) (t .loop .inv .3 m h made) in
     turn-stops turn (released .release-entry .ensures (turn .memory) (turn .holds) (turn .made .0)) (c .if1 .taken)
 
 add-i : tie.Need-add-i Inv-loop μ-loop
@@ -72,13 +72,13 @@ loop-again c =
     let found = released .before .before .before in
     let t = found .before .before .before in
     let s = t .before .before .before .before .before .before in
-    let words = s .args .words .now in
-    let l : t .loop .i < length (entriesIn words) = omega (arith, words-count words) in (
+    let numbers = s .args .numbers .now in
+    let l : t .loop .i < length (entriesIn numbers) = omega (arith, numbers-count numbers) in (
       omega arith,
       search needs,
       search needs,
       λ m h made.
-          let turn = turn-at (t .loop .i) _ _ l (word-at words (t .loop .i) (found .entry-in .result) (found .entry-in .ensures)) (t .loop .inv .3 m h made) in
+          let turn = turn-at (t .loop .i) _ _ l (number-at numbers (t .loop .i) (found .entry-in .result) (found .entry-in .ensures)) (t .loop .inv .3 m h made) in
           turn-next turn (released .release-entry .ensures (turn .memory) (turn .holds) (turn .made .0)) (c .if1 .left),
     )
 
@@ -90,8 +90,8 @@ same-length-4 c = search needs
 
 returns-2 : tie.Need-returns-2 Inv-loop μ-loop
 returns-2 c = λ m h made.
-    let words = c .before .before .before .before .before .before .before .args .words .now in
-    turn-done (drop-of-length-le (entriesIn words) {i = c .before .loop .i} (omega (arith, words-count words))) (c .before .loop .inv .3 m h made)
+    let numbers = c .before .before .before .before .before .before .before .args .numbers .now in
+    turn-done (drop-of-length-le (entriesIn numbers) {i = c .before .loop .i} (omega (arith, numbers-count numbers))) (c .before .loop .inv .3 m h made)
 
 pub release-until-spec : {M : Type 1} → statement M
 release-until-spec =

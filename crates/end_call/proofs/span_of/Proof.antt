@@ -8,13 +8,13 @@ use Rattle.end_call.proofs.span_of.Statement.{statement}
 use Rattle.end_call.proofs.span_of.Tie as tie
 
 abbrev Inv-loop : tie.InvT-loop
-Inv-loop words least₀ greatest₀ i₀ least greatest i = (1 ≤ i) × (i ≤ length words) × (greatest < 4294967296) × Ranged words i least greatest
+Inv-loop numbers least₀ greatest₀ i₀ least greatest i = (1 ≤ i) × (i ≤ length numbers) × (greatest < 4294967296) × Ranged numbers i least greatest
 
 abbrev μ-loop : tie.MeasureT-loop
-μ-loop words least₀ greatest₀ i₀ least greatest i = length words - i
+μ-loop numbers least₀ greatest₀ i₀ least greatest i = length numbers - i
 
 returns : tie.Need-returns Inv-loop μ-loop
-returns c = spans-none (c .before .before .args .words .now) (c .if1 .taken)
+returns c = spans-none (c .before .before .args .numbers .now) (c .if1 .taken)
 
 shared-slice-read-least : tie.Need-shared-slice-read-least Inv-loop μ-loop
 shared-slice-read-least c = search needs
@@ -24,9 +24,9 @@ shared-slice-read-greatest c = search needs
 
 loop-holds : tie.Need-loop-holds Inv-loop μ-loop
 loop-holds c =
-    let words = c .before .before .before .before .args .words .now in
-    let some : 0 < length words = omega (arith, c .before .before .if1 .left) in
-    (omega arith, omega (arith, some), omega (arith, c .shared-slice-known3 .given 0), ranged-first words some)
+    let numbers = c .before .before .before .before .args .numbers .now in
+    let some : 0 < length numbers = omega (arith, c .before .before .if1 .left) in
+    (omega arith, omega (arith, some), omega (arith, c .shared-slice-known3 .given 0), ranged-first numbers some)
 
 mul-word : tie.Need-mul-word Inv-loop μ-loop
 mul-word c = search needs
@@ -49,11 +49,11 @@ loop-less c = search needs
 loop-again : tie.Need-loop-again Inv-loop μ-loop
 loop-again c =
     let t = c .before .before .before .before in
-    let words = t .before .before .before .before .before .args .words .now in (
+    let numbers = t .before .before .before .before .before .args .numbers .now in (
       omega arith,
       omega arith,
       c .greater .ensures .1 .1 4294967296 (t .loop .inv .2) (omega (arith, t .before .shared-slice-known3 .given (t .loop .i))),
-      ranged-more words (t .loop .i) (t .loop .least) (t .loop .greatest) _ _ (omega arith) (t .loop .inv .3) (c .before .lesser .ensures) (c .greater .ensures),
+      ranged-more numbers (t .loop .i) (t .loop .least) (t .loop .greatest) _ _ (omega arith) (t .loop .inv .3) (c .before .lesser .ensures) (c .greater .ensures),
     )
 
 cast-t6 : tie.Need-cast-t6 Inv-loop μ-loop
@@ -68,8 +68,8 @@ add-t17 c = omega (arith, c .before .loop .inv .2)
 returns-2 : tie.Need-returns-2 Inv-loop μ-loop
 returns-2 c =
     let t = c .before in
-    let words = t .before .before .before .before .before .args .words .now in
-    spans-ranged words (t .loop .i) (t .loop .least) (t .loop .greatest) (omega arith) (t .loop .inv .3)
+    let numbers = t .before .before .before .before .before .args .numbers .now in
+    spans-ranged numbers (t .loop .i) (t .loop .least) (t .loop .greatest) (omega arith) (t .loop .inv .3)
 
 pub span-of-spec : {M : Type 1} → statement M
 span-of-spec =

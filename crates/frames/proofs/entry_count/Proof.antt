@@ -5,7 +5,7 @@ use native.Mathlib.Omega.{arith}
 use borrow.Author.Needs.{needs}
 use lib.ListN.{getD}
 use Rattle.definition.specs.Frame.Frame.{Closed}
-use Rattle.frames.proofs.FrameWords.{head-none, head-some, head-bound}
+use Rattle.frames.proofs.FrameNumbers.{head-none, head-some, head-bound}
 use Rattle.frames.proofs.Frames.{buffer-length, frame-fits, head-read}
 use Rattle.frames.proofs.entry_count.Statement.{statement}
 use Rattle.frames.proofs.entry_count.Tie as tie

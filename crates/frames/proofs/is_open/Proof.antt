@@ -7,7 +7,7 @@ use borrow.Author.Needs.{needs}
 use lib.Dec.{eqb}
 use lib.ListN.{getD}
 use Rattle.definition.specs.Frame.Frame.{Closed}
-use Rattle.frames.proofs.FrameWords.{head-open}
+use Rattle.frames.proofs.FrameNumbers.{head-open}
 use Rattle.frames.proofs.Frames.{buffer-length, head-read}
 use Rattle.frames.proofs.is_open.Statement.{statement}
 use Rattle.frames.proofs.is_open.Tie as tie

@@ -76,8 +76,8 @@ abbrev none : List Entry
 none = replicate 64 noEntry
 
 -- the types of the locals
-abbrev word : Ty
-word = tyInt w64
+abbrev number : Ty
+number = tyInt w64
 
 abbrev arr : Ty
 arr = tyArray E′.mir 64
@@ -178,12 +178,12 @@ module _ {M : Type 1} (𝓤 : URA M) (H : Heap 𝓤) (A : Atoms 𝓤) (W : Given
 
     module _ (l₀ l₁ l₂ l₃ l₄ l₅ l₆ l₇ l₈ : ℕ) where
       abbrev En : Env 𝓤 H
-      En = (arr, l₀) ∷ (slice, l₁) ∷ (arr, l₂) ∷ (word, l₃) ∷ (E′.mir, l₄) ∷ (word, l₅) ∷ (tyBool, l₆) ∷ (tyPtr, l₇) ∷ (E′.mir, l₈) ∷ []
+      En = (arr, l₀) ∷ (slice, l₁) ∷ (arr, l₂) ∷ (number, l₃) ∷ (E′.mir, l₄) ∷ (number, l₅) ∷ (tyBool, l₆) ∷ (tyPtr, l₇) ∷ (E′.mir, l₈) ∷ []
 
       -- what a turn starts from
       abbrev At : Turn ys → List (Item 𝓤)
-      At t = ‵ (flft κ q) ∷ ‵ Own ∷ ‵ (froom E′.mir l₈ 0) ∷ ‵ (fdies E′.mir l₈) ∷ ‵ (froom tyPtr l₇ 0) ∷ ‵ (fdies tyPtr l₇) ∷ ‵ (froom tyBool l₆ 0) ∷ ‵ (fdies tyBool l₆) ∷ ‵ (froom word l₅ 0) ∷ ‵ (fdies word l₅)
-          ∷ ‵ (froom E′.mir l₄ 0) ∷ ‵ (fdies E′.mir l₄) ∷ ‵ (fat fullShare word l₃ 0 (vint w64 (t .i))) ∷ ‵ (fdies word l₃) ∷ ‵ (fat fullShare arr l₂ 0 (t .v)) ∷ ‵ (fdies arr l₂)
+      At t = ‵ (flft κ q) ∷ ‵ Own ∷ ‵ (froom E′.mir l₈ 0) ∷ ‵ (fdies E′.mir l₈) ∷ ‵ (froom tyPtr l₇ 0) ∷ ‵ (fdies tyPtr l₇) ∷ ‵ (froom tyBool l₆ 0) ∷ ‵ (fdies tyBool l₆) ∷ ‵ (froom number l₅ 0) ∷ ‵ (fdies number l₅)
+          ∷ ‵ (froom E′.mir l₄ 0) ∷ ‵ (fdies E′.mir l₄) ∷ ‵ (fat fullShare number l₃ 0 (vint w64 (t .i))) ∷ ‵ (fdies number l₃) ∷ ‵ (fat fullShare arr l₂ 0 (t .v)) ∷ ‵ (fdies arr l₂)
           ∷ ‵ (fat fullShare slice l₁ 0 (sliceVal (b, o) (length ys))) ∷ ‵ (fdies slice l₁) ∷ ‵ (froom arr l₀ 0) ∷ ‵ (fdies arr l₀) ∷ []
 
       -- a turn's postcondition: one more entry is in, or the loop is left and the rest of the body runs

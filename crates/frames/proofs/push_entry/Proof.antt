@@ -10,7 +10,7 @@ use Rattle.frames.proofs.push_entry.Statement.{statement}
 use Rattle.frames.proofs.push_entry.Tie as tie
 
 -- the entry has a place in the frame, and the frame in the buffer
-room : (c : tie.After-entry-word) → c .before .entry-count .result < 64
+room : (c : tie.After-entry-number) → c .before .entry-count .result < 64
 room c =
     let h = c .before .before .before .before .pre .0 in
     omega (arith, h .1 .1, c .before .entry-count .ensures (h .0) (h .1 .0))
@@ -21,8 +21,8 @@ whole s = buffer-length (s .pre .0 .0) (s .args .frames .now) (s .args .f) (s .p
 entry-count-requires : tie.Need-entry-count-requires
 entry-count-requires c κs = search needs
 
-entry-word-requires : tie.Need-entry-word-requires
-entry-word-requires c κs = search needs
+entry-number-requires : tie.Need-entry-number-requires
+entry-number-requires c κs = search needs
 
 mul-at : tie.Need-mul-at
 mul-at c = search needs
@@ -59,7 +59,7 @@ returns c =
     let s = c .before .before .before .before in
     let t = c .before .entry-count in
     λ fs holds.
-    rw (c .entry-word .ensures)
+    rw (c .entry-number .ensures)
     (pushes fs (s .args .frames .now) (s .args .f) holds (s .pre .1 .0) (provenanceOf (s .args .e)) (t .result) (s .pre .1 .1) (t .ensures fs holds) (room c))
 
 pub push-entry-spec : {M : Type 1} → statement M
@@ -67,7 +67,7 @@ push-entry-spec =
     tie.close
     (tie.spec
     entry-count-requires
-    entry-word-requires
+    entry-number-requires
     mul-at
     cast-frames
     add-frames

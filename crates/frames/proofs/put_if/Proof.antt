@@ -52,8 +52,8 @@ use Rattle.frames.proofs.put_if.Code as code
 use Rattle.frames.proofs.put_if.Code.Mir as code-mir
 
 -- the types of the locals
-abbrev word : Ty
-word = tyInt w64
+abbrev number : Ty
+number = tyInt w64
 
 abbrev slice : Ty
 slice = sliceTy (tyRef (named 0) mut (pointee (E.the-row .written)))
@@ -94,12 +94,12 @@ module _ {M : Type 1} (𝓤 : URA M) (H : Heap 𝓤) (A : Atoms 𝓤) (W : Given
   module _ (C : Calls 𝓤 H) (Λ : Loops 𝓤 H) (gn : Room E.the-row (length ys)) (gi : i < 2 ^ 64) (ge : Is E.the-row e (mach e ∷ [])) where
     module _ (l₀ l₁ l₂ l₃ l₄ l₅ l₆ l₇ : ℕ) where
       abbrev En : Env 𝓤 H
-      En = (tyUnit, l₀) ∷ (slice, l₁) ∷ (word, l₂) ∷ (E′.mir, l₃) ∷ (word, l₄) ∷ (tyBool, l₅) ∷ (word, l₆) ∷ (tyPtr, l₇) ∷ []
+      En = (tyUnit, l₀) ∷ (slice, l₁) ∷ (number, l₂) ∷ (E′.mir, l₃) ∷ (number, l₄) ∷ (tyBool, l₅) ∷ (number, l₆) ∷ (tyPtr, l₇) ∷ []
 
       -- what follows the branch: the slice is closed, at zs, and the test said t
       ends : (zs : List Entry) → zs ≡ set ys i e → length zs ≡ length ys
-          → Sq W (‵ (Obs zs) ∷ ‵ (Bor zs) ∷ ‵ (flft κ q) ∷ ‵ Rest ∷ ‵ (froom tyPtr l₇ 0) ∷ ‵ (fdies tyPtr l₇) ∷ ‵ (froom word l₆ 0) ∷ ‵ (fdies word l₆) ∷ ‵ (fat fullShare tyBool l₅ 0 (vbool (ltb i (length ys)))) ∷ ‵ (fdies tyBool l₅)
-          ∷ ‵ (fat fullShare word l₄ 0 (vint w64 (length ys))) ∷ ‵ (fdies word l₄) ∷ ‵ (fat fullShare E′.mir l₃ 0 (mach e)) ∷ ‵ (fdies E′.mir l₃) ∷ ‵ (fat fullShare word l₂ 0 (vint w64 i)) ∷ ‵ (fdies word l₂)
+          → Sq W (‵ (Obs zs) ∷ ‵ (Bor zs) ∷ ‵ (flft κ q) ∷ ‵ Rest ∷ ‵ (froom tyPtr l₇ 0) ∷ ‵ (fdies tyPtr l₇) ∷ ‵ (froom number l₆ 0) ∷ ‵ (fdies number l₆) ∷ ‵ (fat fullShare tyBool l₅ 0 (vbool (ltb i (length ys)))) ∷ ‵ (fdies tyBool l₅)
+          ∷ ‵ (fat fullShare number l₄ 0 (vint w64 (length ys))) ∷ ‵ (fdies number l₄) ∷ ‵ (fat fullShare E′.mir l₃ 0 (mach e)) ∷ ‵ (fdies E′.mir l₃) ∷ ‵ (fat fullShare number l₂ 0 (vint w64 i)) ∷ ‵ (fdies number l₂)
           ∷ ‵ (fat fullShare slice l₁ 0 (sliceVal (b, o) (length ys))) ∷ ‵ (fdies slice l₁) ∷ ‵ (froom tyUnit l₀ 0) ∷ ‵ (fdies tyUnit l₀) ∷ []) (runs C Λ En code-mir.t-4 (atRet En Post))
       ends zs is l =
           assigns ! (of-opd ! (unit-lit !)) (from ! (stop !)) (init ! 18 refl (tt, tt)) $

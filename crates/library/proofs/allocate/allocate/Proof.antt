@@ -2,7 +2,7 @@
 use mathlib.Core.Path.{_∙_, sym}
 use borrow.Author.Needs.{needs}
 use borrow.Author.Tests.{not-true, not-false}
-use Rattle.library.proofs.Entered.{not-formed, bad-field}
+use Rattle.library.proofs.Served.{not-formed, bad-field}
 use Rattle.library.proofs.Performed.{can-enter, allocated}
 use Rattle.library.proofs.allocate.allocate.Statement.{statement}
 use Rattle.library.proofs.allocate.allocate.Tie as tie

@@ -4,7 +4,7 @@ use borrow.Author.Needs.{needs}
 use borrow.Author.Tests.{not-true, not-false}
 use Rattle.wellformed.proofs.Sound.{sound}
 use Rattle.parts.proofs.Lent.{holds-marked}
-use Rattle.library.proofs.Entered.{not-formed, bad-field}
+use Rattle.library.proofs.Served.{not-formed, bad-field}
 use Rattle.library.proofs.Fine.{allocation-kind}
 use Rattle.library.proofs.Performed.{deallocated}
 use Rattle.library.proofs.deallocate.deallocate.Statement.{statement}

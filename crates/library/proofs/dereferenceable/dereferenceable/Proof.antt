@@ -4,7 +4,7 @@ use borrow.Author.Needs.{needs}
 use borrow.Author.Tests.{not-true, not-false}
 use Rattle.tables.proofs.ReadBack.{holds-records}
 use Rattle.wellformed.proofs.Sound.{sound}
-use Rattle.library.proofs.Entered.{not-formed}
+use Rattle.library.proofs.Served.{not-formed}
 use Rattle.library.proofs.Performed.{dereferenced}
 use Rattle.library.proofs.dereferenceable.dereferenceable.Statement.{statement}
 use Rattle.library.proofs.dereferenceable.dereferenceable.Tie as tie

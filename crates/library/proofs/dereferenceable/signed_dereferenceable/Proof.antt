@@ -6,7 +6,7 @@ use mir.Facts.{toZ-ofZ}
 use Rattle.pointer.specs.Pointer.{back, ahead}
 use Rattle.tables.proofs.ReadBack.{holds-records}
 use Rattle.wellformed.proofs.Sound.{sound}
-use Rattle.library.proofs.Entered.{not-formed}
+use Rattle.library.proofs.Served.{not-formed}
 use Rattle.library.proofs.Performed.{dereferenced}
 use Rattle.library.proofs.dereferenceable.signed_dereferenceable.Statement.{statement}
 use Rattle.library.proofs.dereferenceable.signed_dereferenceable.Tie as tie

@@ -4,7 +4,7 @@ use borrow.Author.Needs.{needs}
 use borrow.Author.Tests.{not-true, not-false}
 use Rattle.wellformed.proofs.Sound.{sound}
 use Rattle.memory.proofs.Afterwards.{holds-bytes}
-use Rattle.library.proofs.Entered.{not-formed, bad-field}
+use Rattle.library.proofs.Served.{not-formed, bad-field}
 use Rattle.library.proofs.Fine.{exponent-shifts, store-exponent}
 use Rattle.library.proofs.Performed.{stored}
 use Rattle.library.proofs.store.store.Statement.{statement}

@@ -40,7 +40,7 @@ use denote.Triple.Walked.{says, Stays, stay-none-slice, stay-none, gave-slice, w
 use denote.Exit.{yes}
 use Rattle.pointer.specs.Pointer.{thinPointerOf}
 use Rattle.tables.specs.Held.{buffers}
-use Rattle.library_frames.specs.Retag.{lent, Entered}
+use Rattle.library_frames.specs.Retag.{lent, Served}
 use Rattle.frames.specs.declared.Entry.{Entry}
 use Rattle.library_frames.specs.declared.retags.RetagOutcome.{RetagOutcome}
 use Rattle.frames.proofs.Entry as E
@@ -95,10 +95,10 @@ module _ {M : Type 1} (𝓤 : URA M) (H : Heap 𝓤) (A : Atoms 𝓤) (W : Given
 
   -- what the worker ensures, and what this function does
   abbrev Made : RetagOutcome → List ℕ → List ℕ → List ℕ → List ℕ → Type 0
-  Made r z-allocs z-parents z-protectors z-codes = (places : List Entry) → length places ≡ length (entries .now) → Entered settings (thinPointerOf pointer) (layout .now) (lent places count (buffers (allocs .now) (parents .now) (protectors .now) (words .now) (codes .now))) (r .answer) (set places (r .at) (r .entry)) (buffers z-allocs z-parents z-protectors (words .now) z-codes)
+  Made r z-allocs z-parents z-protectors z-codes = (places : List Entry) → length places ≡ length (entries .now) → Served settings (thinPointerOf pointer) (layout .now) (lent places count (buffers (allocs .now) (parents .now) (protectors .now) (words .now) (codes .now))) (r .answer) (set places (r .at) (r .entry)) (buffers z-allocs z-parents z-protectors (words .now) z-codes)
 
   abbrev Said : RetagAnswer → List Entry → List ℕ → List ℕ → List ℕ → List ℕ → Type 0
-  Said a z-entries z-allocs z-parents z-protectors z-codes = Entered settings (thinPointerOf pointer) (layout .now) (lent (entries .now) count (buffers (allocs .now) (parents .now) (protectors .now) (words .now) (codes .now))) a z-entries (buffers z-allocs z-parents z-protectors (words .now) z-codes)
+  Said a z-entries z-allocs z-parents z-protectors z-codes = Served settings (thinPointerOf pointer) (layout .now) (lent (entries .now) count (buffers (allocs .now) (parents .now) (protectors .now) (words .now) (codes .now))) a z-entries (buffers z-allocs z-parents z-protectors (words .now) z-codes)
 
   exits : (a : RetagAnswer) (z-entries : List Entry) (z-allocs : List ℕ) (z-parents : List ℕ) (z-protectors : List ℕ) (z-codes : List ℕ) → Is X.the-row a ((LL.val X.the-type X′.the-laws a) ∷ []) → Said a z-entries z-allocs z-parents z-protectors z-codes → length z-entries ≡ length (entries .now) → length z-allocs ≡ length (allocs .now) → length z-parents ≡ length (parents .now) → length z-protectors ≡ length (protectors .now) → length z-codes ≡ length (codes .now)
       → ent 𝓤 (⋆ 𝓤 H A (‵ (flft κ₀ q₀) ∷ ‵ (flft κ₁ q₁) ∷ ‵ (flft κ₂ q₂) ∷ ‵ (flft κ₃ q₃) ∷ ‵ (flft κ₄ q₄) ∷ ‵ (flft κ₅ q₅) ∷ ‵ (flft κ₆ q₆) ∷ ‵ (ShrSlice (named 4) κ₄ u32 .own words (sliceVal (words .ptr) (length (words .now)) ∷ [])) ∷ ‵ (ShrSlice (named 6) κ₆ u32 .own layout (sliceVal (layout .ptr) (length (layout .now)) ∷ [])) ∷ ‵ (finally E.the-row (entries .name) z-entries) ∷ ‵ (finally u64 (allocs .name) z-allocs) ∷ ‵ (finally u16 (parents .name) z-parents) ∷ ‵ (finally u8 (protectors .name) z-protectors) ∷ ‵ (finally u8 (codes .name) z-codes) ∷ [])) (Post (LL.val X.the-type X′.the-laws a))

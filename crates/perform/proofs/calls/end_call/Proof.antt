@@ -2,20 +2,20 @@
 use mathlib.Core.List.{[]}
 use native.Mathlib.Omega.{arith}
 use borrow.Author.Needs.{needs}
-use Rattle.perform.proofs.EndCalls.{words-made, left-accepted, left-refused}
+use Rattle.perform.proofs.EndCalls.{numbers-made, left-accepted, left-refused}
 use Rattle.state.proofs.States.{frames-held, trees-held}
 use Rattle.perform.proofs.calls.end_call.Statement.{statement}
 use Rattle.perform.proofs.calls.end_call.Tie as tie
 
-frame-words-requires : tie.Need-frame-words-requires
-frame-words-requires c κs = let s = c .before .before .before .before .before .before in ((s .pre .0 .0 .frames, frames-held (s .pre .0 .1)), s .pre .1)
+frame-numbers-requires : tie.Need-frame-numbers-requires
+frame-numbers-requires c κs = let s = c .before .before .before .before .before .before in ((s .pre .0 .0 .frames, frames-held (s .pre .0 .1)), s .pre .1)
 
 end-call-in-run-requires : tie.Need-end-call-in-run-requires
 end-call-in-run-requires c κs =
     let found = c .before .before in
     let s = found .before .before .before .before .before .before .before in
     let h = s .pre .0 .1 in
-    (s .pre .0 .0 .memory, (trees-held h, words-made h (s .args .f) (found .frame-words .result .now) (found .frame-words .ensures (s .pre .0 .0 .frames) (frames-held h))))
+    (s .pre .0 .0 .memory, (trees-held h, numbers-made h (s .args .f) (found .frame-numbers .result .now) (found .frame-numbers .ensures (s .pre .0 .0 .frames) (frames-held h))))
 
 refusal-requires : tie.Need-refusal-requires
 refusal-requires c κs = search needs
@@ -38,9 +38,9 @@ returns c = λ s h.
     let ended = asked .before .before .before .before .before in
     let found = ended .before .before .before in
     let f = found .before .before .before .before .before .before .before .args .f in
-    let words = found .frame-words .result .now in
-    let is = found .frame-words .ensures (s .frames) (frames-held h) in
-    left-accepted h f words is (ended .end-call-in-run .ensures (s .memory) (trees-held h) (words-made h f words is))
+    let numbers = found .frame-numbers .result .now in
+    let is = found .frame-numbers .ensures (s .frames) (frames-held h) in
+    left-accepted h f numbers is (ended .end-call-in-run .ensures (s .memory) (trees-held h) (numbers-made h f numbers is))
     (omega (arith, asked .refusal .ensures [], c .before .before .before .before .if1 .taken)) (c .before .before .close-frame .ensures (s .frames) (frames-held h))
 
 same-length-4 : tie.Need-same-length-4
@@ -58,16 +58,16 @@ returns-2 c = λ s h.
     let ended = asked .before .before .before .before .before in
     let found = ended .before .before .before in
     let f = found .before .before .before .before .before .before .before .args .f in
-    let words = found .frame-words .result .now in
-    let is = found .frame-words .ensures (s .frames) (frames-held h) in
-    left-refused h f words is (ended .end-call-in-run .ensures (s .memory) (trees-held h) (words-made h f words is))
+    let numbers = found .frame-numbers .result .now in
+    let is = found .frame-numbers .ensures (s .frames) (frames-held h) in
+    left-refused h f numbers is (ended .end-call-in-run .ensures (s .memory) (trees-held h) (numbers-made h f numbers is))
     (λ z. omega (arith, z, asked .refusal .ensures [], c .if1 .left))
 
 pub end-call-spec : {M : Type 1} → statement M
 end-call-spec =
     tie.close
     (tie.spec
-    frame-words-requires
+    frame-numbers-requires
     end-call-in-run-requires
     refusal-requires
     close-frame-requires

@@ -5,8 +5,8 @@ use lib.ListN.{length}
 use Rattle.frames.proofs.Frames.{buffer-length, frame-fits, read-entries}
 use native.Mathlib.Omega.{arith}
 use borrow.Author.Needs.{needs}
-use Rattle.frames.proofs.frame_words.Statement.{statement}
-use Rattle.frames.proofs.frame_words.Tie as tie
+use Rattle.frames.proofs.frame_numbers.Statement.{statement}
+use Rattle.frames.proofs.frame_numbers.Tie as tie
 
 whole : (s : tie.Start) → length (s .args .frames .now) ≡ 2080
 whole s = buffer-length (s .pre .0 .0) (s .args .frames .now) (s .args .f) (s .pre .0 .1) (s .pre .1)
@@ -46,8 +46,8 @@ returns c =
     let s = t .before .before in
     λ fs holds. read-entries fs (s .args .frames .now) (s .args .f) holds (s .pre .1) (t .entry-count .result) (t .entry-count .ensures fs holds)
 
-pub frame-words-spec : {M : Type 1} → statement M
-frame-words-spec =
+pub frame-numbers-spec : {M : Type 1} → statement M
+frame-numbers-spec =
     tie.close
     (tie.spec
     entry-count-requires
