@@ -16,6 +16,7 @@ use Rattle.definition.specs.Request.{request, followingLength, isMiscoun
 use Rattle.definition.specs.Run.{retagWithMask, performRetag, perform, step, answers, final, wordsOf, cutRequests, requestsOf, performedCount, program}
 use Rattle.definition.specs.Permission.Protected.{No, Weak}
 use Rattle.definition.specs.Memory.AllocationKind.{Stack}
+use Rattle.definition.proofs.Stars.{bytesOfWords, bytesOf}
 
 -- ---- requests, by their words
 abbrev firstWord : ℕ → ℕ → ℕ → ℕ → ℕ → ℕ → ℕ
@@ -69,6 +70,10 @@ cellFirst len = 0 ∷ (0x400000 + len) ∷ 0x00000001 ∷ []
 -- ---- what a list of requests comes to
 abbrev refusals : List (List ℕ) → List ℕ
 refusals wss = map (λ x. x .refusal) (answers empty wss)
+
+-- as the program answers them
+abbrev printedRefusals : List (List ℕ) → List ℕ
+printedRefusals wss = map (λ x. x .refusal) (program (bytesOf wss) .0)
 
 abbrev nodesAfter : ℕ → List (List ℕ) → List Node
 nodesAfter a wss = getD (final empty wss .memory) a (newAllocation Stack 0 0 0) .nodes
@@ -163,6 +168,10 @@ abbrev chainRun : ℕ → List (List ℕ)
 chainRun zero = allocateAt 1 16 1 ∷ []
 chainRun (suc n) = chainRun n ++ (borrow 1 0 n 16 (sized 1) ∷ [])
 
+-- of 4,097 bytes
+abbrev longStore : List ℕ
+longStore = store 0 0 16 (replicate 4097 0)
+
 pub record Cases : Type 0 where
   -- 2 for a frame opened while open; 20, 21, 22, 23
   pub protected-refusals : refusals protectedRun ≡ 0 ∷ 0 ∷ 2 ∷ 0 ∷ 0 ∷ 20 ∷ 0 ∷ 21 ∷ 22 ∷ 23 ∷ []
@@ -187,8 +196,14 @@ pub record Cases : Type 0 where
   pub empties-refusals : refusals emptiesRun ≡ 0 ∷ 14 ∷ 0 ∷ 15 ∷ 0 ∷ []
   -- 16, which no run reaches: the root is not protected
   pub unprotected-entry : endCallRefusal (final empty (allocateAt 1 16 1 ∷ []) .memory) (record { allocation = 0; node = 0 } ∷ []) ≡ 16
-  -- 5 before 15; a load of more than 4,096 bytes is no 2, a store of more is
-  pub large-refusals : refusals (allocateAt 1 0 0xffffffff ∷ allocateAt 1 1 0xffffffff ∷ allocateAt 1 16 1 ∷ load 0 0 16 5000 ∷ store 0 0 16 (replicate 4097 0) ∷ store 0 0 16 (replicate 4096 0) ∷ []) ≡ 5 ∷ 15 ∷ 0 ∷ 9 ∷ 2 ∷ 9 ∷ []
+  -- 5 before 15; a load of more bytes than the allocation has is 9
+  pub large-refusals : refusals (allocateAt 1 0 0xffffffff ∷ allocateAt 1 1 0xffffffff ∷ allocateAt 1 16 1 ∷ load 0 0 16 5000 ∷ []) ≡ 5 ∷ 15 ∷ 0 ∷ 9 ∷ []
+  -- more than 4,096 words after the fourth, in a list: of a store it is 9, of a retag 3, and a mutable reference that isn't unpin leaves them unread
+  pub long-refusals : refusals (allocateAt 1 16 1 ∷ longStore ∷ borrow 0 0 0 16 (replicate 4097 0) ∷ through 4 0 0 0 1 16 4097 (replicate 4097 0) ∷ []) ≡ 0 ∷ 9 ∷ 3 ∷ 0 ∷ []
+  -- "in the program": all of them are 2 there, and 4,096 words are none too many
+  pub long-store : printedRefusals (allocateAt 1 16 1 ∷ longStore ∷ []) ≡ 0 ∷ 2 ∷ []
+  pub long-retag : printedRefusals (allocateAt 1 16 1 ∷ through 4 0 0 0 1 16 4097 (replicate 4097 0) ∷ []) ≡ 0 ∷ 2 ∷ []
+  pub longest-store : printedRefusals (allocateAt 1 16 1 ∷ store 0 0 16 (replicate 4096 0) ∷ []) ≡ 0 ∷ 9 ∷ []
   -- "Visiting node by node in a retag" is a slip: it would meet 17 at node 1 before 21 at node 2
   pub crossed-refusals : refusals crossedRun ≡ 0 ∷ 0 ∷ 0 ∷ 0 ∷ 0 ∷ 0 ∷ 21 ∷ []
   pub crossed-rows : rows crossedRun ≡ (3 ∷ 3 ∷ []) ∷ (2 ∷ 5 ∷ []) ∷ (11 ∷ 14 ∷ []) ∷ []
@@ -220,7 +235,7 @@ pub record Cases : Type 0 where
   pub whole-load : refusals (allocateAt 1 4096 4096 ∷ load 0 0 4096 4096 ∷ []) ≡ 0 ∷ 0 ∷ []
 
 pub cases : Cases
-unfolding firstRefusal tableFrom mapFrom mutateAt writeAt filter any sumOf refusal next isAboveWithin relation descendants preorder visitingOrder rowRefusal nodeRefusal visitRefusal nodeAfter visited cellsFit isFreeze nestedMask freezeMask wrappingOffset checkPtr accessRefusalIn accessRefusal afterAccessIn afterAccess loadedWords acceptAccess performAccess isPickable exceedsBounds newAllocation allocateRefusal acceptAllocate allocate deallocateRefusal afterDeallocateIn acceptDeallocate deallocate dereferenceable leakCheck newCall releaseRefusalIn releaseRefusal afterReleaseIn afterRelease releaseAllRefusal afterReleaseAll endCallRefusal acceptEndCall endCall childNode withChild initRefusal afterInit reborrowRefusal afterReborrowIn acceptReborrow reborrow retagWithoutNode retag request followingLength isMiscounted badByte badSettings badMetadata badRetag isMalformed retagWithMask performRetag perform step answers final wordsOf cutRequests requestsOf performedCount program
+unfolding firstRefusal tableFrom mapFrom mutateAt writeAt filter any sumOf refusal next isAboveWithin relation descendants preorder visitingOrder rowRefusal nodeRefusal visitRefusal nodeAfter visited cellsFit isFreeze nestedMask freezeMask wrappingOffset checkPtr accessRefusalIn accessRefusal afterAccessIn afterAccess loadedWords acceptAccess performAccess isPickable exceedsBounds newAllocation allocateRefusal acceptAllocate allocate deallocateRefusal afterDeallocateIn acceptDeallocate deallocate dereferenceable leakCheck newCall releaseRefusalIn releaseRefusal afterReleaseIn afterRelease releaseAllRefusal afterReleaseAll endCallRefusal acceptEndCall endCall childNode withChild initRefusal afterInit reborrowRefusal afterReborrowIn acceptReborrow reborrow retagWithoutNode retag request followingLength isMiscounted badByte badSettings badMetadata badRetag isMalformed retagWithMask performRetag perform step answers final wordsOf cutRequests requestsOf performedCount program bytesOfWords bytesOf
 cases =
     record {
       protected-refusals = refl;
@@ -238,6 +253,10 @@ cases =
       empties-refusals = refl;
       unprotected-entry = refl;
       large-refusals = refl;
+      long-refusals = refl;
+      long-store = refl;
+      long-retag = refl;
+      longest-store = refl;
       crossed-refusals = refl;
       crossed-rows = refl;
       celled-rows = refl;

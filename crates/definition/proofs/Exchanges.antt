@@ -8,7 +8,7 @@ use mathlib.Core.Logic.{_⊎_, inl, inr, ⊎-elim}
 use mathlib.Core.List.{List, [], _∷_}
 use native.Mathlib.Decide.{decLt}
 use native.Mathlib.Omega.{arith}
-use lib.Dec.{eqb, ltb}
+use lib.Dec.{eqb}
 use borrow.Author.Tests.{not-false, eqb-true}
 use lib.ListN.{length, getD, drop, length-drop}
 use Rattle.definition.specs.Notation.{if_then_else_}
@@ -64,10 +64,7 @@ no-load ws e l = false≢true (sym (ap is-load e) ∙ ap is-load l)
 counted : (ws : List ℕ) → kindOf ws ≡ Store → isMiscounted ws ≡ false → length (drop 4 ws) ≡ request ws .fourth
 unfolding isMiscounted followingLength
 counted ws e h =
-    let c : not (eqb (length ws) (4 + followingLength (request ws))) ≡ false =
-    or-neither (not (eqb (length ws) (4 + followingLength (request ws)))) (ltb 4096 (followingLength (request ws))) h .0
-    in
-    let l : length ws ≡ 4 + followingLength (request ws) = eqb-true (length ws) (4 + followingLength (request ws)) (not-false _ c) in
+    let l : length ws ≡ 4 + followingLength (request ws) = eqb-true (length ws) (4 + followingLength (request ws)) (not-false _ h) in
     let k : followingLength (request ws) ≡ request ws .fourth = rw (e, followingLength) in
     omega (arith, length-drop 4 ws)
 

@@ -24,7 +24,6 @@ pub mod Leaks
 pub mod Exchanges
 mod Example
 mod Stars
-mod Printed
 mod Cases
 pub mod ValidTrees
 pub mod ValidMemory

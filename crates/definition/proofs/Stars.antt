@@ -13,6 +13,7 @@ use Rattle.definition.specs.Frame.{newCall, releaseRefusalIn, releaseRef
 use Rattle.definition.specs.Retag.{childNode, withChild, initRefusal, afterInit, reborrowRefusal, afterReborrowIn, acceptReborrow, reborrow, retagWithoutNode, retag}
 use Rattle.definition.specs.Request.{request, followingLength, isMiscounted, badByte, badSettings, badMetadata, badRetag, isMalformed}
 use Rattle.definition.specs.Run.{retagWithMask, performRetag, perform, step, answers, final, wordsOf, cutRequests, requestsOf, performedCount, program}
+use Rattle.definition.specs.Output.{Text, ascii, digit, decimalWithin, decimal, hexadecimal, ended, pointed, given, answerLine, livenessName, kindName, allocationLine, dataLine, protectorName, parentName, codes, nodeLine, nodeLines, allocationLines, memoryLines, answerLines, output}
 use Rattle.definition.specs.Permission.AccessKind.{Read, Write}
 use Rattle.definition.specs.Permission.NodeRelation.{Foreign}
 use Rattle.definition.specs.Permission.Permission.{Unprot}
@@ -33,18 +34,17 @@ theRun =
     ∷ []
 
 -- the bytes that the program reads, of a list of requests
-pub bytesOfWords : List ℕ → List ℕ
+unfoldable pub bytesOfWords : List ℕ → List ℕ
 bytesOfWords [] = []
 bytesOfWords (w ∷ ws) = w / 2 ^ 24 ∷ w / 2 ^ 16 % 2 ^ 8 ∷ w / 2 ^ 8 % 2 ^ 8 ∷ w % 2 ^ 8 ∷ bytesOfWords ws
 
-pub bytesOf : List (List ℕ) → List ℕ
+unfoldable pub bytesOf : List (List ℕ) → List ℕ
 bytesOf [] = []
 bytesOf (ws ∷ wss) = bytesOfWords ws ++ bytesOf wss
 
 abbrev pub pointerTo : ℕ → ℕ → Answer
 pointerTo allocation node = givesPointer (some (record { allocation = allocation; node = node }))
 
--- "It prints, whole: .."
 abbrev pub itsAnswers : List Answer
 itsAnswers = pointerTo 0 0 ∷ pointerTo 0 1 ∷ accepted ∷ givesWords (0x80000007 ∷ []) ∷ refusedWith 18 ∷ []
 
@@ -67,6 +67,19 @@ itsState =
       frames = replicate 32 Closed;
     }
 
+-- "It prints, whole: .."
+abbrev itsText : Text
+itsText =
+    ascii "0 0 0.0\n"
+    ++ ascii "1 0 0.1\n"
+    ++ ascii "2 0 -\n"
+    ++ ascii "3 0 80000007\n"
+    ++ ascii "4 18 -\n"
+    ++ ascii "a 0 live heap 16 2 0\n"
+    ++ ascii "d 0 80000007 00000000\n"
+    ++ ascii "n 0 0 - no 33\n"
+    ++ ascii "n 0 1 0 no 41\n"
+
 -- a heap allocation at an address, its high word and its low word, of so many bytes
 abbrev heapAt : ℕ → ℕ → ℕ → List ℕ
 heapAt high low bytes = 0x00000001 ∷ high ∷ low ∷ bytes ∷ []
@@ -76,11 +89,13 @@ abbrev beside : State
 beside = final empty (heapAt 0 16 2 ∷ [])
 
 pub record Stars : Type 0 where
-  -- "★the run above": its answers and all that it leaves, as a list, and as the program reads it
+  -- "★the run above": its answers and all that it leaves, as a list, and as the program reads it; and the text that the program prints of it, byte for
+  -- byte, whichever allocation 25 would name
   pub run-answers : answers empty theRun ≡ itsAnswers
   pub run-state : final empty theRun ≡ itsState
   pub run-requests : requestsOf (bytesOf theRun) ≡ theRun
   pub run-program : program (bytesOf theRun) ≡ (itsAnswers, itsState)
+  pub run-output : (leak : ℕ) → output leak (bytesOf theRun) ≡ itsText
   -- "size 1 at 2^64 − 2 ★accepted, size 2 ★5"
   pub size-1 : step empty (heapAt 0xffffffff 0xfffffffe 1) .0 ≡ pointerTo 0 0
   pub size-2 : step empty (heapAt 0xffffffff 0xfffffffe 2) .0 ≡ refusedWith 5
@@ -98,13 +113,14 @@ pub record Stars : Type 0 where
   pub signed : step beside (0x80000100 ∷ 0 ∷ 16 ∷ 0xffffffff ∷ []) .0 ≡ refusedWith 9
 
 pub stars : Stars
-unfolding firstRefusal tableFrom mapFrom mutateAt writeAt filter any sumOf refusal next isAboveWithin relation descendants preorder visitingOrder rowRefusal nodeRefusal visitRefusal nodeAfter visited cellsFit isFreeze nestedMask freezeMask wrappingOffset checkPtr accessRefusalIn accessRefusal afterAccessIn afterAccess loadedWords acceptAccess performAccess isPickable exceedsBounds newAllocation allocateRefusal acceptAllocate allocate deallocateRefusal afterDeallocateIn acceptDeallocate deallocate dereferenceable leakCheck newCall releaseRefusalIn releaseRefusal afterReleaseIn afterRelease releaseAllRefusal afterReleaseAll endCallRefusal acceptEndCall endCall childNode withChild initRefusal afterInit reborrowRefusal afterReborrowIn acceptReborrow reborrow retagWithoutNode retag request followingLength isMiscounted badByte badSettings badMetadata badRetag isMalformed retagWithMask performRetag perform step answers final wordsOf cutRequests requestsOf performedCount program bytesOfWords bytesOf
+unfolding firstRefusal tableFrom mapFrom mutateAt writeAt filter any sumOf refusal next isAboveWithin relation descendants preorder visitingOrder rowRefusal nodeRefusal visitRefusal nodeAfter visited cellsFit isFreeze nestedMask freezeMask wrappingOffset checkPtr accessRefusalIn accessRefusal afterAccessIn afterAccess loadedWords acceptAccess performAccess isPickable exceedsBounds newAllocation allocateRefusal acceptAllocate allocate deallocateRefusal afterDeallocateIn acceptDeallocate deallocate dereferenceable leakCheck newCall releaseRefusalIn releaseRefusal afterReleaseIn afterRelease releaseAllRefusal afterReleaseAll endCallRefusal acceptEndCall endCall childNode withChild initRefusal afterInit reborrowRefusal afterReborrowIn acceptReborrow reborrow retagWithoutNode retag request followingLength isMiscounted badByte badSettings badMetadata badRetag isMalformed retagWithMask performRetag perform step answers final wordsOf cutRequests requestsOf performedCount program bytesOfWords bytesOf digit decimalWithin decimal hexadecimal ended pointed given answerLine livenessName kindName allocationLine dataLine protectorName parentName codes nodeLine nodeLines allocationLines memoryLines answerLines output
 stars =
     record {
       run-answers = refl;
       run-state = refl;
       run-requests = refl;
       run-program = refl;
+      run-output = λ leak. refl;
       size-1 = refl;
       size-2 = refl;
       at-16 = refl;

@@ -17,7 +17,7 @@ use Rattle.definition.specs.Frame.Frame.{Closed}
 use Rattle.definition.specs.Retag.{retagWithoutNode}
 use Rattle.definition.specs.Request.{Kind, Request, request, followingLength, pointer, allocationKind, frameNumber, safePointer, protectorOf, freeze, addsNoNode, settingsOf, loadOf, storeOf, isMiscounted, isMalformed, anyName, strayName, nonzero, badExponent, badAllocationKind, badByte}
 use Rattle.definition.specs.Request.Kind.{Allocate, Deallocate, Load, Store, Retag, NewCall, EndCall, Dereferenceable, SignedDereferenceable, LeakCheck, Unused}
-use Rattle.definition.specs.Run.{retagWithMask, performRetag, perform, step, IsWord, answers, final, wordsOf, restRequest, cutRequests, requestsOf, performedCount, program}
+use Rattle.definition.specs.Run.{retagWithMask, performRetag, perform, step, IsWord, answers, final, wordsOf, restRequest, takenLength, cutRequests, requestsOf, performedCount, program}
 use Rattle.definition.specs.Valid.{All, ValidByte, Valid, ValidFrame, ValidState}
 use Rattle.definition.proofs.Booleans.{or-neither}
 use Rattle.definition.proofs.Alls.{if-holds, all-both, all-replicate, all-take, all-drop, none-pass}
@@ -108,7 +108,7 @@ unfolding cutRequests
 cut-requests-words zero rest ws h = rest-words rest
 cut-requests-words (suc most) rest [] h = rest-words rest
 cut-requests-words (suc most) rest (w ∷ ws) h =
-    let n : ℕ = 4 + followingLength (request (w ∷ ws)) in
+    let n : ℕ = 4 + takenLength (followingLength (request (w ∷ ws))) in
     if-holds (All (All IsWord)) (ltb (length (w ∷ ws)) n) ((w ∷ ws) ∷ []) (take n (w ∷ ws) ∷ cutRequests most rest (drop n (w ∷ ws)))
     (λ e. (h, tt))
     (λ e. (all-take IsWord n (w ∷ ws) h, cut-requests-words most rest (drop n (w ∷ ws)) (all-drop IsWord n (w ∷ ws) h)))

@@ -143,10 +143,9 @@ followingLength q =
       | Unused ↦ 0
     ]
 
--- "Input that ends inside a request falls under 2; so does, in the program, a store or retag with more than 4,096 words after its fourth."
--- (decisions 15, 44, 47)
+-- "Input that ends inside a request falls under 2": it has fewer words than it announces, or, in a list, more (decision 47)
 unfoldable pub isMiscounted : List ℕ → Bool
-isMiscounted ws = let n = followingLength (request ws) in not (eqb (length ws) (4 + n)) || ltb 4096 n
+isMiscounted ws = not (eqb (length ws) (4 + followingLength (request ws)))
 
 -- ---- 2, field by field
 -- "Fields without a use are zero." (decisions 1 and 2)

@@ -75,12 +75,17 @@ abbrev pub restRequest : Bool → List (List ℕ)
 restRequest true = [] ∷ []
 restRequest false = []
 
+-- how many words the program takes behind the fourth. "so does, in the program, a store or retag with more than 4,096 words after its fourth": of these
+-- it takes none, so that the request is one that is cut short, and falls under 2 (decision 15)
+abbrev pub takenLength : ℕ → ℕ
+takenLength n = if ltb 4096 n then 0 else n
+
 -- the requests of a run's words, each with its own; the last may be cut short. `rest`: bytes are left behind the words. There are no more requests than words
 unfoldable pub cutRequests : ℕ → Bool → List ℕ → List (List ℕ)
 cutRequests zero rest ws = restRequest rest
 cutRequests (suc most) rest [] = restRequest rest
 cutRequests (suc most) rest (w ∷ ws) =
-    let n = 4 + followingLength (request (w ∷ ws)) in
+    let n = 4 + takenLength (followingLength (request (w ∷ ws))) in
     if ltb (length (w ∷ ws)) n then (w ∷ ws) ∷ []
     else take n (w ∷ ws) ∷ cutRequests most rest (drop n (w ∷ ws))
 

@@ -258,7 +258,7 @@ impl Request {
 
     // ---- how many words follow the fourth, and which frame is used
     pub fn following_length(self) -> usize
-        ensures { λ r. ⌜ ((ws : List ℕ) → r ≡ followingLength (requestOf self ws)) ⌝ }
+        ensures { λ r. ⌜ ((ws : List ℕ) → r ≡ followingLength (requestOf self ws)) × (r < 2 ^ 32) ⌝ }
     {
         let kind = self.kind;
         match kind {
@@ -286,16 +286,12 @@ impl Request {
     }
 }
 
-// "Input that ends inside a request falls under 2; so does, in the program, a store or retag with more than 4,096 words after its fourth."
-// Of the request that `count` words are.
+// "Input that ends inside a request falls under 2", and so does a list's request that has more words than it announces. Of the request that
+// `count` words are.
 pub fn is_miscounted(q: Request, count: usize) -> bool
     ensures { λ r. ⌜ ((ws : List ℕ) → requestOf q (drop 4 ws) ≡ request ws → count ≡ length ws → r ≡ isMiscounted ws) ⌝ }
 {
-    let n = q.following_length();
-    if 4096 < n {
-        return true;
-    }
-    count != 4 + n
+    count != 4 + q.following_length()
 }
 
 // ---- 2, field by field. Tests are joined by `|` and `&`, which evaluate both sides: a function then has one way through.

@@ -1,7 +1,7 @@
 -- A list, turn by turn: what is left to do from the state that is held comes to what the whole list does from the empty one.
 use Prim.Native.Nat.{ℕ, _+_, _-_, _≤_, _<_}
 use mathlib.Core.Path.{_≡_, refl, sym, ap, subst, _∙_}
-use mathlib.Core.Bool.{true, false, false≢true}
+use mathlib.Core.Bool.{true, false}
 use mathlib.Core.List.{List, [], _∷_, _++_, append-nil, append-assoc}
 use native.Mathlib.Numerals.{add-one}
 use native.Mathlib.Omega.{arith}
@@ -23,7 +23,7 @@ use Rattle.answer.proofs.Loaded.{loaded-length}
 use Rattle.transcript.specs.Transcript.{answerWords, transcript, WrittenTo}
 use Rattle.transcript.specs.declared.Written.{Written}
 use Rattle.run.specs.declared.ListRun.the-variants.{Refused, Answered}
-use Rattle.run.specs.Lists.{requestsFrom, requestsIn, Ran, ListRan}
+use Rattle.run.specs.Lists.{requestsFrom, requestsIn, Lent, lent, ran, answered, listRun, ListRan}
 use Rattle.step.specs.Steps.{Stepped}
 use Rattle.state.specs.Lengths.{haveLengths}
 use Rattle.run.specs.Turns.{Turned, Going}
@@ -89,33 +89,30 @@ module _ (words ends before : List ℕ) where
               ∙ g .told;
         }
 
-  pub ran : {i from : ℕ} {w : Written} {b : Buffers} {F out : List ℕ} → length ends ≤ i → Going words ends before i from w b F out → Ran (requestsIn words ends) before w b F out
-  unfolding requestsFrom final answers transcript
-  ran {i} {from} {w} {b} {F} {out} all g =
+  pub all-ran : {i from : ℕ} {w : Written} {b : Buffers} {F out : List ℕ} → length ends ≤ i → Going words ends before i from w b F out
+      → _≡_ {A = Written × Lent} (w, lent b F out) (ran (requestsIn words ends) before)
+  unfolding requestsFrom final answers transcript ran
+  all-ran {i} {from} {w} {b} {F} {out} all g =
       let l : List (List ℕ) = requestsIn words ends in
-      let o = order-is-free empty l in
       let none-left : drop i ends ≡ [] = drop-of-length-le ends {i = i} all in
       let s-end : g .state ≡ final empty l = ap (λ (x : List ℕ). final (g .state) (requestsFrom from x words)) (sym none-left) ∙ g .to-end in
       let told : g .text ≡ transcript (answers empty l) =
       sym (append-nil (g .text)) ∙ ap (λ (x : List ℕ). g .text ++ transcript (answers (g .state) (requestsFrom from x words))) (sym none-left) ∙ g .told in
+      let t : WrittenTo (transcript (answers empty l)) before out w = subst (λ (text : List ℕ). WrittenTo text before out w) told (g .written) in
       let memory : b ≡ encode (final empty l .memory) = g .holds .memory ∙ ap (λ (s : State). encode (s .memory)) s-end in
       let frames : F ≡ framesHeld (final empty l .frames) = g .holds .frames ∙ ap (λ (s : State). framesHeld (s .frames)) s-end in
-      record {
-        written = subst (λ (text : List ℕ). WrittenTo text before out w) told (g .written);
-        memory = memory;
-        frames = frames;
-        order = o;
-        same-memory = λ places e. memory ∙ ap (λ (s : State). encode (s .memory)) (sym (o .same-end places e));
-        same-frames = λ places e. frames ∙ ap (λ (s : State). framesHeld (s .frames)) (sym (o .same-end places e));
-      }
+      λ k. (record { at = t .end k; whole = t .fits k }, lent (memory k) (frames k) (t .contents k))
 
 -- ---- for whatever is lent
-module _ {l : List (List ℕ)} {lent : Buffers} {lentF before : List ℕ} where
-  pub not-lent : haveLengths lent lentF ≡ false → ListRan l lent lentF before (Refused 1) lent lentF before
-  not-lent e = record {
-    refused = λ f. (refl, record { memory = refl; frames = refl; answers = refl });
-    ran = λ f. absurd (false≢true (sym e ∙ f));
-  }
+module _ {l : List (List ℕ)} {b₀ : Buffers} {F₀ before : List ℕ} where
+  pub not-lent : haveLengths b₀ F₀ ≡ false → ListRan l (lent b₀ F₀ before) (Refused 1) (lent b₀ F₀ before)
+  unfolding listRun
+  not-lent e = record { outcome = rw e; order = order-is-free empty l }
 
-  pub list-ran : haveLengths lent lentF ≡ true → {w : Written} {b : Buffers} {F out : List ℕ} → Ran l before w b F out → ListRan l lent lentF before (Answered (w .at) (w .whole)) b F out
-  list-ran e {w} k = record { refused = λ f. absurd (false≢true (sym f ∙ e)); ran = λ f. (w, (refl, k)) }
+  pub list-ran : haveLengths b₀ F₀ ≡ true → {w : Written} {left : Lent} → _≡_ {A = Written × Lent} (w, left) (ran l before)
+      → ListRan l (lent b₀ F₀ before) (Answered (w .at) (w .whole)) left
+  unfolding listRun
+  list-ran e k = record {
+    outcome = rw e (ap answered k);
+    order = order-is-free empty l;
+  }

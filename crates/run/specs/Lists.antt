@@ -1,16 +1,17 @@
 -- A list of requests on lent buffers, and demand 3: what `run_list` promises. Document 01: "Lists whose order may change".
-use Prim.Native.Nat.{ℕ, _-_}
+use Prim.Native.Nat.{ℕ, _-_, min}
 use mathlib.Core.Path.{_≡_}
-use mathlib.Core.Bool.{true, false}
 use mathlib.Core.List.{List, [], _∷_}
-use lib.ListN.{take, drop}
+use lib.Dec.{leb}
+use lib.ListN.{length, take, drop}
+use Rattle.definition.specs.Notation.{if_then_else_, writeAt}
 use Rattle.definition.specs.Frame.{empty}
 use Rattle.definition.specs.Run.{answers, final}
-use Rattle.definition.specs.Exchange.{Exchanged, exchangeAll, OrderIsFree}
+use Rattle.definition.specs.Exchange.{OrderIsFree}
 use Rattle.tables.specs.Encoding.{Buffers, encode}
 use Rattle.state.specs.Lengths.{haveLengths}
 use Rattle.frames.specs.Buffer.{framesHeld}
-use Rattle.transcript.specs.Transcript.{transcript, WrittenTo}
+use Rattle.transcript.specs.Transcript.{transcript}
 use Rattle.transcript.specs.declared.Written.{Written}
 use Rattle.run.specs.declared.ListRun.{ListRun}
 use Rattle.run.specs.declared.ListRun.the-variants.{Refused, Answered}
@@ -23,26 +24,34 @@ requestsFrom from (end ∷ ends) words = take (end - from) (drop from words) ∷
 abbrev pub requestsIn : List ℕ → List ℕ → List (List ℕ)
 requestsIn words ends = requestsFrom 0 ends words
 
--- ---- the claim about the list l: w says how far its answers reach in the buffer `out`, which held `before`
-pub record Ran (l : List (List ℕ)) (before : List ℕ) (w : Written) (b : Buffers) (F out : List ℕ) : Type 0 where
-  -- answers, memory and frames are the definition's
-  pub written : WrittenTo (transcript (answers empty l)) before out w
-  pub memory : b ≡ encode (final empty l .memory)
-  pub frames : F ≡ framesHeld (final empty l .frames)
-  -- demand 3: every list made from l by exchanges has the same answers, each in its new place, and the same end; an accepted load made again
-  -- is accepted, gives the same words and changes nothing more
+-- ---- what is lent, and what is left of it: the five buffers of the memory, the frames, and the buffer for the answers
+pub record Lent : Type 0 where
+  pub memory : Buffers
+  pub frames : List ℕ
+  pub answers : List ℕ
+
+abbrev pub lent : Buffers → List ℕ → List ℕ → Lent
+lent b F out = record { memory = b; frames = F; answers = out }
+
+-- ---- what the list l comes to on emptied buffers, with `before` in the one for the answers. Answers, memory and frames are the definition's; of the
+-- answers as much as there is room for, with where they end and whether that is all
+unfoldable pub ran : List (List ℕ) → List ℕ → Written × Lent
+ran l before =
+    let text = transcript (answers empty l) in (
+      record { at = min (length text) (length before); whole = leb (length text) (length before) },
+      lent (encode (final empty l .memory)) (framesHeld (final empty l .frames)) (writeAt 0 text before),
+    )
+
+abbrev pub answered : Written × Lent → ListRun × Lent
+answered o = (Answered (o .0 .at) (o .0 .whole), o .1)
+
+-- ---- for whatever is lent: 1, and nothing of it changes, where a buffer has another length
+unfoldable pub listRun : List (List ℕ) → Lent → ListRun × Lent
+listRun l given = if haveLengths (given .memory) (given .frames) then answered (ran l (given .answers)) else (Refused 1, given)
+
+-- ---- the claim about the list l, where r is replied and `left` is what is left of the buffers
+pub record ListRan (l : List (List ℕ)) (given : Lent) (r : ListRun) (left : Lent) : Type 0 where
+  pub outcome : _≡_ {A = ListRun × Lent} (r, left) (listRun l given)
+  -- demand 3: every list made from l by exchanges has the same answers, each in its new place, and the same end, and so has the list with an
+  -- accepted load made again. `listRun` is made of the answers and the end, so all that holds memory and frames is equal too (proofs/Exchanged)
   pub order : OrderIsFree empty l
-  -- such a list leaves, number for number, the same buffers
-  pub same-memory : (places : List ℕ) → Exchanged places l → b ≡ encode (final empty (exchangeAll places l) .memory)
-  pub same-frames : (places : List ℕ) → Exchanged places l → F ≡ framesHeld (final empty (exchangeAll places l) .frames)
-
--- nothing of what is lent changes
-pub record Unchanged (lent b : Buffers) (lentF F before out : List ℕ) : Type 0 where
-  pub memory : b ≡ lent
-  pub frames : F ≡ lentF
-  pub answers : out ≡ before
-
--- for whatever is lent
-pub record ListRan (l : List (List ℕ)) (lent : Buffers) (lentF before : List ℕ) (r : ListRun) (b : Buffers) (F out : List ℕ) : Type 0 where
-  pub refused : haveLengths lent lentF ≡ false → (r ≡ Refused 1) × Unchanged lent b lentF F before out
-  pub ran : haveLengths lent lentF ≡ true → (w : Written) × ((r ≡ Answered (w .at) (w .whole)) × Ran l before w b F out)

@@ -5,8 +5,10 @@ use crate::wide;
 use transcript::Written;
 ghost use Rattle.definition.specs.Frame.{State, empty};
 ghost use Rattle.tables.specs.Held.{buffers};
+ghost use mathlib.Core.Path.{_≡_};
 ghost use Rattle.state.specs.State.{HoldsState};
-ghost use Rattle.run.specs.Lists.{requestsIn, Ran, ListRan};
+ghost use Rattle.transcript.specs.declared.Written as written;
+ghost use Rattle.run.specs.Lists.{requestsIn, Lent, lent, ran, ListRan};
 ghost use Rattle.run.specs.Turns.{Turned};
 
 // One request; its answer is written behind the others.
@@ -42,8 +44,9 @@ fn run_cleared(
     answers: &mut [u32],
 ) -> Written
     requires { ⌜ HoldsState empty (buffers (now allocs) (now parents) (now protectors) (now words) (now codes)) (now frames) ⌝ }
-    ensures { λ r. ⌜ Ran (requestsIn (now (requests .entry)) (now (ends .entry))) (now (answers .entry)) r
-        (buffers (now (allocs .exit)) (now (parents .exit)) (now (protectors .exit)) (now (words .exit)) (now (codes .exit))) (now (frames .exit)) (now (answers .exit)) ⌝ }
+    ensures { λ r. ⌜ _≡_ {A = written.Written × Lent}
+        (r, lent (buffers (now (allocs .exit)) (now (parents .exit)) (now (protectors .exit)) (now (words .exit)) (now (codes .exit))) (now (frames .exit)) (now (answers .exit)))
+        (ran (requestsIn (now (requests .entry)) (now (ends .entry))) (now (answers .entry))) ⌝ }
 {
     let mut w = transcript::nothing_written();
     let mut from = 0;
@@ -81,8 +84,8 @@ pub fn run_list(
     answers: &mut [u32],
 ) -> ListRun
     ensures { λ r. ⌜ ListRan (requestsIn (now (requests .entry)) (now (ends .entry)))
-        (buffers (now (allocs .entry)) (now (parents .entry)) (now (protectors .entry)) (now (words .entry)) (now (codes .entry))) (now (frames .entry)) (now (answers .entry))
-        r (buffers (now (allocs .exit)) (now (parents .exit)) (now (protectors .exit)) (now (words .exit)) (now (codes .exit))) (now (frames .exit)) (now (answers .exit)) ⌝ }
+        (lent (buffers (now (allocs .entry)) (now (parents .entry)) (now (protectors .entry)) (now (words .entry)) (now (codes .entry))) (now (frames .entry)) (now (answers .entry)))
+        r (lent (buffers (now (allocs .exit)) (now (parents .exit)) (now (protectors .exit)) (now (words .exit)) (now (codes .exit))) (now (frames .exit)) (now (answers .exit))) ⌝ }
 {
     if !state::have_lengths(allocs, parents, protectors, words, codes, frames) {
         return ListRun::Refused(1);

@@ -1,21 +1,20 @@
--- The next request by its bytes is the first request of the definition's cut, or is refused as that is, and what is left is cut from the bytes
--- behind it. So a run taken request by request, up to the first refusal, is the definition's `program`.
+-- The next request by its bytes is the first request of the definition's cut, and what is left is cut from the bytes behind it. So a run taken request by request, up to the first refusal, is the definition's `program`.
 use Prim.Native.Nat.{ℕ, zero, suc, _+_, _-_, _*_, _%_, _≤_, _<_}
-use mathlib.Core.Path.{_≡_, refl, sym, ap, _∙_}
+use mathlib.Core.Path.{_≡_, refl, sym, ap, ap₂, _∙_}
 use mathlib.Core.Bool.{Bool, true, false, not, _||_}
 use mathlib.Core.List.{List, [], _∷_, _++_}
 use native.Mathlib.Omega.{arith}
 use native.Mathlib.Nat.{mul-add-mod-self-left, mod-eq-of-lt}
-use borrow.Author.Tests.{ltb-true, ltb-false, ne-eqb}
+use borrow.Author.Tests.{ltb-true, ltb-false, lt-ltb, ne-eqb}
 use lib.Dec.{eqb, ltb}
-use lib.ListN.{length, take, drop, length-drop, drop-of-length-le}
-use lib.Seq.{take-all, take-append-le}
+use lib.ListN.{length, take, drop, length-take, length-drop, drop-of-length-le}
+use lib.Seq.{take-all, take-nil, take-append-le}
 use Rattle.definition.specs.Notation.{if_then_else_}
 use Rattle.definition.specs.Refusal.{malformed}
 use Rattle.definition.specs.Memory.{Answer, refusedWith}
 use Rattle.definition.specs.Frame.{State, empty}
 use Rattle.definition.specs.Request.{request, followingLength, isMiscounted, isMalformed}
-use Rattle.definition.specs.Run.{wordsOf, restRequest, cutRequests, requestsOf, performedCount, answers, final, run, perform, step, program}
+use Rattle.definition.specs.Run.{wordsOf, restRequest, takenLength, cutRequests, requestsOf, performedCount, answers, final, run, perform, step, program}
 use Rattle.stream.specs.Stream.{requestSize, nextRequest, programFrom}
 use Rattle.stream.proofs.Words.{fourfold, fourfold-mul, words-take, words-drop, counted}
 
@@ -49,26 +48,12 @@ module _ (bytes later : List ℕ) (h : requestSize bytes ≤ length bytes) where
 
   pub size-more : requestSize (bytes ++ later) ≡ requestSize bytes
   unfolding requestSize
-  size-more = ap (λ (n : ℕ). 16 + 4 * (if ltb 4096 n then 0 else n)) same-follow
+  size-more = ap (λ (n : ℕ). 16 + 4 * takenLength n) same-follow
 
   pub next-more : nextRequest (bytes ++ later) ≡ nextRequest bytes
   next-more =
       ap (λ (n : ℕ). wordsOf (take n (bytes ++ later))) size-more
       ∙ ap wordsOf (take-append-le (requestSize bytes) bytes later h)
-
--- ---- what is miscounted is refused, and changes nothing
-step-miscounted : (s : State) (ws : List ℕ) → isMiscounted ws ≡ true → step s ws ≡ (refusedWith malformed, s)
-unfolding step
-step-miscounted s ws e =
-    ap (λ (t : Bool). if t || isMalformed (request ws .kind) s (request ws) then (refusedWith malformed, s) else perform (request ws .kind) s (request ws)) e
-
-too-many : (ws : List ℕ) → ltb 4096 (follow ws) ≡ true → isMiscounted ws ≡ true
-unfolding isMiscounted
-too-many ws e = by (not (eqb (length ws) (4 + follow ws))) (ltb 4096 (follow ws)) e
-  where
-    by : (a b : Bool) → b ≡ true → a || b ≡ true
-    by true b e = refl
-    by false b e = e
 
 -- ---- more fuel than words makes no difference
 cut-fuel : (m m′ : ℕ) (rest : Bool) (ws : List ℕ) → length ws ≤ m → length ws ≤ m′ → cutRequests m rest ws ≡ cutRequests m′ rest ws
@@ -80,7 +65,7 @@ cut-fuel (suc m) zero rest [] h h′ = refl
 cut-fuel (suc m) zero rest (w ∷ ws) h h′ = absurd (omega arith)
 cut-fuel (suc m) (suc m′) rest [] h h′ = refl
 cut-fuel (suc m) (suc m′) rest (w ∷ ws) h h′ =
-    let n : ℕ = 4 + follow (w ∷ ws) in
+    let n : ℕ = 4 + takenLength (follow (w ∷ ws)) in
     let k : length (drop n (w ∷ ws)) ≡ length (w ∷ ws) - n = length-drop n (w ∷ ws) in
     ap (λ (l : List (List ℕ)). if ltb (length (w ∷ ws)) n then (w ∷ ws) ∷ [] else take n (w ∷ ws) ∷ l)
     (cut-fuel m m′ rest (drop n (w ∷ ws)) (omega arith) (omega arith))
@@ -98,43 +83,50 @@ rest-drop n bytes h =
 -- ---- the first request
 -- the size that is taken, in words
 abbrev taken : List ℕ → ℕ
-taken ws = if ltb 4096 (follow ws) then 0 else follow ws
+taken ws = takenLength (follow ws)
 
 size-taken : (bytes : List ℕ) → requestSize bytes ≡ fourfold (4 + taken (wordsOf bytes))
 unfolding requestSize
 size-taken bytes = let h : fourfold (4 + taken (wordsOf bytes)) ≡ 4 * (4 + taken (wordsOf bytes)) = fourfold-mul (4 + taken (wordsOf bytes)) in omega arith
 
-pub record First (bytes : List ℕ) : Type 0 where
-  pub first : List ℕ
-  pub others : List (List ℕ)
-  pub cut : requestsOf bytes ≡ first ∷ others
-  pub same : (s : State) → step s first ≡ step s (nextRequest bytes)
-  pub behind : (s : State) → step s first .0 .refusal ≡ 0 → others ≡ requestsOf (drop (requestSize bytes) bytes)
-
 next-words : (bytes : List ℕ) → nextRequest bytes ≡ take (4 + taken (wordsOf bytes)) (wordsOf bytes)
 next-words bytes =
     ap (λ (n : ℕ). wordsOf (take n bytes)) (size-taken bytes) ∙ words-take (4 + taken (wordsOf bytes)) bytes
 
--- no word: one to three bytes
-no-words : (bytes : List ℕ) → wordsOf bytes ≡ [] → 0 < length bytes → requestsOf bytes ≡ [] ∷ []
-unfolding requestsOf cutRequests
-no-words bytes e h =
-    let k = counted bytes in
-    let z : length (wordsOf bytes) ≡ 0 = ap length e in
-    let r : length bytes % 4 ≡ length bytes = mod-eq-of-lt (omega (arith, k .few, k .total)) in
-    ap (λ (ws : List ℕ). cutRequests (length ws) (isRest bytes) ws) e
-    ∙ ap (λ (t : Bool). restRequest (not t)) (ne-eqb (length bytes % 4) 0 (omega arith))
+-- it is the first of the cut, and what is left is cut from the bytes behind it
+abbrev CutOff : List ℕ → Type 0
+CutOff bytes = requestsOf bytes ≡ nextRequest bytes ∷ requestsOf (drop (requestSize bytes) bytes)
 
-refused-not-accepted : (s : State) (ws : List ℕ) → isMiscounted ws ≡ true → step s ws .0 .refusal ≡ 0 → ⊥
-refused-not-accepted s ws e z =
-    let two : malformed ≡ 0 = sym (ap (λ (o : Answer × State). o .0 .refusal) (step-miscounted s ws e)) ∙ z in omega arith
+-- nothing is behind it
+none-behind : (bytes : List ℕ) → length bytes ≤ requestSize bytes → [] ≡ requestsOf (drop (requestSize bytes) bytes)
+unfolding requestsOf cutRequests wordsOf
+none-behind bytes h = ap requestsOf (sym (drop-of-length-le bytes {i = requestSize bytes} h))
+
+-- no word: one to three bytes
+module _ (bytes : List ℕ) (e : wordsOf bytes ≡ []) (h : 0 < length bytes) where
+  no-words : requestsOf bytes ≡ [] ∷ []
+  unfolding requestsOf cutRequests
+  no-words =
+      let k = counted bytes in
+      let z : length (wordsOf bytes) ≡ 0 = ap length e in
+      let r : length bytes % 4 ≡ length bytes = mod-eq-of-lt (omega (arith, k .few, k .total)) in
+      ap (λ (ws : List ℕ). cutRequests (length ws) (isRest bytes) ws) e
+      ∙ ap (λ (t : Bool). restRequest (not t)) (ne-eqb (length bytes % 4) 0 (omega arith))
+
+  first-without : CutOff bytes
+  unfolding requestSize
+  first-without =
+      let k = counted bytes in
+      let z : length (wordsOf bytes) ≡ 0 = ap length e in
+      let next : [] ≡ nextRequest bytes = sym (next-words bytes ∙ ap (λ (l : List ℕ). take (4 + taken l) l) e ∙ take-nil (4 + taken [])) in
+      no-words ∙ ap₂ _∷_ next (none-behind bytes (omega (arith, k .few, k .total)))
 
 module _ (bytes : List ℕ) (w : ℕ) (ws : List ℕ) (e : wordsOf bytes ≡ w ∷ ws) where
   abbrev all : List ℕ
   all = w ∷ ws
 
   abbrev whole : ℕ
-  whole = 4 + follow all
+  whole = 4 + taken all
 
   abbrev later : List (List ℕ)
   later = cutRequests (length ws) (isRest bytes) (drop whole all)
@@ -145,48 +137,27 @@ module _ (bytes : List ℕ) (w : ℕ) (ws : List ℕ) (e : wordsOf bytes ≡ w �
       ap (λ (l : List ℕ). cutRequests (length l) (isRest bytes) l) e
       ∙ ap (λ (t : Bool). if t then all ∷ [] else take whole all ∷ later) es
 
-  next-by : (many : Bool) → ltb 4096 (follow all) ≡ many → nextRequest bytes ≡ take (4 + (if many then 0 else follow all)) all
-  next-by many em =
-      next-words bytes
-      ∙ ap (λ (l : List ℕ). take (4 + taken l) l) e
-      ∙ ap (λ (t : Bool). take (4 + (if t then 0 else follow all)) all) em
+  next-is : nextRequest bytes ≡ take whole all
+  next-is = next-words bytes ∙ ap (λ (l : List ℕ). take (4 + taken l) l) e
 
-  size-by : ltb 4096 (follow all) ≡ false → requestSize bytes ≡ fourfold whole
-  size-by em =
-      size-taken bytes
-      ∙ ap (λ (l : List ℕ). fourfold (4 + taken l)) e
-      ∙ ap (λ (t : Bool). fourfold (4 + (if t then 0 else follow all))) em
-
-  -- more than 4,096 words follow: whatever is taken of the request is refused
-  many-by : ltb 4096 (follow all) ≡ true → (n : ℕ) → isMiscounted (take (4 + n) all) ≡ true
-  many-by em n = too-many (take (4 + n) all) (ap (λ (k : ℕ). ltb 4096 k) (follow-four n all) ∙ em)
-
-  many-same : ltb 4096 (follow all) ≡ true → (first : List ℕ) → isMiscounted first ≡ true → (s : State) → step s first ≡ step s (nextRequest bytes)
-  many-same em first m s =
-      step-miscounted s first m
-      ∙ sym (step-miscounted s (take 4 all) (many-by em 0))
-      ∙ ap (λ (l : List ℕ). step s l) (sym (next-by true em))
+  size-is : requestSize bytes ≡ fourfold whole
+  size-is = size-taken bytes ∙ ap (λ (l : List ℕ). fourfold (4 + taken l)) e
 
   -- the last request is cut short
-  nothing-behind : ltb (length all) whole ≡ true → ltb 4096 (follow all) ≡ false → [] ≡ requestsOf (drop (requestSize bytes) bytes)
-  unfolding requestsOf cutRequests wordsOf
-  nothing-behind es em =
+  nothing-behind : length all < whole → [] ≡ requestsOf (drop (requestSize bytes) bytes)
+  nothing-behind l =
       let k = counted bytes in
       let z : length (wordsOf bytes) ≡ length all = ap length e in
       let f : fourfold whole ≡ 4 * whole = fourfold-mul whole in
-      let n : requestSize bytes ≡ fourfold whole = size-by em in
-      let l : length all < whole = ltb-true (length all) whole es in
-      sym (ap (λ (l : List ℕ). requestsOf l) (drop-of-length-le bytes {i = requestSize bytes} (omega (arith, k .few, k .total))))
+      none-behind bytes (omega (arith, k .few, k .total, size-is))
 
   -- more may follow
-  later-behind : ltb (length all) whole ≡ false → ltb 4096 (follow all) ≡ false → later ≡ requestsOf (drop (requestSize bytes) bytes)
+  later-behind : whole ≤ length all → later ≡ requestsOf (drop (requestSize bytes) bytes)
   unfolding requestsOf
-  later-behind es em =
+  later-behind l =
       let k = counted bytes in
       let z : length (wordsOf bytes) ≡ length all = ap length e in
       let f : fourfold whole ≡ 4 * whole = fourfold-mul whole in
-      let n : requestSize bytes ≡ fourfold whole = size-by em in
-      let l : whole ≤ length all = ltb-false (length all) whole es in
       let d : length (drop whole all) ≡ length all - whole = length-drop whole all in
       let words : wordsOf (drop (fourfold whole) bytes) ≡ drop whole all = words-drop whole bytes ∙ ap (drop whole) e in
       let rest : isRest (drop (fourfold whole) bytes) ≡ isRest bytes =
@@ -194,62 +165,37 @@ module _ (bytes : List ℕ) (w : ℕ) (ws : List ℕ) (e : wordsOf bytes ≡ w �
       cut-fuel (length ws) (length (drop whole all)) (isRest bytes) (drop whole all) (omega arith) (omega arith)
       ∙ ap (λ (r : Bool). cutRequests (length (drop whole all)) r (drop whole all)) (sym rest)
       ∙ ap (λ (l : List ℕ). cutRequests (length l) (isRest (drop (fourfold whole) bytes)) l) (sym words)
-      ∙ ap (λ (n : ℕ). requestsOf (drop n bytes)) (sym n)
+      ∙ ap (λ (n : ℕ). requestsOf (drop n bytes)) (sym size-is)
 
-  first-by : (short many : Bool) → ltb (length all) whole ≡ short → ltb 4096 (follow all) ≡ many → First bytes
-  first-by true true es em =
-      let m : isMiscounted all ≡ true = too-many all em in
-      record {
-        first = all;
-        others = [];
-        cut = cut-by true es;
-        same = many-same em all m;
-        behind = λ s z. absurd (refused-not-accepted s all m z);
-      }
-  first-by false true es em =
-      let m : isMiscounted (take whole all) ≡ true = many-by em (follow all) in
-      record {
-        first = take whole all;
-        others = later;
-        cut = cut-by false es;
-        same = many-same em (take whole all) m;
-        behind = λ s z. absurd (refused-not-accepted s (take whole all) m z);
-      }
-  first-by true false es em =
+  first-by : (short : Bool) → ltb (length all) whole ≡ short → CutOff bytes
+  first-by true es =
       let l : length all < whole = ltb-true (length all) whole es in
-      record {
-        first = all;
-        others = [];
-        cut = cut-by true es;
-        same = λ s. ap (λ (l : List ℕ). step s l) (sym (next-by false em ∙ take-all whole all (omega arith)));
-        behind = λ s z. nothing-behind es em;
-      }
-  first-by false false es em =
-      record {
-        first = take whole all;
-        others = later;
-        cut = cut-by false es;
-        same = λ s. ap (λ (l : List ℕ). step s l) (sym (next-by false em));
-        behind = λ s z. later-behind es em;
-      }
+      cut-by true es ∙ ap₂ _∷_ (sym (next-is ∙ take-all whole all (omega arith))) (nothing-behind l)
+  first-by false es = cut-by false es ∙ ap₂ _∷_ (sym next-is) (later-behind (ltb-false (length all) whole es))
 
-first-without : (bytes : List ℕ) → wordsOf bytes ≡ [] → 0 < length bytes → First bytes
-unfolding request followingLength isMiscounted
-first-without bytes e h =
-    record {
-      first = [];
-      others = [];
-      cut = no-words bytes e h;
-      same = λ s. ap (λ (l : List ℕ). step s l) (sym (next-words bytes ∙ ap (λ (l : List ℕ). take (4 + taken l) l) e));
-      behind = λ s z. absurd (refused-not-accepted s [] refl z);
-    }
-
-pub first-request : (bytes : List ℕ) → 0 < length bytes → First bytes
+pub first-request : (bytes : List ℕ) → 0 < length bytes → CutOff bytes
 first-request bytes h = by (wordsOf bytes) refl
   where
-    by : (l : List ℕ) → wordsOf bytes ≡ l → First bytes
+    by : (l : List ℕ) → wordsOf bytes ≡ l → CutOff bytes
     by [] e = first-without bytes e h
-    by (w ∷ ws) e = first-by bytes w ws e (ltb (length (w ∷ ws)) (4 + follow (w ∷ ws))) (ltb 4096 (follow (w ∷ ws))) refl refl
+    by (w ∷ ws) e = first-by bytes w ws e (ltb (length (w ∷ ws)) (4 + taken (w ∷ ws))) refl
+
+-- "so does, in the program, a store or retag with more than 4,096 words after its fourth": the next request is then refused with 2, and changes nothing
+module _ (s : State) (bytes : List ℕ) (many : 4096 < follow (wordsOf bytes)) where
+  miscounted : isMiscounted (nextRequest bytes) ≡ true
+  unfolding isMiscounted
+  miscounted =
+      let none : taken (wordsOf bytes) ≡ 0 = ap (λ (t : Bool). if t then 0 else follow (wordsOf bytes)) (lt-ltb 4096 (follow (wordsOf bytes)) many) in
+      let four : nextRequest bytes ≡ take 4 (wordsOf bytes) = next-words bytes ∙ ap (λ (n : ℕ). take (4 + n) (wordsOf bytes)) none in
+      let few : length (nextRequest bytes) ≤ 4 = omega (arith, ap length four, length-take 4 (wordsOf bytes)) in
+      let same : follow (nextRequest bytes) ≡ follow (wordsOf bytes) = ap follow four ∙ follow-four 0 (wordsOf bytes) in
+      ap not (ne-eqb (length (nextRequest bytes)) (4 + follow (nextRequest bytes)) (omega arith))
+
+  pub too-many : step s (nextRequest bytes) ≡ (refusedWith malformed, s)
+  unfolding step
+  too-many =
+      let ws : List ℕ = nextRequest bytes in
+      ap (λ (t : Bool). if t || isMalformed (request ws .kind) s (request ws) then (refusedWith malformed, s) else perform (request ws .kind) s (request ws)) miscounted
 
 -- ---- the run, request by request
 pub program-from : (bytes : List ℕ) → programFrom empty bytes ≡ program bytes
@@ -286,18 +232,9 @@ module _ (s : State) (bytes : List ℕ) (h : 0 < length bytes) where
   pub program-more : outcome .0 .refusal ≡ 0 → programFrom s bytes ≡ (outcome .0 ∷ left .0, left .1)
   unfolding programFrom
   program-more z =
-      let f = first-request bytes h in
-      let z′ : step s (f .first) .0 .refusal ≡ 0 = ap (λ (o : Answer × State). o .0 .refusal) (f .same s) ∙ z in
-      ap (stopped s) (f .cut)
-      ∙ stopped-more s (f .first) (f .others) z′
-      ∙ ap (λ (l : List (List ℕ)). (step s (f .first) .0 ∷ stopped (step s (f .first) .1) l .0, stopped (step s (f .first) .1) l .1)) (f .behind s z′)
-      ∙ ap (λ (o : Answer × State). let p = programFrom (o .1) (drop (requestSize bytes) bytes) in (o .0 ∷ p .0, p .1)) (f .same s)
+      ap (stopped s) (first-request bytes h) ∙ stopped-more s (nextRequest bytes) (requestsOf (drop (requestSize bytes) bytes)) z
 
   pub program-last : eqb (outcome .0 .refusal) 0 ≡ false → programFrom s bytes ≡ (outcome .0 ∷ [], outcome .1)
   unfolding programFrom
   program-last z =
-      let f = first-request bytes h in
-      let z′ : eqb (step s (f .first) .0 .refusal) 0 ≡ false = ap (λ (o : Answer × State). eqb (o .0 .refusal) 0) (f .same s) ∙ z in
-      ap (stopped s) (f .cut)
-      ∙ stopped-last s (f .first) (f .others) z′
-      ∙ ap (λ (o : Answer × State). (o .0 ∷ [], o .1)) (f .same s)
+      ap (stopped s) (first-request bytes h) ∙ stopped-last s (nextRequest bytes) (requestsOf (drop (requestSize bytes) bytes)) z

@@ -11,7 +11,7 @@ use Rattle.definition.specs.Notation.{if_then_else_}
 use Rattle.definition.specs.Request.{Request, request, followingLength, isSafe}
 use Rattle.definition.specs.Request.{Kind}
 use Rattle.definition.specs.Request.Kind.{Allocate, Deallocate, Load, Store, Retag, NewCall, EndCall, Dereferenceable, SignedDereferenceable, LeakCheck, Unused}
-use Rattle.definition.specs.Run.{wordsOf}
+use Rattle.definition.specs.Run.{wordsOf, takenLength}
 use Rattle.stream.specs.Stream.{requestSize}
 use Rattle.stream.proofs.Words.{counted}
 
@@ -48,7 +48,7 @@ size-short bytes h =
     let k = counted bytes in
     let q : Request = request (wordsOf bytes) in
     let z : followingLength q ≡ 0 = by-kind (q .kind) q refl (no-fourth (wordsOf bytes) (omega (arith, k .few, k .total))) in
-    ap (λ (n : ℕ). 16 + 4 * (if ltb 4096 n then 0 else n)) (sym z)
+    ap (λ (n : ℕ). 16 + 4 * takenLength n) (sym z)
 
 -- ---- the four words
 module _ (bytes : List ℕ) (a b c d : ℕ)
@@ -63,9 +63,9 @@ module _ (bytes : List ℕ) (a b c d : ℕ)
       ap (λ (ws : List ℕ). followingLength (request ws)) (sym whole)
 
   module _ (n : ℕ) (e : n ≡ followingLength (request (a ∷ b ∷ c ∷ d ∷ []))) where
-    by-follow : 16 + 4 * (if ltb 4096 n then 0 else n) ≡ requestSize bytes
+    by-follow : 16 + 4 * takenLength n ≡ requestSize bytes
     unfolding requestSize
-    by-follow = ap (λ (n : ℕ). 16 + 4 * (if ltb 4096 n then 0 else n)) (e ∙ follow-head)
+    by-follow = ap (λ (n : ℕ). 16 + 4 * takenLength n) (e ∙ follow-head)
 
     pub size-many : 4096 < n → 16 ≡ requestSize bytes
     size-many h = ap (λ (t : Bool). 16 + 4 * (if t then 0 else n)) (sym (lt-ltb 4096 n h)) ∙ by-follow

@@ -2,13 +2,11 @@
 use Prim.Native.Nat.{ℕ, _+_, _*_, _^_}
 use mathlib.Core.Path.{_≡_}
 use mathlib.Core.List.{List, _++_}
-use lib.Dec.{ltb}
 use lib.ListN.{length, take, drop}
-use Rattle.definition.specs.Notation.{if_then_else_}
 use Rattle.definition.specs.Memory.{Answer}
 use Rattle.definition.specs.Frame.{State}
 use Rattle.definition.specs.Request.{request, followingLength}
-use Rattle.definition.specs.Run.{wordsOf, requestsOf, performedCount, answers, run}
+use Rattle.definition.specs.Run.{wordsOf, takenLength, requestsOf, performedCount, answers, run}
 
 -- "words are .. stored most significant byte first"
 abbrev pub wordFrom : ℕ → ℕ → ℕ → ℕ → ℕ
@@ -20,10 +18,9 @@ pub record WordsRead (bytes before : List ℕ) (n : ℕ) (after : List ℕ) : Ty
   pub count : n ≡ length (wordsOf bytes)
   pub rest : drop n after ≡ drop n before
 
--- how many bytes the next request has, by those at hand: "a store or retag with more than 4,096 words after its fourth" falls under 2 by its first
--- four words, so that the others need not be read
+-- how many bytes the program takes as the next request, by those at hand
 unfoldable pub requestSize : List ℕ → ℕ
-requestSize bytes = let n = followingLength (request (wordsOf bytes)) in 16 + 4 * (if ltb 4096 n then 0 else n)
+requestSize bytes = 16 + 4 * takenLength (followingLength (request (wordsOf bytes)))
 
 -- the next request: the words of these bytes, fewer where the input ends inside it
 abbrev pub nextRequest : List ℕ → List ℕ

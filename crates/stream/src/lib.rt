@@ -43,7 +43,8 @@ pub fn read_words(bytes: &[u8], words: &mut [u32]) -> usize
     n
 }
 
-// How many bytes the next request has, by those at hand. What announces more than 4,096 words behind its fourth is refused by its first four words.
+// How many bytes the next request has, by those at hand. Of one that announces more than 4,096 words behind its fourth, the first four words are
+// taken: "in the program" it falls under 2, as one that is cut short does.
 pub fn request_size(bytes: &[u8]) -> usize
     ensures { λ r. ⌜ r ≡ requestSize (now (bytes .entry)) ⌝ }
 {

@@ -1,6 +1,6 @@
 -- From what the called entry comes to, with its fields that fall under 2, to the promise in numbers.
 use Prim.Native.Nat.{ℕ}
-use mathlib.Core.Path.{_≡_, refl, ap, sym, subst⁻¹, _∙_}
+use mathlib.Core.Path.{_≡_, ap, _∙_}
 use mathlib.Core.Bool.{Bool, true, false, _||_}
 use mathlib.Core.List.{List}
 use lib.ListN.{length, set}
@@ -18,16 +18,14 @@ use Rattle.library_frames.specs.Settings.{badFields, retagOf}
 use Rattle.library_frames.specs.Outcome.{malformedOutcome}
 use Rattle.library_frames.specs.declared.retags.RetagOutcome.{RetagOutcome}
 use Rattle.library_frames.proofs.Lent as retags
-use Rattle.state.specs.Lengths.{haveLengths}
-use Rattle.run.specs.Lists.{ListRan}
+use Rattle.run.specs.Lists.{Lent, ListRan}
 use Rattle.run.specs.declared.ListRun.{ListRun}
-use Rattle.run.specs.declared.ListRun.the-variants as ran
 use Rattle.tree_borrows.specs.declared.numbers.ListReply.{ListReply}
 use Rattle.tree_borrows.specs.declared.numbers.Place.{Place}
 use Rattle.tree_borrows.specs.declared.numbers.Reply.{Reply}
 use Rattle.tree_borrows.specs.declared.numbers.RetagMade.{RetagMade}
 use Rattle.tree_borrows.specs.declared.numbers.Settings.{Settings}
-use Rattle.tree_borrows.specs.Numbers.{pointerOf, badPlace, settingsOf, badFlags, replyOf, Replied, madeOf, RetagReplied, listReplyOf, listRunOf, ListReplied}
+use Rattle.tree_borrows.specs.Numbers.{pointerOf, badPlace, settingsOf, badFlags, replyOf, Replied, madeOf, RetagReplied, listReplyOf, ListReplied}
 
 -- an outcome of the called entry, in numbers
 pub in-numbers : {X : Type 0} {r : Reply} {a : Answer} {left : X} {outcome : Answer × X} → r ≡ replyOf a → _≡_ {A = Answer × X} (a, left) outcome → Replied r left outcome
@@ -67,20 +65,8 @@ module _ (settings : Settings) (p : Place) (layout : List ℕ) (len count : ℕ)
   good-retag e k = rw (is, e) (ap (λ (x : Answer × retag.Lent). (replyOf (x .0), x .1)) k)
 
 -- ---- a list
-module _ {l : List (List ℕ)} {lent : Buffers} {lentF before : List ℕ} {a : ListRun} {b : Buffers} {F out : List ℕ} (k : ListRan l lent lentF before a b F out) where
-  answered-back : (at : ℕ) (whole : Bool) → listRunOf (listReplyOf (ran.Answered at whole)) ≡ ran.Answered at whole
-  answered-back at true = refl
-  answered-back at false = refl
-
-  -- the reply stands for its answer
-  list-back : listRunOf (listReplyOf a) ≡ a
-  list-back = by (haveLengths lent lentF) refl
-    where
-      by : (t : Bool) → haveLengths lent lentF ≡ t → listRunOf (listReplyOf a) ≡ a
-      by true e = subst⁻¹ (λ (x : ListRun). listRunOf (listReplyOf x) ≡ x) (k .ran e .1 .0) (answered-back (k .ran e .0 .at) (k .ran e .0 .whole))
-      by false e = subst⁻¹ (λ (x : ListRun). listRunOf (listReplyOf x) ≡ x) (k .refused e .0) refl
-
-  pub list-replied : {r : ListReply} → r ≡ listReplyOf a → ListReplied r (λ x. ListRan l lent lentF before x b F out)
-  list-replied q =
-      let back = ap listRunOf q ∙ list-back in
-      (q ∙ ap listReplyOf (sym back), subst⁻¹ (λ (x : ListRun). ListRan l lent lentF before x b F out) back k)
+pub list-replied : {l : List (List ℕ)} {given left : Lent} {a : ListRun} {r : ListReply} → r ≡ listReplyOf a → ListRan l given a left → ListReplied l given r left
+list-replied {left = left} q k = record {
+  outcome = (λ i. (q i, left)) ∙ ap (λ (o : ListRun × Lent). (listReplyOf (o .0), o .1)) (k .outcome);
+  order = k .order;
+}

@@ -8,6 +8,8 @@ use lib.Dec.{eqb, ltb}
 use lib.ListN.{length, take, drop}
 use Rattle.definition.specs.Notation.{if_then_else_}
 use Rattle.definition.specs.Refusal.{memoryLeak}
+use Rattle.definition.specs.Exchange.{OrderIsFree}
+use Rattle.definition.specs.Frame.{empty}
 use Rattle.definition.specs.Memory as definition
 use Rattle.definition.specs.Request.{nonzero}
 use Rattle.pointer.specs.declared.Provenance.{Provenance}
@@ -23,6 +25,7 @@ use Rattle.library_frames.specs.Settings.{badFields, retagOf}
 use Rattle.library_frames.specs.declared.retags.RetagAnswer.{RetagAnswer}
 use Rattle.library_frames.specs.declared.retags.RetagOutcome.{RetagOutcome}
 use Rattle.library_frames.specs.declared.retags.RetagSettings.{RetagSettings}
+use Rattle.run.specs.Lists.{Lent, listRun}
 use Rattle.run.specs.declared.ListRun.{ListRun}
 use Rattle.run.specs.declared.ListRun.the-variants as ran
 use Rattle.tree_borrows.specs.declared.numbers.ListReply.{ListReply}
@@ -116,9 +119,7 @@ abbrev pub listReplyOf : ListRun → ListReply
 listReplyOf (ran.Refused n) = record { refusal = n; whole = 0; at = 0 }
 listReplyOf (ran.Answered at whole) = record { refusal = 0; whole = flagOf whole; at = at }
 
--- the answer that a reply stands for
-abbrev pub listRunOf : ListReply → ListRun
-listRunOf r = if eqb (r .refusal) 0 then ran.Answered (r .at) (isSet (r .whole)) else ran.Refused (r .refusal)
-
-abbrev pub ListReplied : ListReply → (ListRun → Type 0) → Type 0
-ListReplied r Promise = (r ≡ listReplyOf (listRunOf r)) × Promise (listRunOf r)
+-- its promise: it replies r and leaves `left` of the buffers, as the list does; with demand 3
+pub record ListReplied (l : List (List ℕ)) (given : Lent) (r : ListReply) (left : Lent) : Type 0 where
+  pub outcome : _≡_ {A = ListReply × Lent} (r, left) (listReplyOf (listRun l given .0), listRun l given .1)
+  pub order : OrderIsFree empty l

@@ -180,6 +180,18 @@ fn a_frame_outlives_its_list() {
     outcome.memory.store(root, &[byte(1)], Align::ONE).unwrap();
 }
 
+/// The limit of 4,096 words after the fourth is the program's alone.
+#[test]
+fn a_list_takes_more_words_than_a_run() {
+    let root = pointer(16, 0, 0);
+    let mut list = List::new();
+    list.allocate(MemoryKind::Heap, 1, Align::ONE, 16);
+    list.store(root, &vec![UNINITIALISED; 4097], Align::ONE);
+    list.store(root, &[byte(1)], Align::ONE);
+    let answers = list.run().answers;
+    assert_eq!(answers[1..], [Err(Refusal::OutOfBounds), Ok(Given::Nothing)]);
+}
+
 #[test]
 fn dereference_tests_reach_ahead_and_back() {
     let mut memory = Memory::new();

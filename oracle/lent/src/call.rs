@@ -1,6 +1,6 @@
 //! One call of an entry: drawn, made, and answered by the reference.
 
-use crate::buffers::{decode, encode, have_lengths, valid_word};
+use crate::buffers::{decode, encode, have_lengths};
 use crate::lent::{Frame, Lent, AREA, PLACES};
 use runs::deep::{self, Style};
 use runs::random::Random;
@@ -267,9 +267,6 @@ impl Call {
                     5
                 })
             }
-            Call::Store { bytes, .. } if bytes.len() > 4096 && !bytes.iter().all(|&w| valid_word(w)) => {
-                refused(2)
-            }
             _ => m.step(Some(&self.words())),
         }
     }
@@ -281,8 +278,7 @@ impl Call {
 
     /// The request that has the call's answer. Where a number of the call fits no run, another one stands for it:
     /// exponents from 31 on, kinds and extras from 7 on are all outside their lists, lengths from 2^32 - 1 on are above
-    /// all sizes, and no allocation has a node 4,095. A store of more than 4,096 bytes, which a run refuses, is answered
-    /// like a load of so many, and a layout of more than 4,096 words like its first 4,096, which have no mask either.
+    /// all sizes, and no allocation has a node 4,095.
     pub fn words(&self) -> Words {
         let ptr = |at: &Place| {
             let named = (at.allocation as usize, at.node as usize);
@@ -300,9 +296,6 @@ impl Call {
                 words::deallocate(ptr(at), kind(k), exponent(e), length(*len))
             }
             Call::Load { at, len, exponent: e } => words::load(ptr(at), exponent(e), length(*len)),
-            Call::Store { at, bytes, exponent: e } if bytes.len() > 4096 => {
-                words::load(ptr(at), exponent(e), bytes.len() as u32)
-            }
             Call::Store { at, bytes, exponent: e } => words::store(ptr(at), exponent(e), bytes),
             Call::Retag { at, settings, .. } if settings.extra > 2 => {
                 words::retag_unsafe(ptr(at), settings.extra.min(7))
@@ -310,7 +303,7 @@ impl Call {
             Call::Retag { at, settings, layout } => {
                 let frame = (settings.function_entry == 1).then_some(0);
                 let flags = Flags { frame, unpin: settings.unpin == 1, freeze: settings.freeze == 1 };
-                words::retag(ptr(at), settings.extra, flags, &layout[..layout.len().min(4096)])
+                words::retag(ptr(at), settings.extra, flags, layout)
             }
             Call::New => Words::new(),
             Call::NewCall => words::new_call(0),

@@ -4,6 +4,9 @@
 use crate::coverage;
 use std::fmt::Write;
 
+/// The most words that may follow a request's fourth in a run. A list has no such limit.
+const MOST_WORDS: usize = 4096;
+
 const READ: u8 = 0;
 const WRITE: u8 = 1;
 const LOCAL: u8 = 0;
@@ -252,7 +255,7 @@ impl Reference {
         let words = words.ok_or(2)?;
         let f = Fields::of(words);
         let after = &words[4..];
-        if !f.in_lists() || after.len() > 4096 || after.len() as u64 != f.tail() {
+        if !f.in_lists() || after.len() as u64 != f.tail() {
             return Err(2);
         }
         match f.kind {
@@ -621,12 +624,13 @@ pub fn output(input: &[u8], list: bool) -> String {
     output_from(Reference::new(), input, list)
 }
 
-/// The same, from a memory that is there already.
+/// The same, from a memory that is there already. In a run alone a request with too many words falls under 2.
 pub fn output_from(mut memory: Reference, input: &[u8], list: bool) -> String {
     let mut text = String::new();
     let (mut at, mut index) = (0, 0);
     while at < input.len() {
         let (words, next) = next_request(input, at);
+        let words = words.filter(|words| list || words.len() <= 4 + MOST_WORDS);
         let answer = memory.step(words.as_deref());
         writeln!(text, "{index} {} {}", answer.refusal, third(&answer.third)).unwrap();
         if answer.refusal != 0 && !list {

@@ -33,7 +33,7 @@ following-length-requires : tie.Need-following-length-requires
 following-length-requires c κs = search needs
 
 returns-2 : tie.Need-returns-2
-returns-2 c = size-many (c .before .before .before .before .before .before .before .before .before .before .args .bytes .now) (c .before .before .before .before .before .before .before .word-at .result) (c .before .before .before .before .before .before .word-at2 .result) (c .before .before .before .before .before .word-at3 .result) (c .before .before .before .before .word-at4 .result) (c .before .before .before .before .before .before .before .word-at .ensures) (c .before .before .before .before .before .before .word-at2 .ensures) (c .before .before .before .before .before .word-at3 .ensures) (c .before .before .before .before .word-at4 .ensures) (c .before .following-length .result) (c .before .following-length .ensures [] ∙ ap followingLength (c .before .before .of .ensures)) (omega arith)
+returns-2 c = size-many (c .before .before .before .before .before .before .before .before .before .before .args .bytes .now) (c .before .before .before .before .before .before .before .word-at .result) (c .before .before .before .before .before .before .word-at2 .result) (c .before .before .before .before .before .word-at3 .result) (c .before .before .before .before .word-at4 .result) (c .before .before .before .before .before .before .before .word-at .ensures) (c .before .before .before .before .before .before .word-at2 .ensures) (c .before .before .before .before .before .word-at3 .ensures) (c .before .before .before .before .word-at4 .ensures) (c .before .following-length .result) (c .before .following-length .ensures .0 [] ∙ ap followingLength (c .before .before .of .ensures)) (omega arith)
 
 mul-result : tie.Need-mul-result
 mul-result c = search needs
@@ -42,7 +42,7 @@ add-result : tie.Need-add-result
 add-result c = search needs
 
 returns-3 : tie.Need-returns-3
-returns-3 c = size-few (c .before .before .before .before .before .before .before .before .before .before .args .bytes .now) (c .before .before .before .before .before .before .before .word-at .result) (c .before .before .before .before .before .before .word-at2 .result) (c .before .before .before .before .before .word-at3 .result) (c .before .before .before .before .word-at4 .result) (c .before .before .before .before .before .before .before .word-at .ensures) (c .before .before .before .before .before .before .word-at2 .ensures) (c .before .before .before .before .before .word-at3 .ensures) (c .before .before .before .before .word-at4 .ensures) (c .before .following-length .result) (c .before .following-length .ensures [] ∙ ap followingLength (c .before .before .of .ensures)) (omega arith)
+returns-3 c = size-few (c .before .before .before .before .before .before .before .before .before .before .args .bytes .now) (c .before .before .before .before .before .before .before .word-at .result) (c .before .before .before .before .before .before .word-at2 .result) (c .before .before .before .before .before .word-at3 .result) (c .before .before .before .before .word-at4 .result) (c .before .before .before .before .before .before .before .word-at .ensures) (c .before .before .before .before .before .before .word-at2 .ensures) (c .before .before .before .before .before .word-at3 .ensures) (c .before .before .before .before .word-at4 .ensures) (c .before .following-length .result) (c .before .following-length .ensures .0 [] ∙ ap followingLength (c .before .before .of .ensures)) (omega arith)
 
 pub request-size-spec : {M : Type 1} → statement M
 request-size-spec =

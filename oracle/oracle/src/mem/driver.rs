@@ -3,7 +3,7 @@
 use super::itself;
 use super::print;
 use super::refusals::{last_message, Failure};
-use super::request::cut;
+use super::request::{cut, MOST_WORDS};
 use super::start;
 use super::state::{Answer, Options, State};
 use std::io::{BufReader, BufWriter, Read, Write};
@@ -137,6 +137,7 @@ fn run(input: &[u8], mode: Mode) -> String {
     let (mut at, mut index) = (0, 0);
     while at < input.len() {
         let (words, next) = cut(input, at);
+        let words = words.filter(|words| mode.list || words.len() <= 4 + MOST_WORDS);
         let answer = caught(|| state.step(words.as_deref()));
         print::answer(&mut out, index, &answer);
         if mode.options.messages && answer.is_err() {

@@ -3,7 +3,7 @@
 /// A number from document 01's list.
 pub type Refusal = u8;
 
-/// The most words that may follow a request's fourth.
+/// The most words that may follow a request's fourth in a run. A list has no such limit.
 pub const MOST_WORDS: usize = 4096;
 
 #[derive(Clone, Copy)]
@@ -75,13 +75,11 @@ fn words_after_fourth(first: u32, fourth: u32) -> usize {
 
 /// The request that the words hold.
 pub fn decode(words: &[u32]) -> Result<Request<'_>, Refusal> {
-    demand(words.len() - 4 <= MOST_WORDS)?;
     demand(words[0] >> 3 & 31 <= 29)?;
     fields(words)
 }
 
-/// The same without the port's bounds on exponents and on the words that follow: 2 where no call of the Rust
-/// has such fields.
+/// The same without the port's bound on exponents: 2 where no call of the Rust has such fields.
 pub fn fields(words: &[u32]) -> Result<Request<'_>, Refusal> {
     let (first, fourth, after) = (words[0], words[3], &words[4..]);
     let exponent = first >> 3 & 31;

@@ -1,5 +1,5 @@
 -- After i turns what is left of the list, from the state that is held, comes to what the whole list does (Turns).
-use Rattle.run.proofs.Turns.{written-length, going-start, going-on, ran}
+use Rattle.run.proofs.Turns.{written-length, going-start, going-on, all-ran}
 use Rattle.state.proofs.Held.{state-lengths}
 use Rattle.tables.specs.Held.{buffers}
 use Rattle.run.specs.Turns.{Going}
@@ -114,7 +114,7 @@ returns : tie.Need-returns Inv-loop μ-loop
 returns c =
     let asked = c .before .before .before .before .before .before in
     let s = asked .before .before .before .before .before .before in
-    ran (s .args .requests .now) (s .args .ends .now) (s .args .answers .now) (search needs) (c .before .loop .inv .1)
+    all-ran (s .args .requests .now) (s .args .ends .now) (s .args .answers .now) (search needs) (c .before .loop .inv .1)
 
 pub run-cleared-spec : {M : Type 1} → statement M
 run-cleared-spec =

@@ -36,7 +36,7 @@ returns c =
     let kept = c .before .before .before .before .before in
     let lent = kept .before .before .before .before .before in
     let ran = lent .before .before .before .before .before in
-    list-replied (ran .run-list .ensures) (c .list-reply .ensures)
+    list-replied (c .list-reply .ensures) (ran .run-list .ensures)
 
 pub tree-borrows-run-list-spec : {M : Type 1} → statement M
 tree-borrows-run-list-spec =
