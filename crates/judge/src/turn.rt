@@ -1,9 +1,11 @@
 // One request of a run: performed, and the line of its answer written.
 use crate::Place;
 use answer::Answer;
-ghost use Prim.Native.Nat.{_+_, _*_, _≤_, _<_, _^_};
+use request::Request;
+use stream::Cut;
+ghost use Prim.Native.Nat.{_+_, _-_, _*_, _≤_, _<_, _^_, min};
 ghost use mathlib.Core.Path.{_≡_};
-ghost use lib.ListN.{length};
+ghost use lib.ListN.{length, drop};
 ghost use Rattle.definition.specs.Memory.{Memory};
 ghost use Rattle.definition.specs.Frame.{State};
 ghost use Rattle.definition.specs.Run.{wordsOf};
@@ -13,7 +15,9 @@ ghost use Rattle.state.specs.State.{HoldsState};
 ghost use Rattle.definition.specs.Output.{answerLine};
 ghost use Rattle.report.specs.Written.{WrittenInside};
 ghost use Rattle.report.specs.Answer.{named};
-ghost use Rattle.judge.specs.Turn.{lineRoom, Shown, LineWritten, Turned, requestEnd, Taken};
+ghost use Rattle.stream.specs.Stream.{HeadOf, CutOf};
+ghost use Rattle.step.specs.Steps.{Stepped};
+ghost use Rattle.judge.specs.Turn.{lineRoom, Shown, LineWritten, Turned, Taken};
 
 // Where the next line goes, and whether the request was refused.
 struct Line {
@@ -67,30 +71,41 @@ fn write_answer(
     }
 }
 
-// The request that these words make.
-fn answer_words(
+// The request that these bytes make, of which q are the fields, if there are bytes for them. `request` is room for the words behind them.
+fn step_bytes(
     allocs: &mut [u64],
     parents: &mut [u16],
     protectors: &mut [u8],
     words: &mut [u32],
     codes: &mut [u8],
     frames: &mut [u32],
-    request: &[u32],
-    out: &mut [u8],
-    at: usize,
-    index: u64,
-) -> Line
+    bytes: &[u8],
+    q: Request,
+    request: &mut [u32],
+) -> Answer
     requires { ⌜ ((s : State) × HoldsState s (buffers (now allocs) (now parents) (now protectors) (now words) (now codes)) (now frames)) ⌝ }
-    requires { ⌜ at + lineRoom ≤ length (now out) ⌝ }
+    requires { ⌜ (length (now bytes) < 4 * length (now request) + 4) × (16 ≤ length (now bytes) → HeadOf (now bytes) q) ⌝ }
     ensures { λ r. ⌜ ((s : State) → HoldsState s (buffers (now (allocs .entry)) (now (parents .entry)) (now (protectors .entry)) (now (words .entry)) (now (codes .entry))) (now (frames .entry))
-        → Turned s (now (request .entry)) index (now (out .entry)) at (now (out .exit)) (r .at) (r .refused)
+        → Stepped s (wordsOf (now (bytes .entry))) r
         (buffers (now (allocs .exit)) (now (parents .exit)) (now (protectors .exit)) (now (words .exit)) (now (codes .exit))) (now (frames .exit))) ⌝ }
 {
-    let answer = step::step(allocs, parents, protectors, words, codes, frames, request);
-    write_answer(out, at, index, answer, allocs, words)
+    if bytes.len() < 16 {
+        return Answer::Refused(2);
+    }
+    let n = stream::read_words(&bytes[16..], request);
+    step::step_decoded(
+        allocs,
+        parents,
+        protectors,
+        words,
+        codes,
+        frames,
+        q,
+        &request[..n],
+    )
 }
 
-// The request that these bytes make. `request` is room for its words.
+// The same, and its line.
 fn answer_bytes(
     allocs: &mut [u64],
     parents: &mut [u16],
@@ -99,45 +114,44 @@ fn answer_bytes(
     codes: &mut [u8],
     frames: &mut [u32],
     bytes: &[u8],
+    q: Request,
     request: &mut [u32],
     out: &mut [u8],
     at: usize,
     index: u64,
 ) -> Line
     requires { ⌜ ((s : State) × HoldsState s (buffers (now allocs) (now parents) (now protectors) (now words) (now codes)) (now frames)) ⌝ }
-    requires { ⌜ (at + lineRoom ≤ length (now out)) × (length (now bytes) < 4 * length (now request) + 4) ⌝ }
+    requires { ⌜ (at + lineRoom ≤ length (now out)) × ((length (now bytes) < 4 * length (now request) + 4) × (16 ≤ length (now bytes) → HeadOf (now bytes) q)) ⌝ }
     ensures { λ r. ⌜ ((s : State) → HoldsState s (buffers (now (allocs .entry)) (now (parents .entry)) (now (protectors .entry)) (now (words .entry)) (now (codes .entry))) (now (frames .entry))
         → Turned s (wordsOf (now (bytes .entry))) index (now (out .entry)) at (now (out .exit)) (r .at) (r .refused)
         (buffers (now (allocs .exit)) (now (parents .exit)) (now (protectors .exit)) (now (words .exit)) (now (codes .exit))) (now (frames .exit))) ⌝ }
 {
-    let n = stream::read_words(bytes, request);
-    answer_words(
+    let answer = step_bytes(
         allocs,
         parents,
         protectors,
         words,
         codes,
         frames,
-        &request[..n],
-        out,
-        at,
-        index,
-    )
+        bytes,
+        q,
+        request,
+    );
+    write_answer(out, at, index, answer, allocs, words)
 }
 
-// Where the request that starts at `from` ends: behind its bytes, or with the run.
-fn request_end(run: &[u8], from: usize) -> usize
-    requires { ⌜ from ≤ length (now run) ⌝ }
-    ensures { λ r. ⌜ r ≡ requestEnd (now (run .entry)) from ⌝ }
+// Where a request of so many bytes that starts at `from` ends: behind them, or with the run.
+fn request_end(total: usize, from: usize, size: usize) -> usize
+    requires { ⌜ from ≤ total ⌝ }
+    ensures { λ r. ⌜ r ≡ from + min size (total - from) ⌝ }
 {
-    let size = stream::request_size(&run[from..]);
-    if run.len() - from < size {
-        return run.len();
+    if total - from < size {
+        return total;
     }
     from + size
 }
 
-// The next request of the bytes at hand. Where they end inside it, it is cut short.
+// The next request of the bytes at hand, which is cut from them. Where they end inside it, it is cut short.
 pub fn next(
     allocs: &mut [u64],
     parents: &mut [u16],
@@ -149,15 +163,18 @@ pub fn next(
     request: &mut [u32],
     out: &mut [u8],
     p: Place,
+    cut: Cut,
 ) -> Place
     requires { ⌜ ((s : State) × HoldsState s (buffers (now allocs) (now parents) (now protectors) (now words) (now codes)) (now frames)) ⌝ }
     requires { ⌜ (p .at + lineRoom ≤ length (now out)) × ((length (now request) ≡ 4100) × ((p .from < length (now run)) × (p .index + 1 < 2 ^ 64))) ⌝ }
+    requires { ⌜ CutOf (drop (p .from) (now run)) cut ⌝ }
     ensures { λ r. ⌜ ((s : State) → HoldsState s (buffers (now (allocs .entry)) (now (parents .entry)) (now (protectors .entry)) (now (words .entry)) (now (codes .entry))) (now (frames .entry))
         → Taken s (now (run .entry)) p (now (out .entry)) r (now (out .exit))
         (buffers (now (allocs .exit)) (now (parents .exit)) (now (protectors .exit)) (now (words .exit)) (now (codes .exit))) (now (frames .exit))) ⌝ }
 {
     let from = p.from;
-    let end = request_end(run, from);
+    let end = request_end(run.len(), from, cut.size);
+    let q = cut.fields;
     let line = answer_bytes(
         allocs,
         parents,
@@ -166,6 +183,7 @@ pub fn next(
         codes,
         frames,
         &run[from..end],
+        q,
         request,
         out,
         p.at,

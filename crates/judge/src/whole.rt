@@ -54,6 +54,8 @@ fn answer_all(
         refused: false,
     };
     while goes_on(p, run.len(), out.len()) {
+        let from = p.from;
+        let cut = stream::next_cut(&run[from..]);
         p = crate::turn::next(
             allocs,
             parents,
@@ -65,6 +67,7 @@ fn answer_all(
             request,
             out,
             p,
+            cut,
         );
     }
     p

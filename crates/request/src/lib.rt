@@ -286,12 +286,12 @@ impl Request {
     }
 }
 
-// "Input that ends inside a request falls under 2", and so does a list's request that has more words than it announces. Of the request that
-// `count` words are.
+// "Input that ends inside a request falls under 2", and so does a list's request that has more words than it announces. Of the request that has
+// `count` words behind its fourth.
 pub fn is_miscounted(q: Request, count: usize) -> bool
-    ensures { λ r. ⌜ ((ws : List ℕ) → requestOf q (drop 4 ws) ≡ request ws → count ≡ length ws → r ≡ isMiscounted ws) ⌝ }
+    ensures { λ r. ⌜ ((ws : List ℕ) → requestOf q (drop 4 ws) ≡ request ws → length ws ≡ 4 + count → r ≡ isMiscounted ws) ⌝ }
 {
-    count != 4 + q.following_length()
+    count != q.following_length()
 }
 
 // ---- 2, field by field. Tests are joined by `|` and `&`, which evaluate both sides: a function then has one way through.

@@ -1,12 +1,12 @@
 -- One request: its fields and its words are the definition's, and each way to answer it is the definition's `step`.
-use Prim.Native.Nat.{ℕ, suc, _+_, _^_, _<_}
+use Prim.Native.Nat.{ℕ, suc, _+_, _^_, _≤_, _<_}
 use native.Mathlib.Omega.{arith}
 use borrow.Author.Tests.{ne-eqb}
 use mathlib.Core.Path.{_≡_, refl, sym, ap, subst, _∙_}
 use mathlib.Core.Bool.{Bool, true, false, _||_}
 use mathlib.Core.List.{List, [], _∷_}
 use lib.Dec.{eqb}
-use lib.ListN.{length, getD, drop}
+use lib.ListN.{length, getD, drop, length-drop}
 use Rattle.definition.specs.Notation.{if_then_else_}
 use Rattle.definition.specs.Refusal.{malformed}
 use Rattle.definition.specs.Memory as definition
@@ -27,12 +27,16 @@ use Rattle.request.specs.declared.Request as code
 use Rattle.request.specs.Fields.{kindOf, requestOf}
 use Rattle.perform.specs.Performed.{Formed, outcomeOf, Left}
 use Rattle.state.specs.State.{HoldsState}
-use Rattle.step.specs.Steps.{isRefused, Stepped}
+use Rattle.step.specs.Steps.{Decoded, isRefused, Stepped}
 
 -- numbers that are each below 2^32
 pub all-words : (ws : List ℕ) → ((i : ℕ) → getD ws i 0 < 2 ^ 32) → All IsWord ws
 all-words [] h = tt
 all-words (w ∷ ws) h = (h 0, all-words ws (λ i. h (suc i)))
+
+-- the fields of words, and the words behind them
+pub decoded : (ws : List ℕ) → All IsWord ws → (q : code.Request) → requestOf q (drop 4 ws) ≡ request ws → {following : List ℕ} → following ≡ drop 4 ws → 4 ≤ length ws → Decoded q following ws
+decoded ws words q fields rest long = record { fields = fields; rest = rest; count = omega (arith, ap length rest, length-drop 4 ws); words = words }
 
 -- the two tests of 2
 pub refused-by : (s : State) (ws : List ℕ) {a b : Bool} → a ≡ isMiscounted ws → (q : code.Request) → requestOf q (drop 4 ws) ≡ request ws
@@ -72,15 +76,15 @@ module _ {s : State} {b : Buffers} {F : List ℕ} (h : HoldsState s b F) where
         stepped-by (by-test true e) (record { answer = refl; memory = h .memory; frames = h .frames })
         (subst (λ (o : definition.Answer × State). ValidState (o .1)) (sym (by-test true e)) (h .valid))
 
-    module _ (words : All IsWord ws) (passed : isRefused s ws ≡ false) (q : code.Request) (same : requestOf q (drop 4 ws) ≡ request ws) {following : List ℕ} (is : following ≡ drop 4 ws) where
+    module _ (passed : isRefused s ws ≡ false) (q : code.Request) {following : List ℕ} (d : Decoded q following ws) where
       as-request : requestOf q following ≡ request ws
-      as-request = ap (requestOf q) is ∙ same
+      as-request = ap (requestOf q) (d .rest) ∙ d .fields
 
       pub formed : Formed s q following
       formed = record {
         fine = ap (λ (x : Request). isMalformed (x .kind) s x) as-request ∙ or-neither (isMiscounted ws) (isMalformed (request ws .kind) s (request ws)) passed .1;
-        words = subst (All IsWord) (sym is) (all-drop IsWord 4 ws words);
+        words = subst (All IsWord) (sym (d .rest)) (all-drop IsWord 4 ws (d .words));
       }
 
       pub stepped : {r : Answer} {b′ : Buffers} {F′ : List ℕ} → Left (outcomeOf s q following) r b′ F′ → Stepped s ws r b′ F′
-      stepped k = stepped-by (by-test false passed ∙ ap (λ (x : Request). perform (x .kind) s x) (sym as-request)) k (valid-step s ws words (h .valid))
+      stepped k = stepped-by (by-test false passed ∙ ap (λ (x : Request). perform (x .kind) s x) (sym as-request)) k (valid-step s ws (d .words) (h .valid))

@@ -2,17 +2,19 @@
 use Prim.Native.Nat.{ℕ, _+_, _*_, _%_, _^_, _<_}
 use mathlib.Core.Path.{_≡_, refl, ap, sym, _∙_}
 use mathlib.Core.Bool.{Bool, true, false}
-use mathlib.Core.List.{List, [], _∷_}
+use mathlib.Core.List.{List, [], _∷_, _++_}
 use native.Mathlib.Omega.{arith}
 use borrow.Author.Tests.{lt-ltb, le-ltb}
 use lib.Dec.{ltb}
-use lib.ListN.{length, drop}
+use lib.ListN.{length, take, drop, take-append-drop}
 use Rattle.definition.specs.Notation.{if_then_else_}
 use Rattle.definition.specs.Request.{Request, request, followingLength, isSafe}
 use Rattle.definition.specs.Request.{Kind}
 use Rattle.definition.specs.Request.Kind.{Allocate, Deallocate, Load, Store, Retag, NewCall, EndCall, Dereferenceable, SignedDereferenceable, LeakCheck, Unused}
 use Rattle.definition.specs.Run.{wordsOf, takenLength}
-use Rattle.stream.specs.Stream.{requestSize}
+use Rattle.request.specs.declared.Request as code
+use Rattle.request.specs.Fields.{requestOf}
+use Rattle.stream.specs.Stream.{requestSize, HeadOf}
 use Rattle.stream.proofs.Words.{counted}
 
 -- ---- no fourth word
@@ -51,24 +53,45 @@ size-short bytes h =
     ap (λ (n : ℕ). 16 + 4 * takenLength n) (sym z)
 
 -- ---- the four words
-module _ (bytes : List ℕ) (a b c d : ℕ)
-    (ea : wordsOf bytes ≡ a ∷ wordsOf (drop 4 bytes))
-    (eb : wordsOf (drop 4 bytes) ≡ b ∷ wordsOf (drop 8 bytes))
-    (ec : wordsOf (drop 8 bytes) ≡ c ∷ wordsOf (drop 12 bytes))
-    (ed : wordsOf (drop 12 bytes) ≡ d ∷ wordsOf (drop 16 bytes)) where
-  follow-head : followingLength (request (a ∷ b ∷ c ∷ d ∷ [])) ≡ followingLength (request (wordsOf bytes))
-  unfolding request followingLength
-  follow-head =
-      let whole : wordsOf bytes ≡ a ∷ b ∷ c ∷ d ∷ wordsOf (drop 16 bytes) = cc in
-      ap (λ (ws : List ℕ). followingLength (request ws)) (sym whole)
+-- the fields of a request are those of its first four words
+pub head-fields : (q : code.Request) (a b c d : ℕ) → requestOf q [] ≡ request (a ∷ b ∷ c ∷ d ∷ []) → (rest : List ℕ) → requestOf q rest ≡ request (a ∷ b ∷ c ∷ d ∷ rest)
+unfolding request
+head-fields q a b c d e rest = ap (withFollowing rest) e
+  where
+    withFollowing : List ℕ → Request → Request
+    withFollowing ws x =
+        record {
+          kind = x .kind;
+          allocation = x .allocation;
+          node = x .node;
+          hasProvenance = x .hasProvenance;
+          exponent = x .exponent;
+          extra = x .extra;
+          address = x .address;
+          fourth = x .fourth;
+          following = ws;
+        }
 
-  module _ (n : ℕ) (e : n ≡ followingLength (request (a ∷ b ∷ c ∷ d ∷ []))) where
-    by-follow : 16 + 4 * takenLength n ≡ requestSize bytes
-    unfolding requestSize
-    by-follow = ap (λ (n : ℕ). 16 + 4 * takenLength n) (e ∙ follow-head)
+-- four words in front
+cut-four : (ws : List ℕ) (a b c d : ℕ) (rest : List ℕ) → take 4 ws ≡ take 4 (a ∷ b ∷ c ∷ d ∷ rest) → ws ≡ a ∷ b ∷ c ∷ d ∷ drop 4 ws
+cut-four ws a b c d rest e = sym (take-append-drop 4 ws) ∙ ap (λ (h : List ℕ). h ++ drop 4 ws) e
 
-    pub size-many : 4096 < n → 16 ≡ requestSize bytes
-    size-many h = ap (λ (t : Bool). 16 + 4 * (if t then 0 else n)) (sym (lt-ltb 4096 n h)) ∙ by-follow
+pub head-of : (q : code.Request) (a b c d : ℕ) (rest bytes : List ℕ) → wordsOf bytes ≡ a ∷ b ∷ c ∷ d ∷ rest → requestOf q [] ≡ request (a ∷ b ∷ c ∷ d ∷ []) → HeadOf bytes q
+head-of q a b c d rest bytes whole e ws front =
+    let four = cut-four ws a b c d rest (front ∙ ap (take 4) whole) in
+    head-fields q a b c d e (drop 4 ws) ∙ ap request (sym four)
 
-    pub size-few : n < 4097 → 16 + 4 * n ≡ requestSize bytes
-    size-few h = ap (λ (t : Bool). 16 + 4 * (if t then 0 else n)) (sym (le-ltb 4096 n (omega arith))) ∙ by-follow
+-- how many words follow the fields is how many follow in the request
+pub head-follows : (q : code.Request) (bytes : List ℕ) → HeadOf bytes q → followingLength (requestOf q (drop 4 (wordsOf bytes))) ≡ followingLength (request (wordsOf bytes))
+head-follows q bytes h = ap followingLength (h (wordsOf bytes) refl)
+
+module _ (bytes : List ℕ) (n : ℕ) (e : n ≡ followingLength (request (wordsOf bytes))) where
+  by-follow : 16 + 4 * takenLength n ≡ requestSize bytes
+  unfolding requestSize
+  by-follow = ap (λ (n : ℕ). 16 + 4 * takenLength n) e
+
+  pub size-many : 4096 < n → 16 ≡ requestSize bytes
+  size-many h = ap (λ (t : Bool). 16 + 4 * (if t then 0 else n)) (sym (lt-ltb 4096 n h)) ∙ by-follow
+
+  pub size-few : n < 4097 → 16 + 4 * n ≡ requestSize bytes
+  size-few h = ap (λ (t : Bool). 16 + 4 * (if t then 0 else n)) (sym (le-ltb 4096 n (omega arith))) ∙ by-follow

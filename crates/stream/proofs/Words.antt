@@ -7,7 +7,8 @@ use native.Mathlib.Nat.{add-zero}
 use native.Mathlib.Numerals.{add-one}
 use lib.ListN.{length, getD, take, drop, set, length-drop, length-append}
 use lib.Seq.{getD-drop, drop-drop, drop-cons, drop-set-lt, take-suc, take-suc-set, length-take-le, set-at, getD-append-add}
-use Rattle.definition.specs.Run.{wordsOf}
+use Rattle.definition.specs.Run.{IsWord, wordsOf}
+use Rattle.definition.specs.Valid.{All}
 use Rattle.stream.specs.Stream.{wordFrom, moved}
 
 -- 4 * n, by recursion on n
@@ -52,6 +53,15 @@ counted (a ∷ b ∷ c ∷ []) = record { left = 3; few = omega arith; total = r
 counted (a ∷ b ∷ c ∷ d ∷ bytes) =
     let k = counted bytes in
     record { left = k .left; few = k .few; total = omega (arith, k .total) }
+
+-- bytes make words of 32 bits
+pub bytes-words : (bytes : List ℕ) → ((i : ℕ) → getD bytes i 0 < 256) → All IsWord (wordsOf bytes)
+unfolding wordsOf
+bytes-words [] h = tt
+bytes-words (a ∷ []) h = tt
+bytes-words (a ∷ b ∷ []) h = tt
+bytes-words (a ∷ b ∷ c ∷ []) h = tt
+bytes-words (a ∷ b ∷ c ∷ d ∷ bytes) h = (omega (arith, h 0, h 1, h 2, h 3), bytes-words bytes (λ i. h (suc (suc (suc (suc i))))))
 
 -- the word at a place
 four-bytes : (bytes : List ℕ) → 4 ≤ length bytes

@@ -5,7 +5,7 @@ ghost use mathlib.Core.List.{_∷_};
 ghost use Prim.Native.Nat.{_+_, _-_, _*_, _≤_, _<_};
 ghost use lib.ListN.{length, drop};
 ghost use Rattle.definition.specs.Run.{wordsOf};
-ghost use Rattle.stream.specs.Stream.{wordFrom, WordsRead, requestSize, moved};
+ghost use Rattle.stream.specs.Stream.{wordFrom, WordsRead, HeadOf, CutOf, moved};
 
 fn wide(byte: u8) -> u32
     ensures { λ r. ⌜ r ≡ byte ⌝ }
@@ -43,25 +43,46 @@ pub fn read_words(bytes: &[u8], words: &mut [u32]) -> usize
     n
 }
 
-// How many bytes the next request has, by those at hand. Of one that announces more than 4,096 words behind its fourth, the first four words are
-// taken: "in the program" it falls under 2, as one that is cut short does.
-pub fn request_size(bytes: &[u8]) -> usize
-    ensures { λ r. ⌜ r ≡ requestSize (now (bytes .entry)) ⌝ }
+// The next request of a run: its fields, where there are bytes for them, and how many bytes it has.
+pub struct Cut {
+    pub fields: Request,
+    pub size: usize,
+}
+
+fn head_of(bytes: &[u8]) -> Request
+    requires { ⌜ 16 ≤ length (now bytes) ⌝ }
+    ensures { λ r. ⌜ HeadOf (now (bytes .entry)) r ⌝ }
 {
-    if bytes.len() < 16 {
-        return 16;
-    }
     let head = [
         word_at(bytes, 0),
         word_at(bytes, 4),
         word_at(bytes, 8),
         word_at(bytes, 12),
     ];
-    let n = Request::of(&head).following_length();
-    if 4096 < n {
-        return 16;
+    Request::of(&head)
+}
+
+// By the bytes at hand. Of a request that announces more than 4,096 words behind its fourth, the first four are taken: "in the program" it falls
+// under 2, as one that is cut short does.
+pub fn next_cut(bytes: &[u8]) -> Cut
+    ensures { λ r. ⌜ CutOf (now (bytes .entry)) r ⌝ }
+{
+    if bytes.len() < 16 {
+        let none = [0u32; 4];
+        return Cut {
+            fields: Request::of(&none),
+            size: 16,
+        };
     }
-    16 + 4 * n
+    let fields = head_of(bytes);
+    let n = fields.following_length();
+    if 4096 < n {
+        return Cut { fields, size: 16 };
+    }
+    Cut {
+        fields,
+        size: 16 + 4 * n,
+    }
 }
 
 // Copies the bytes from one place up to another to the front; and how many they are.

@@ -10,9 +10,13 @@ use Rattle.stream.specs.Stream.{requestSize}
 use Rattle.judge.specs.declared.Place.{Place}
 use Rattle.verdict.specs.declared.Progress.{Progress}
 
+-- of a request of `size` bytes fewer are at hand, and more may come
+abbrev pub lacksSome : ℕ → ℕ → Bool → Bool
+lacksSome size hand ended = ltb hand size && not ended
+
 -- the bytes at hand do not hold the next request whole, and more may come
 abbrev pub lacks : List ℕ → Bool → Bool
-lacks bytes ended = ltb (length bytes) (requestSize bytes) && not ended
+lacks bytes ended = lacksSome (requestSize bytes) (length bytes) ended
 
 -- the program goes on: no request was refused, nothing failed, and there may be another request
 abbrev pub goesOn : Progress → Bool

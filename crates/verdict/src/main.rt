@@ -12,7 +12,7 @@ ghost use Rattle.tables.specs.Held.{buffers, Holds, WellFormed};
 ghost use Rattle.state.specs.State.{HoldsState};
 ghost use Rattle.state.specs.Lengths.{haveLengths};
 ghost use Rattle.report.specs.Written.{Written};
-ghost use Rattle.verdict.specs.Progress.{lacks, goesOn, Ready, failedAt, isLong, flushedAs, withTextTo, ReadOn};
+ghost use Rattle.verdict.specs.Progress.{lacksSome, goesOn, Ready, failedAt, isLong, flushedAs, withTextTo, ReadOn};
 ghost use Rattle.verdict.specs.Came.{Came, TurnMade, TurnsMade, Printed};
 
 // The input buffer holds bytes up to `end`, of which those from the place on are not yet performed; the text up to the place is not yet written.
@@ -30,11 +30,11 @@ fn goes_on(p: Progress) -> bool
     !p.failed & !place.refused & (!p.ended | (place.from < p.end))
 }
 
-// The next request is not whole at hand, and more may come.
-fn lacks(bytes: &[u8], ended: bool) -> bool
-    ensures { λ r. ⌜ r ≡ lacks (now (bytes .entry)) ended ⌝ }
+// Of the next request, of `size` bytes, fewer are at hand, and more may come.
+fn lacks(size: usize, hand: usize, ended: bool) -> bool
+    ensures { λ r. ⌜ r ≡ lacksSome size hand ended ⌝ }
 {
-    (bytes.len() < stream::request_size(bytes)) & !ended
+    (hand < size) & !ended
 }
 
 // Reading or writing failed: nothing more is done.
@@ -145,7 +145,8 @@ fn turn(
     let place = p.place;
     let from = place.from;
     let end = p.end;
-    if lacks(&input[from..end], p.ended) {
+    let cut = stream::next_cut(&input[from..end]);
+    if lacks(cut.size, end - from, p.ended) {
         return read_more(input, out, p);
     }
     let next = judge::turn::next(
@@ -159,6 +160,7 @@ fn turn(
         request,
         out,
         place,
+        cut,
     );
     flushed(out, p, next)
 }

@@ -1,9 +1,9 @@
 -- The fields, the words that follow and the frame are the request's.
 use Prim.Native.Nat.{ℕ}
-use mathlib.Core.Path.{refl, ap, sym, _∙_}
-use borrow.Author.Needs.{needs}
+use mathlib.Core.Path.{ap, sym, _∙_}
 use Rattle.definition.specs.Frame.{isOpen, frameAt}
 use Rattle.step.proofs.Steps.{refused-by}
+use borrow.Author.Needs.{needs}
 use Rattle.step.proofs.is_refused.Statement.{statement}
 use Rattle.step.proofs.is_refused.Tie as tie
 
@@ -13,9 +13,6 @@ frame-used-requires c κs = search needs
 is-open-requires : tie.Need-is-open-requires
 is-open-requires c κs = search needs
 
-following-requires : tie.Need-following-requires
-following-requires c κs = search needs
-
 is-miscounted-requires : tie.Need-is-miscounted-requires
 is-miscounted-requires c κs = search needs
 
@@ -23,12 +20,11 @@ is-malformed-requires : tie.Need-is-malformed-requires
 is-malformed-requires c κs = search needs
 
 returns : tie.Need-returns
-returns c = λ s h same.
-    let used = c .before .before .before .before in
+returns c = λ s ws h d.
+    let used = c .before .before .before in
     let a = used .before .before .before in
-    let ws = a .args .request .now in
-    let opened = ap (λ (n : ℕ). isOpen (frameAt s n)) (sym (used .frame-used .ensures .0)) ∙ sym (c .before .before .before .is-open .ensures (s .frames) h) in
-    refused-by s ws (c .before .is-miscounted .ensures ws same refl) (a .args .q) same (c .before .before .following .ensures) (c .is-malformed .ensures s opened)
+    let opened = ap (λ (n : ℕ). isOpen (frameAt s n)) (sym (used .frame-used .ensures .0)) ∙ sym (c .before .before .is-open .ensures (s .frames) h) in
+    refused-by s ws (c .before .is-miscounted .ensures ws (d .fields) (d .count)) (a .args .q) (d .fields) (d .rest) (c .is-malformed .ensures s opened)
 
 pub is-refused-spec : {M : Type 1} → statement M
 is-refused-spec =
@@ -36,7 +32,6 @@ is-refused-spec =
     (tie.spec
     frame-used-requires
     is-open-requires
-    following-requires
     is-miscounted-requires
     is-malformed-requires
     returns)

@@ -1,23 +1,39 @@
--- The words that were read are those of the bytes.
-use mathlib.Core.Path.{sym, ap, _∙_}
-use native.Mathlib.Omega.{arith}
+-- The answer is the definition's, and the memory that is left has the leak that is named.
+use mathlib.Core.Path.{subst}
+use Rattle.definition.specs.Memory as definition
+use Rattle.definition.specs.Run.{step, wordsOf}
+use Rattle.state.proofs.Held.{records-held, words-held}
+use Rattle.judge.specs.Turn.{LineWritten}
 use borrow.Author.Needs.{needs}
-use lib.ListN.{length, length-take}
-use Rattle.judge.proofs.Runs.{turned-as}
 use Rattle.judge.proofs.turn.answer_bytes.Statement.{statement}
 use Rattle.judge.proofs.turn.answer_bytes.Tie as tie
 
-read-words-requires : tie.Need-read-words-requires
-read-words-requires c κs = c .before .before .before .before .before .before .before .before .before .before .pre .1 .1
+-- ---- the places: the entry, before the request is made, behind it
+abbrev entry : tie.After-slice-known8 → tie.Start
+entry c =
+    let c1 : tie.After-slice-known4 = c .before .before .before .before .before in
+    c1 .before .before .before .before
 
-slice-reshare-prefix-answer-words : tie.Need-slice-reshare-prefix-answer-words
-slice-reshare-prefix-answer-words c = let k = c .before .before .before .before .before .before .before .before .read-words .ensures in omega (arith, k .count, ap length (k .words), length-take (c .before .before .before .before .before .before .before .before .read-words .result) (c .before .before .before .before .before .before .before .before .read-words .last .1 .0))
+abbrev lent : tie.After-step-bytes → tie.After-slice-known8
+lent c =
+    let c1 : tie.After-step-bytes-arg4 = c .before .before .before .before in
+    c1 .before .before .before .before
 
-slice-aggregate-answer-words : tie.Need-slice-aggregate-answer-words
-slice-aggregate-answer-words c = let k = c .before .before .before .before .before .before .before .before .before .read-words .ensures in k .count ∙ sym (ap length (k .words))
+abbrev given : tie.After-slice-known14 → tie.After-step-bytes
+given c =
+    let c1 : tie.After-slice-known11 = c .before .before .before .before .before .before in
+    c1 .before .before .before .before .before .before
 
-answer-words-requires : tie.Need-answer-words-requires
-answer-words-requires c κs = let s = c .before .before .before .before .before .before .before .before .before .before .before .before .before .before .before .before .before .before .before .before .before in (s .pre .0, s .pre .1 .0)
+step-bytes-requires : tie.Need-step-bytes-requires
+step-bytes-requires c κs = let a = entry (c .before .before .before .before .before .before .before) in
+    (a .pre .0, a .pre .1 .1)
+
+write-answer-requires : tie.Need-write-answer-requires
+write-answer-requires c κs = let left = c .before .before .before .before .before in
+    let stepped = given left in
+    let a = entry (lent stepped) in
+    let k = stepped .step-bytes .ensures (a .pre .0 .0) (a .pre .0 .1) in
+    ((step (a .pre .0 .0) (wordsOf (a .args .bytes .now)) .1 .memory, records-held (k .holds)), (a .pre .1 .0, words-held (k .holds)))
 
 same-length : tie.Need-same-length
 same-length c = search needs
@@ -44,16 +60,26 @@ same-length-8 : tie.Need-same-length-8
 same-length-8 c = search needs
 
 returns : tie.Need-returns
-returns c = λ s h. turned-as (c .before .before .before .before .before .before .before .before .before .before .before .before .before .before .before .before .before .before .before .before .before .before .before .before .before .read-words .ensures .words) (c .before .before .before .before .before .before .before .before .before .before .before .before .before .before .answer-words .ensures s h)
+returns c = λ state h.
+    let written = c .before .before in
+    let left = written .before .before .before .before .before .before in
+    let stepped = given left in
+    let a = entry (lent stepped) in
+    let k = stepped .step-bytes .ensures state h in
+    let o = step state (wordsOf (a .args .bytes .now)) in
+    record {
+      holds = k .holds;
+      line =
+          subst (λ (x : definition.Answer). LineWritten (o .1 .memory) (a .args .index) x (a .args .out .now) (a .args .at) (written .write-answer .last .0) (written .write-answer .result .at) (written .write-answer .result .refused))
+          (k .answer) (written .write-answer .ensures (o .1 .memory) (records-held (k .holds)));
+    }
 
 pub answer-bytes-spec : {M : Type 1} → statement M
 answer-bytes-spec =
     tie.close
     (tie.spec
-    read-words-requires
-    slice-reshare-prefix-answer-words
-    slice-aggregate-answer-words
-    answer-words-requires
+    step-bytes-requires
+    write-answer-requires
     same-length
     same-length-2
     same-length-3

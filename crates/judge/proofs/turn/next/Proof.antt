@@ -1,13 +1,37 @@
 -- The bytes up to the end of the request are its words, or those that are left (Runs).
-use Prim.Native.Nat.{ℕ, _-_}
-use mathlib.Core.Path.{refl, ap, _∙_}
-use native.Mathlib.Omega.{arith}
-use borrow.Author.Needs.{needs}
-use lib.ListN.{take, drop, length-take}
+use Prim.Native.Nat.{ℕ, _+_, _-_, min}
+use mathlib.Core.Path.{_≡_, refl, ap, _∙_}
+use lib.ListN.{length, take, drop, length-take}
 use Rattle.definition.specs.Run.{wordsOf}
+use Rattle.judge.specs.Turn.{requestEnd}
+use Rattle.judge.proofs.Decoding.{head-part, head-long}
 use Rattle.judge.proofs.Runs.{request-bytes, size-most, taken}
+use borrow.Author.Needs.{needs}
+use native.Mathlib.Omega.{arith}
 use Rattle.judge.proofs.turn.next.Statement.{statement}
 use Rattle.judge.proofs.turn.next.Tie as tie
+
+-- ---- the places: the entry, the request's end, behind the call
+abbrev entry : tie.After-slice-known8 → tie.Start
+entry c =
+    let c1 : tie.After-slice-known4 = c .before .before .before .before .before in
+    c1 .before .before .before .before
+
+abbrev cut : tie.After-answer-bytes-arg4 → tie.After-request-end
+cut c = c .before .before .before .before .before
+
+abbrev called : tie.After-struct-known → tie.After-answer-bytes
+called c =
+    let c1 : tie.After-slice-known14 = c .before .before .before .before .before in
+    let c2 : tie.After-slice-known11 = c1 .before .before .before .before .before .before in
+    c2 .before .before .before .before .before .before
+
+-- the request ends where the definition says
+ends : (c : tie.After-request-end) → let a = entry (c .before) .args in c .request-end .result ≡ requestEnd (a .run .now) (a .p .from)
+ends c =
+    let a = entry (c .before) in
+    let from = a .args .p .from in
+    c .request-end .ensures ∙ ap (λ (k : ℕ). from + min k (length (a .args .run .now) - from)) (a .pre .1 .1 .size)
 
 request-end-requires : tie.Need-request-end-requires
 request-end-requires c κs = search needs
@@ -22,24 +46,23 @@ part-answer-bytes-end : tie.Need-part-answer-bytes-end
 part-answer-bytes-end c = search needs
 
 answer-bytes-requires : tie.Need-answer-bytes-requires
-answer-bytes-requires c κs = let s = c .before .before .before .before .before .before .before .before .before .before .before .before .before .before .before .before .before .before .before in
-    let run = s .args .run .now in
-    let from = s .args .p .from in (
-      s .pre .0,
+answer-bytes-requires c κs = let ended = cut (c .before .before .before .before .before) in
+    let a = entry (ended .before) in
+    let run = a .args .run .now in
+    let from = a .args .p .from in
+    let end = ends ended in (
+      a .pre .0,
       (
-        s .pre .1 .0,
-        omega (
-          arith,
-          s .pre .1 .1 .0,
-          c .before .before .before .before .before .before .before .before .before .request-end .ensures,
-          size-most (drop from run),
-          length-take (c .before .before .before .before .before .before .before .before .before .request-end .result - from) (drop from run),
+        a .pre .1 .0 .0,
+        (
+          omega (arith, a .pre .1 .0 .1 .0, end, size-most (drop from run), length-take (ended .request-end .result - from) (drop from run)),
+          λ long. head-part (drop from run) (ended .request-end .result - from) (a .args .cut .fields) long (a .pre .1 .1 .fields (head-long (drop from run) (ended .request-end .result - from) long)),
         ),
       ),
     )
 
-add-t34 : tie.Need-add-t34
-add-t34 c = omega (arith, c .before .before .before .before .before .before .before .before .before .before .before .before .before .before .before .before .before .before .before .before .before .before .before .before .before .before .before .before .before .before .before .before .before .before .before .before .before .pre .1 .1 .1 .1)
+add-t36 : tie.Need-add-t36
+add-t36 c = omega (arith, entry (cut (called c .before .before .before .before .before .before) .before) .pre .1 .0 .1 .1 .1)
 
 same-length : tie.Need-same-length
 same-length c = search needs
@@ -67,11 +90,12 @@ same-length-8 c = search needs
 
 returns : tie.Need-returns
 returns c = λ state h.
-    let s = c .before .before .before .before .before .before .before .before .before .before .before .before .before .before .before .before .before .before .before .before .before .before .before .before .before .before .before .before .before .before .before .before .before .before .before .before .before in
-    let run = s .args .run .now in
-    let from = s .args .p .from in
-    let end = c .before .before .before .before .before .before .before .before .before .before .before .before .before .before .before .before .before .before .before .before .before .before .before .before .before .before .before .request-end .ensures in
-    taken (ap (λ (e : ℕ). wordsOf (take (e - from) (drop from run))) end ∙ ap wordsOf (request-bytes run from (omega (arith, s .pre .1 .1 .1 .0)))) (c .before .before .before .before .before .before .before .before .before .before .before .before .before .before .before .before .before .answer-bytes .ensures state h) end refl
+    let answered = called c in
+    let ended = cut (answered .before .before .before .before .before .before) in
+    let a = entry (ended .before) in
+    let run = a .args .run .now in
+    let from = a .args .p .from in
+    taken (ap (λ (e : ℕ). wordsOf (take (e - from) (drop from run))) (ends ended) ∙ ap wordsOf (request-bytes run from (omega (arith, a .pre .1 .0 .1 .1 .0)))) (answered .answer-bytes .ensures state h) (ends ended) refl
 
 pub next-spec : {M : Type 1} → statement M
 next-spec =
@@ -82,7 +106,7 @@ next-spec =
     part-answer-bytes-start
     part-answer-bytes-end
     answer-bytes-requires
-    add-t34
+    add-t36
     same-length
     same-length-2
     same-length-3

@@ -1,12 +1,14 @@
 -- The lines so far and those of what is left are the definition's (Runs). Each request takes bytes, so fewer are left.
-use Prim.Native.Nat.{_-_, _+_, _≤_, _<_}
+use Prim.Native.Nat.{ℕ, _-_, _+_, _≤_, _<_}
 use mathlib.Core.Bool.{false}
-use mathlib.Core.List.{[]}
-use mathlib.Core.Path.{_≡_, refl, sym, _∙_}
+use mathlib.Core.List.{List, []}
+use mathlib.Core.Path.{_≡_, refl, sym, subst, _∙_}
 use native.Mathlib.Omega.{arith}
 use borrow.Author.Needs.{needs}
 use denote.Ref.{now}
-use lib.ListN.{length}
+use lib.ListN.{length, drop, length-drop}
+use lib.Seq.{take-all}
+use Rattle.stream.specs.Stream.{CutOf}
 use Rattle.judge.proofs.Runs.{advanced, performing-start, performing-next, goes, end-ahead, end-within}
 use Rattle.judge.specs.Turn.{lineRoom, Taken}
 use Rattle.judge.specs.Whole.{PerformingIn}
@@ -29,7 +31,7 @@ entry c =
 abbrev head : tie.After-next Inv-loop μ-loop → tie.At-loop Inv-loop μ-loop
 head c =
     let c1 : tie.After-next-arg3 Inv-loop μ-loop = c .before .before .before .before .before .before in
-    c1 .before .before .before .before .before
+    c1 .before .before .before .before .before .before .before
 
 abbrev called : tie.After-slice-known16 Inv-loop μ-loop → tie.After-next Inv-loop μ-loop
 called c =
@@ -39,6 +41,11 @@ called c =
 
 abbrev tested : tie.After-next-arg8 Inv-loop μ-loop → tie.Then1 Inv-loop μ-loop
 tested c =
+    let c1 : tie.After-next-arg2 Inv-loop μ-loop = c .before .before .before .before .before .before in
+    c1 .before .before .before .before
+
+abbrev found : tie.After-next-arg8 Inv-loop μ-loop → tie.After-next-cut Inv-loop μ-loop
+found c =
     let c1 : tie.After-next-arg2 Inv-loop μ-loop = c .before .before .before .before .before .before in
     c1 .before .before
 
@@ -58,11 +65,25 @@ loop-holds c = (record { performing = performing-start (now (entry c .args .run)
 goes-on-requires : tie.Need-goes-on-requires Inv-loop μ-loop
 goes-on-requires c κs = search needs
 
+sub-next-cut : tie.Need-sub-next-cut Inv-loop μ-loop
+sub-next-cut c = omega (arith, going c .1 .0)
+
+part-next-cut-start : tie.Need-part-next-cut-start Inv-loop μ-loop
+part-next-cut-start c = search needs
+
+part-next-cut-end : tie.Need-part-next-cut-end Inv-loop μ-loop
+part-next-cut-end c = search needs
+
+next-cut-requires : tie.Need-next-cut-requires Inv-loop μ-loop
+next-cut-requires c κs = search needs
+
 next-requires : tie.Need-next-requires Inv-loop μ-loop
 next-requires c κs = let l = tested c .before .before .loop in
+    let a = entry (tested c .before .before .before) in
     let h = l .inv .0 .performing in
     let g = going (tested c) in
-    ((h .state, h .holds), (g .1 .1, (l .inv .1 .1 .1 .1 .1 .1 .1 .0 ∙ entry (tested c .before .before .before) .pre .1, (g .1 .0, omega (arith, h .counted, g .1 .0, entry (tested c .before .before .before) .good)))))
+    let part = subst (λ (bytes : List ℕ). CutOf bytes (found c .next-cut .result)) (take-all (length (now (a .args .run)) - l .p .from) (drop (l .p .from) (now (a .args .run))) (omega (arith, length-drop (l .p .from) (now (a .args .run))))) (found c .next-cut .ensures) in
+    ((h .state, h .holds), ((g .1 .1, (l .inv .1 .1 .1 .1 .1 .1 .1 .0 ∙ a .pre .1, (g .1 .0, omega (arith, h .counted, g .1 .0, a .good)))), part))
 
 loop-less : tie.Need-loop-less Inv-loop μ-loop
 loop-less c = let n = called c in
@@ -114,6 +135,10 @@ answer-all-spec =
     μ-loop
     loop-holds
     goes-on-requires
+    sub-next-cut
+    part-next-cut-start
+    part-next-cut-end
+    next-cut-requires
     next-requires
     loop-less
     loop-again
