@@ -5,14 +5,14 @@ use borrow.Author.Tests.{not-true, not-false}
 use borrow.Author.Needs.{needs}
 use Rattle.tables.specs.Held.{buffers}
 use Rattle.tables.specs.Decoding.{view}
-use Rattle.library_frames.specs.EndCall.{isLent}
-use Rattle.library_frames.proofs.LentCall.{not-lent, lent-count, lent-area, lent-holds, ended-lent}
+use Rattle.library_frames.specs.EndCall.{isLentWithArea}
+use Rattle.library_frames.proofs.LentCall.{not-lent, count-lent, area-lent, memory-lent, ended-lent}
 use Rattle.parts.proofs.Lent.{holds-marked}
 use Rattle.library_frames.proofs.calls.end_call_list.Statement.{statement}
 use Rattle.library_frames.proofs.calls.end_call_list.Tie as tie
 
-is-lent-requires : tie.Need-is-lent-requires
-is-lent-requires c κs = search needs
+is-lent-with-area-requires : tie.Need-is-lent-with-area-requires
+is-lent-with-area-requires c κs = search needs
 
 same-length : tie.Need-same-length
 same-length c = search needs
@@ -25,7 +25,7 @@ same-length-3 c = search needs
 
 returns : tie.Need-returns
 returns c = let s = c .before .before .before .before .before .before .before .before .before .before .before in
-    not-lent (s .args .len) (s .args .count) (s .args .area .now) (buffers (s .args .allocs .now) (s .args .parents .now) (s .args .protectors .now) (s .args .words .now) (s .args .codes .now)) (sym (c .before .is-lent .ensures) ∙ not-true _ (c .if1 .taken)) _
+    not-lent (s .args .len) (s .args .count) (s .args .area .now) (buffers (s .args .allocs .now) (s .args .parents .now) (s .args .protectors .now) (s .args .words .now) (s .args .codes .now)) (sym (c .before .is-lent-with-area .ensures) ∙ not-true _ (c .if1 .taken)) _
 
 end-call-held-requires : tie.Need-end-call-held-requires
 end-call-held-requires c κs = let s = c .before .before .before .before .before .before .before .before .before .before .before .before .before .before in
@@ -33,8 +33,8 @@ end-call-held-requires c κs = let s = c .before .before .before .before .before
     let len = s .args .len in
     let count = s .args .count in
     let area = s .args .area .now in
-    let e : isLent len count area b ≡ true = sym (c .before .before .before .before .is-lent .ensures) ∙ not-false _ (c .before .before .before .if1 .left) in
-    ((view b, holds-marked (lent-holds len count area b e)), (lent-count len count area b e, lent-area len count area b e))
+    let e : isLentWithArea len count area b ≡ true = sym (c .before .before .before .before .is-lent-with-area .ensures) ∙ not-false _ (c .before .before .before .if1 .left) in
+    ((view b, holds-marked (memory-lent len count area b e)), (count-lent len count area b e, area-lent len count area b e))
 
 same-length-4 : tie.Need-same-length-4
 same-length-4 c = search needs
@@ -51,15 +51,15 @@ returns-2 c = let s = c .before .before .before .before .before .before .before 
     let len = s .args .len in
     let count = s .args .count in
     let area = s .args .area .now in
-    let e : isLent len count area b ≡ true = sym (c .before .before .before .before .before .before .before .before .before .before .before .is-lent .ensures) ∙ not-false _ (c .before .before .before .before .before .before .before .before .before .before .if1 .left) in
+    let e : isLentWithArea len count area b ≡ true = sym (c .before .before .before .before .before .before .before .before .before .before .before .is-lent-with-area .ensures) ∙ not-false _ (c .before .before .before .before .before .before .before .before .before .before .if1 .left) in
     let k = c .before .before .before .before .before .before .end-call-held .ensures in
-    ended-lent len count area b e (k .0 (view b) (holds-marked (lent-holds len count area b e))) (k .1)
+    ended-lent len count area b e (k .0 (view b) (holds-marked (memory-lent len count area b e))) (k .1)
 
 pub end-call-list-spec : {M : Type 1} → statement M
 end-call-list-spec =
     tie.close
     (tie.spec
-    is-lent-requires
+    is-lent-with-area-requires
     same-length
     same-length-2
     same-length-3
