@@ -11,6 +11,25 @@ use Rattle.parts.proofs.Lent.{holds-marked}
 use Rattle.library_frames.proofs.calls.end_call_list.Statement.{statement}
 use Rattle.library_frames.proofs.calls.end_call_list.Tie as tie
 
+-- ---- states by name: `g-before-f` is the state behind g, as it is known behind f; the first one is `entry`
+abbrev entry-before-is-lent-with-area : tie.After-is-lent-with-area → tie.Start
+entry-before-is-lent-with-area c = let c1 = c .before .before .before .before .before .before in c1 .before .before .before .before
+
+abbrev entry-before-then1 : tie.Then1 → tie.Start
+entry-before-then1 c = entry-before-is-lent-with-area (c .before)
+
+abbrev entry-before-else1 : tie.Else1 → tie.Start
+entry-before-else1 c = entry-before-is-lent-with-area (c .before)
+
+abbrev entry-before-end-call-held : tie.After-end-call-held → tie.Start
+entry-before-end-call-held c = entry-before-is-lent-with-area (c .before .before .before .before .before)
+
+abbrev is-lent-with-area-before-end-call-held : tie.After-end-call-held → tie.After-is-lent-with-area
+is-lent-with-area-before-end-call-held c = c .before .before .before .before .before
+
+abbrev else1-before-end-call-held : tie.After-end-call-held → tie.Else1
+else1-before-end-call-held c = c .before .before .before .before
+
 is-lent-with-area-requires : tie.Need-is-lent-with-area-requires
 is-lent-with-area-requires c κs = search needs
 
@@ -24,11 +43,11 @@ same-length-3 : tie.Need-same-length-3
 same-length-3 c = search needs
 
 returns : tie.Need-returns
-returns c = let s = c .before .before .before .before .before .before .before .before .before .before .before in
+returns c = let s = entry-before-then1 c in
     not-lent (s .args .len) (s .args .count) (s .args .area .now) (buffers (s .args .allocs .now) (s .args .parents .now) (s .args .protectors .now) (s .args .words .now) (s .args .codes .now)) (sym (c .before .is-lent-with-area .ensures) ∙ not-true _ (c .if1 .taken)) _
 
 end-call-held-requires : tie.Need-end-call-held-requires
-end-call-held-requires c κs = let s = c .before .before .before .before .before .before .before .before .before .before .before .before .before .before in
+end-call-held-requires c κs = let s = entry-before-else1 (c .before .before .before) in
     let b = buffers (s .args .allocs .now) (s .args .parents .now) (s .args .protectors .now) (s .args .words .now) (s .args .codes .now) in
     let len = s .args .len in
     let count = s .args .count in
@@ -46,12 +65,12 @@ same-length-6 : tie.Need-same-length-6
 same-length-6 c = search needs
 
 returns-2 : tie.Need-returns-2
-returns-2 c = let s = c .before .before .before .before .before .before .before .before .before .before .before .before .before .before .before .before .before .before .before .before .before in
+returns-2 c = let s = entry-before-end-call-held (c .before .before .before .before .before .before) in
     let b = buffers (s .args .allocs .now) (s .args .parents .now) (s .args .protectors .now) (s .args .words .now) (s .args .codes .now) in
     let len = s .args .len in
     let count = s .args .count in
     let area = s .args .area .now in
-    let e : isLentWithArea len count area b ≡ true = sym (c .before .before .before .before .before .before .before .before .before .before .before .is-lent-with-area .ensures) ∙ not-false _ (c .before .before .before .before .before .before .before .before .before .before .if1 .left) in
+    let e : isLentWithArea len count area b ≡ true = sym (is-lent-with-area-before-end-call-held (c .before .before .before .before .before .before) .is-lent-with-area .ensures) ∙ not-false _ (else1-before-end-call-held (c .before .before .before .before .before .before) .if1 .left) in
     let k = c .before .before .before .before .before .before .end-call-held .ensures in
     ended-lent len count area b e (k .0 (view b) (holds-marked (memory-lent len count area b e))) (k .1)
 
