@@ -1,35 +1,22 @@
 -- The definition's clauses over a list of words, by the first of them.
-use Prim.Native.Nat.{ℕ, zero, suc, _-_, _/_, _%_, _^_, _≤_, _<_}
+use Prim.Native.Nat.{ℕ, zero, suc, _-_, _≤_, _<_}
 use mathlib.Core.Path.{_≡_, refl, sym, ap, ap₂, _∙_}
 use mathlib.Core.Bool.{Bool, true, false, not, _&&_, _||_, false≢true}
 use mathlib.Core.Option.{Option, none, some}
 use mathlib.Core.List.{List, [], _∷_, map}
 use native.Mathlib.Omega.{arith}
-use lib.Dec.{eqb, leb}
+use lib.Dec.{leb}
 use lib.ListN.{length, getD, take, drop, length-drop, drop-of-length-le}
 use lib.Seq.{take-all}
 use borrow.Author.Tests.{leb-true}
 use Rattle.definition.specs.Notation.{if_then_else_}
 use Rattle.definition.specs.Layout.{FreezeMask, UnsafeCell, LayoutStrategy, Header, PointerMeta, unsafeCell, cellsFit, header, pointerMeta, sizedMask, tupleMask, layoutMask, headerMask, nestedMask, freezeMask}
 use Rattle.definition.specs.Layout.LayoutStrategy.{Sized, Slice, TraitObject, Tuple}
-use Rattle.definition.specs.Request.{badMetadata, nonzero}
 use Rattle.definition.proofs.Booleans.{and-left, ltb-leb}
 use Rattle.definition.proofs.Parts.{part-rest}
 use Rattle.layout.specs.declared.Header as code
 use Rattle.layout.specs.declared.LayoutStrategy as layout
 use Rattle.layout.specs.Filled.{layoutOf, headerOf, isTuple, hasCells, lastMask, tailMask}
-
--- ---- the metadata word
-pub bad-none : (ws : List ℕ) → length ws ≡ 0 → badMetadata ws ≡ false
-unfolding badMetadata
-bad-none [] e = refl
-bad-none (w ∷ ws) e = absurd (omega arith)
-
-pub bad-some : (ws : List ℕ) → (length ws ≡ 0 → ⊥)
-    → badMetadata ws ≡ (eqb (getD ws 0 0 / 2 ^ 30) 3 || (not (eqb (getD ws 0 0 / 2 ^ 30) 1) && nonzero (getD ws 0 0 % 2 ^ 30)))
-unfolding badMetadata
-bad-some [] e = absurd (e refl)
-bad-some (w ∷ ws) e = refl
 
 pub no-words : (ws : List ℕ) → length ws ≡ 0 → freezeMask ws ≡ none
 unfolding freezeMask

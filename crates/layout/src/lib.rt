@@ -6,7 +6,6 @@ ghost use Prim.Native.Nat.{_-_, _%_, _≤_, _<_};
 ghost use lib.ListN.{length, getD, replicate};
 ghost use Rattle.definition.specs.Notation.{table, writeAt};
 ghost use Rattle.definition.specs.Layout.{unsafeCell, cellsFit, isFreeze, header, pointerMeta, sizedMask, sliceMask, traitObjectMask, tupleMask, nestedMask};
-ghost use Rattle.definition.specs.Request.{badMetadata};
 ghost use Rattle.layout.specs.Filled.{headerOf, metaOf, layoutOf, isTuple, hasCells, maskBytes, Fills, elementsMask, lastMask, tailMask, answered, afterwards};
 
 // Whether words have a mask.
@@ -74,23 +73,6 @@ fn pointer_meta(word: u32) -> PointerMeta
         2 => PointerMeta::VTablePointer,
         _ => PointerMeta::NoMetadata,
     }
-}
-
-// The metadata word is no metadata: refusal 2.
-pub fn bad_metadata(words: &[u32]) -> bool
-    ensures { λ r. ⌜ r ≡ badMetadata (now (words .entry)) ⌝ }
-{
-    if words.len() == 0 {
-        return false;
-    }
-    let word = words[0];
-    if word >> 30 == 3 {
-        return true;
-    }
-    if word >> 30 == 1 {
-        return false;
-    }
-    word % 0x4000_0000 != 0
 }
 
 // ---- cells

@@ -4,7 +4,7 @@ use Prim.Native.Nat.{ℕ, _≤_}
 use mathlib.Core.Path.{_≡_, refl, sym, ap, _∙_}
 use mathlib.Core.Bool.{Bool, true, false, _&&_}
 use mathlib.Core.List.{List}
-use borrow.Author.Tests.{eqb-true, leb-true}
+use borrow.Author.Tests.{eqb-true}
 use lib.Dec.{eqb, leb}
 use lib.ListN.{length, replicate}
 use Rattle.definition.specs.Memory.{Provenance}
@@ -20,36 +20,36 @@ use Rattle.frames.specs.List.{firstOf, loaded}
 use Rattle.frames.specs.declared.Entry.{Entry}
 use Rattle.frames.proofs.ByValue.{loaded-all}
 use Rattle.end_call.specs.Release.{Ended}
-use Rattle.library_frames.specs.EndCall.{isLent, ended, EndedLent}
 use Rattle.end_call.proofs.EndCall.{end-call-encode}
+use Rattle.library_frames.specs.Retag.{isLent}
+use Rattle.library_frames.specs.EndCall.{isLentWithArea, ended, EndedLent}
+use Rattle.library_frames.proofs.Lent.{lent-count, lent-formed}
 
 module _ (places count : ℕ) (area : List ℕ) (b : Buffers) where
   -- refused with 1
-  pub not-lent : isLent places count area b ≡ false → (es : List Provenance) → EndedLent places count es b area (Refused 1) b area
+  pub not-lent : isLentWithArea places count area b ≡ false → (es : List Provenance) → EndedLent places count es b area (Refused 1) b area
   unfolding ended
   not-lent e es = rw e
 
-  module _ (e : isLent places count area b ≡ true) where
-    pub lent-count : count ≤ 64
-    lent-count =
-        leb-true count 64
-        (and-left (leb count 64) (eqb (length area) 32768 && wellFormed b) (and-right (eqb places 64) (leb count 64 && (eqb (length area) 32768 && wellFormed b)) e))
+  module _ (e : isLentWithArea places count area b ≡ true) where
+    fine : isLent places count b ≡ true
+    fine = and-left (isLent places count b) (eqb (length area) 32768) e
 
-    rest : eqb (length area) 32768 && wellFormed b ≡ true
-    rest = and-right (leb count 64) (eqb (length area) 32768 && wellFormed b) (and-right (eqb places 64) (leb count 64 && (eqb (length area) 32768 && wellFormed b)) e)
+    pub count-lent : count ≤ 64
+    count-lent = lent-count places count b fine
 
-    pub lent-area : length area ≡ 32768
-    lent-area = eqb-true (length area) 32768 (and-left (eqb (length area) 32768) (wellFormed b) rest)
+    pub area-lent : length area ≡ 32768
+    area-lent = eqb-true (length area) 32768 (and-right (isLent places count b) (eqb (length area) 32768) e)
 
-    pub lent-holds : Holds (view b) b
-    lent-holds = sound b (and-right (eqb (length area) 32768) (wellFormed b) rest)
+    pub memory-lent : Holds (view b) b
+    memory-lent = sound b (lent-formed places count b fine)
 
     -- the end call of the memory that is held
     pub ended-lent : {R′ C′ area′ : List ℕ} {es : List Provenance} {answer : Answer} → Ended (view b) es answer R′ C′ → area′ ≡ replicate 32768 0
         → EndedLent places count es b area answer (buffers (b .allocs) (b .parents) R′ (b .words) C′) area′
     unfolding ended
     ended-lent {es = es} k z =
-        let left = end-call-encode lent-holds es (k .nodes) in
+        let left = end-call-encode memory-lent es (k .nodes) in
         rw e (λ i. (k .reply i, (left i, z i)))
 
 -- what is loaded is as good as what is lent
@@ -60,5 +60,5 @@ loaded-same xs list same count b area = cases (eqb (length xs) 64) refl
     cases : (t : Bool) → eqb (length xs) 64 ≡ t → ended (length xs) count (firstOf count list) b area ≡ ended (length xs) count (firstOf count xs) b area
     cases true e = ap (λ (l : List Entry). ended (length xs) count (firstOf count l) b area) (same ∙ loaded-all xs (eqb-true (length xs) 64 e))
     cases false e =
-        let no : isLent (length xs) count area b ≡ false = ap (λ (t : Bool). t && (leb count 64 && (eqb (length area) 32768 && wellFormed b))) e in
+        let no : isLentWithArea (length xs) count area b ≡ false = ap (λ (t : Bool). (t && (leb count 64 && wellFormed b)) && eqb (length area) 32768) e in
         sym (not-lent (length xs) count area b no (firstOf count list)) ∙ not-lent (length xs) count area b no (firstOf count xs)

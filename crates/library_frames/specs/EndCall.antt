@@ -3,7 +3,7 @@ use Prim.Native.Nat.{ℕ}
 use mathlib.Core.Path.{_≡_}
 use mathlib.Core.Bool.{Bool, _&&_}
 use mathlib.Core.List.{List}
-use lib.Dec.{eqb, leb}
+use lib.Dec.{eqb}
 use lib.ListN.{length, replicate}
 use Rattle.definition.specs.Notation.{if_then_else_}
 use Rattle.definition.specs.Refusal.{notWellFormed}
@@ -15,18 +15,18 @@ use Rattle.answer.specs.declared.Answer.{Answer}
 use Rattle.answer.specs.declared.Answer.the-variants.{Refused}
 use Rattle.tables.specs.Encoding.{Buffers, encode}
 use Rattle.tables.specs.Decoding.{view}
-use Rattle.wellformed.specs.WellFormed.{wellFormed}
 use Rattle.end_call.specs.Release.{afterEndCall}
+use Rattle.library_frames.specs.Retag.{isLent}
 
--- 64 places, as many entries at most, a working area of 32,768 bytes, and buffers that hold a memory
-abbrev pub isLent : (places count : ℕ) → List ℕ → Buffers → Bool
-isLent places count area b = eqb places 64 && (leb count 64 && (eqb (length area) 32768 && wellFormed b))
+-- what a retag is lent, and a working area of 32,768 bytes
+abbrev pub isLentWithArea : (places count : ℕ) → List ℕ → Buffers → Bool
+isLentWithArea places count area b = isLent places count b && eqb (length area) 32768
 
 -- the answer, and the buffers and the area afterwards: `places` are lent for the entries, the first `count` of them are es.
 -- 1 changes nothing; else the area is zero, whatever it held and whatever the answer
 unfoldable pub ended : (places count : ℕ) → List Provenance → Buffers → List ℕ → Answer × (Buffers × List ℕ)
 ended places count es b area =
-    if isLent places count area b
+    if isLentWithArea places count area b
     then (replyTo Nothing (refusedWith (endCallRefusal (view b) es)), (encode (afterEndCall (view b) es), replicate 32768 0))
     else (Refused notWellFormed, (b, area))
 

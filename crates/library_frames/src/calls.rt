@@ -8,10 +8,10 @@ ghost use mathlib.Core.Path.{_≡_};
 ghost use lib.ListN.{length};
 ghost use Rattle.frames.specs.List.{firstOf};
 ghost use Rattle.tables.specs.Held.{buffers};
-ghost use Rattle.library_frames.specs.EndCall.{isLent, EndedLent};
+ghost use Rattle.library_frames.specs.EndCall.{isLentWithArea, EndedLent};
 
 // Not refused with 1: the entries' list, the working area and the buffers have their lengths, and the buffers hold a memory.
-fn is_lent(
+fn is_lent_with_area(
     len: usize,
     count: usize,
     area: &[u8],
@@ -21,19 +21,11 @@ fn is_lent(
     words: &[u32],
     codes: &[u8],
 ) -> bool
-    ensures { λ r. ⌜ r ≡ isLent len count (now (area .entry))
+    ensures { λ r. ⌜ r ≡ isLentWithArea len count (now (area .entry))
         (buffers (now (allocs .entry)) (now (parents .entry)) (now (protectors .entry)) (now (words .entry)) (now (codes .entry))) ⌝ }
 {
-    if len != 64 {
-        return false;
-    }
-    if count > 64 {
-        return false;
-    }
-    if area.len() != 32768 {
-        return false;
-    }
-    wellformed::well_formed(allocs, parents, protectors, words, codes)
+    crate::retags::is_lent(len, count, allocs, parents, protectors, words, codes)
+        & (area.len() == 32768)
 }
 
 // The entries are the first `count` of a list of `len` places, of which the first 64 are given.
@@ -52,7 +44,7 @@ pub fn end_call_list(
         (buffers (now (allocs .entry)) (now (parents .entry)) (now (protectors .entry)) (now (words .entry)) (now (codes .entry))) (now (area .entry))
         r (buffers (now (allocs .entry)) (now (parents .entry)) (now (protectors .exit)) (now (words .entry)) (now (codes .exit))) (now (area .exit)) ⌝ }
 {
-    if !is_lent(len, count, area, allocs, parents, protectors, words, codes) {
+    if !is_lent_with_area(len, count, area, allocs, parents, protectors, words, codes) {
         return Answer::Refused(1);
     }
     let list = Entries { list, count };

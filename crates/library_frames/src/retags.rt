@@ -63,7 +63,7 @@ fn adds_no_node(settings: RetagSettings) -> bool
 fn bad_fields(settings: RetagSettings, layout: &[u32]) -> bool
     ensures { λ r. ⌜ r ≡ badFields settings (now (layout .entry)) ⌝ }
 {
-    (settings.extra > 5) | (!adds_no_node(settings) & layout::bad_metadata(layout))
+    (settings.extra > 5) | (!adds_no_node(settings) & request::bad_metadata(layout))
 }
 
 fn protector(settings: RetagSettings) -> Protected
@@ -214,7 +214,7 @@ fn with_entry(answer: Answer, node: Provenance, count: usize, len: usize) -> Ret
 
 // ---- the entry
 // Not refused with 1.
-fn is_lent(
+pub(crate) fn is_lent(
     len: usize,
     count: usize,
     allocs: &[u64],

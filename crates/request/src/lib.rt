@@ -322,7 +322,7 @@ fn bad_settings(q: Request, opened: bool) -> bool
     q.zero_bit() | (q.frame_number() != 0)
 }
 
-fn bad_metadata(following: &[u32]) -> bool
+pub fn bad_metadata(following: &[u32]) -> bool
     ensures { λ r. ⌜ r ≡ badMetadata (now (following .entry)) ⌝ }
 {
     if following.len() == 0 {

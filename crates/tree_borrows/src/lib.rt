@@ -32,7 +32,7 @@ mod numbers;
 mod requests;
 mod start;
 
-// ---- kinds 4 and 6. Each has two functions, as in `retag` and `end_call`: a lent slice of structs is for one that does nothing else.
+// ---- kinds 4 and 6. Each has two functions, as in `library_frames`: a lent slice of structs is for one that does nothing else.
 // All of a retag but the store into the frame's list, whatever stands there.
 fn retag_reply(
     len: usize,

@@ -12,6 +12,19 @@ use Rattle.parts.proofs.Lent.{records-of}
 use Rattle.end_call.proofs.end_call_refusal.Statement.{statement}
 use Rattle.end_call.proofs.end_call_refusal.Tie as tie
 
+-- ---- states by name: `g-before-f` is the state behind g, as it is known behind f; the first one is `entry`
+abbrev entry-before-any-never-made : tie.After-any-never-made → tie.Start
+entry-before-any-never-made c = c .before .before .before .before .before .before
+
+abbrev entry-before-else1 : tie.Else1 → tie.Start
+entry-before-else1 c = entry-before-any-never-made (c .before)
+
+abbrev entry-before-numbers-of : tie.After-numbers-of → tie.Start
+entry-before-numbers-of c = entry-before-any-never-made (c .before .before)
+
+abbrev numbers-of-before-release-lent : tie.After-release-lent → tie.After-numbers-of
+numbers-of-before-release-lent c = c .before .before .before .before .before .before
+
 any-never-made-requires : tie.Need-any-never-made-requires
 any-never-made-requires c κs = let s = c .before .before .before .before .before in ((s .pre .0 .0, records-of (s .pre .0 .1)), s .pre .1 .0)
 
@@ -20,7 +33,7 @@ returns c = λ m h. refused-unmade (sym (c .before .any-never-made .ensures m (r
 
 numbers-of-requires : tie.Need-numbers-of-requires
 numbers-of-requires c κs =
-    let s = c .before .before .before .before .before .before .before in
+    let s = entry-before-else1 c in
     let m = s .pre .0 .0 in
     let h = s .pre .0 .1 in
     let es = entriesOf (s .args .list) in
@@ -38,7 +51,7 @@ part-release-lent-end c = search needs
 release-lent-requires : tie.Need-release-lent-requires
 release-lent-requires c κs =
     let w = c .before .before .before .before .before in
-    let s = w .before .before .before .before .before .before .before .before in
+    let s = entry-before-numbers-of w in
     let m = s .pre .0 .0 in
     let h = s .pre .0 .1 in
     let list = s .args .list in
@@ -56,8 +69,8 @@ same-length-3 c = search needs
 
 returns-2 : tie.Need-returns-2
 returns-2 c = λ m h.
-    let w = c .before .before .before .before .before .before .before .before .before .before .before .before in
-    let s = w .before .before .before .before .before .before .before .before in
+    let w = numbers-of-before-release-lent (c .before .before .before .before .before .before) in
+    let s = entry-before-numbers-of w in
     let list = s .args .list in
     let r = c .before .before .before .before .before .before .release-lent in
     let n : any (isUnmade m) (entriesOf list) ≡ false = sym (w .before .before .any-never-made .ensures m (records-of h)) ∙ w .before .if1 .left in

@@ -4,6 +4,10 @@ use Rattle.end_call.proofs.Spans.{put-part}
 use Rattle.end_call.proofs.put_back.Statement.{statement}
 use Rattle.end_call.proofs.put_back.Tie as tie
 
+-- ---- states by name: `g-before-f` is the state behind g, as it is known behind f; the first one is `entry`
+abbrev entry-before-copy-row : tie.After-copy-row → tie.Start
+entry-before-copy-row c = c .before .before .before .before .before
+
 sub-n : tie.Need-sub-n
 sub-n c = search needs
 
@@ -33,7 +37,7 @@ same-length c = search needs
 
 returns : tie.Need-returns
 returns c =
-    let s = c .before .before .before .before .before .before .before in
+    let s = entry-before-copy-row (c .before .before) in
     let r = c .before .before .copy-row in
     put-part (s .args .start) (s .args .end) (s .args .dst .now) (s .args .saved .now) (s .pre .0) (s .pre .1 .0) (s .pre .1 .1) (r .ensures)
 

@@ -6,19 +6,44 @@ use Rattle.end_call.proofs.Spans.{marks-length, codes-length, nodes-ord
 use Rattle.end_call.proofs.release_all.Statement.{statement}
 use Rattle.end_call.proofs.release_all.Tie as tie
 
+-- ---- states by name: `g-before-f` is the state behind g, as it is known behind f; the first one is `entry`
+abbrev entry-before-save-arg : tie.After-save-arg → tie.Start
+entry-before-save-arg c = let c1 = c .before .before .before .before .before .before in c1 .before .before
+
+abbrev entry-before-save : tie.After-save → tie.Start
+entry-before-save c = let c1 = c .before .before .before .before .before .before in c1 .before .before .before
+
+abbrev release-until-before-then1 : tie.Then1 → tie.After-release-until
+release-until-before-then1 c = c .before .before .before .before .before
+
+abbrev save-before-save2 : tie.After-save2 → tie.After-save
+save-before-save2 c = c .before .before .before .before
+
+abbrev save-before-release-until : tie.After-release-until → tie.After-save
+save-before-release-until c = save-before-save2 (c .before .before .before .before .before)
+
+abbrev release-until-before-put-back : tie.After-put-back → tie.After-release-until
+release-until-before-put-back c = release-until-before-then1 (c .before .before .before)
+
+abbrev entry-before-save2 : tie.After-save2 → tie.Start
+entry-before-save2 c = entry-before-save (c .before .before .before .before)
+
+abbrev put-back-before-put-back2 : tie.After-put-back2 → tie.After-put-back
+put-back-before-put-back2 c = c .before .before .before .before .before
+
 slice-aggregate-save : tie.Need-slice-aggregate-save
 slice-aggregate-save c = search needs
 
 save-requires : tie.Need-save-requires
 save-requires c κs =
-    let s = c .before .before .before .before .before .before .before .before in
+    let s = entry-before-save-arg c in
     let h = s .pre .0 .1 .0 in
     let t = s .pre .1 .0 in
     (nodes-ordered h t, (omega (arith, nodes-total h t, marks-length h), omega (arith, nodes-total h t)))
 
 save-requires-2 : tie.Need-save-requires-2
 save-requires-2 c κs =
-    let s = c .before .before .before .before .before .before .before .before .before .before .before .before in
+    let s = entry-before-save (c .before .before .before) in
     let h = s .pre .0 .1 .0 in
     let t = s .pre .1 .0 in
     (codes-ordered h t, (omega (arith, codes-total h t, codes-length h), s .pre .1 .1))
@@ -31,18 +56,18 @@ slice-aggregate-put-back c = search needs
 
 put-back-requires : tie.Need-put-back-requires
 put-back-requires c κs =
-    let until = c .before .before .before .before .before .before .before in
-    let saved = until .before .before .before .before .before .before .before .before .before in
-    let s = saved .before .before .before .before .before .before .before .before .before in
+    let until = release-until-before-then1 (c .before .before) in
+    let saved = save-before-release-until until in
+    let s = entry-before-save saved in
     let h = s .pre .0 .1 .0 in
     let t = s .pre .1 .0 in
     (nodes-ordered h t, (omega (arith, nodes-total h t, marks-length h, until .release-until .kept .1 .1 .0), omega (arith, nodes-total h t, saved .save .kept .0)))
 
 put-back-requires-2 : tie.Need-put-back-requires-2
 put-back-requires-2 c κs =
-    let until = c .before .before .before .before .before .before .before .before .before .before .before .before in
+    let until = release-until-before-put-back (c .before .before .before .before) in
     let saved = until .before .before .before .before .before in
-    let s = saved .before .before .before .before .before .before .before .before .before .before .before .before .before in
+    let s = entry-before-save2 saved in
     let h = s .pre .0 .1 .0 in
     let t = s .pre .1 .0 in
     (codes-ordered h t, (omega (arith, codes-total h t, codes-length h, until .release-until .kept .1 .1 .1 .0), omega (arith, s .pre .1 .1, saved .save2 .kept .0)))
@@ -58,12 +83,12 @@ same-length-3 c = search needs
 
 returns : tie.Need-returns
 returns c = λ m h made.
-    let back = c .before .before .before .before .before .before .before in
+    let back = put-back-before-put-back2 (c .before .before) in
     let refused = back .before .before .before in
     let until = refused .before .before .before .before .before in
     let savedCodes = until .before .before .before .before .before in
     let savedMarks = savedCodes .before .before .before .before in
-    let s = savedMarks .before .before .before .before .before .before .before .before .before in
+    let s = entry-before-save savedMarks in
     some-refused h (s .pre .1 .0) (until .release-until .ensures m h made) (refused .if1 .taken) _ _ (savedMarks .save .ensures)
     (savedCodes .save2 .ensures) (back .put-back .ensures) (c .before .before .put-back2 .ensures)
 

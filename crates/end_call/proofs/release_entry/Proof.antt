@@ -16,19 +16,44 @@ use Rattle.end_call.proofs.Lent.{found-live, found-dead, released, rele
 use Rattle.end_call.proofs.release_entry.Statement.{statement}
 use Rattle.end_call.proofs.release_entry.Tie as tie
 
+-- ---- states by name: `g-before-f` is the state behind g, as it is known behind f; the first one is `entry`
+abbrev entry-before-allocation-at : tie.After-allocation-at → tie.Start
+entry-before-allocation-at c = let c1 = c .before .before .before .before .before .before in c1 .before
+
+abbrev entry-before-parts-at : tie.After-parts-at → tie.Start
+entry-before-parts-at c = entry-before-allocation-at (c .before)
+
+abbrev parts-at-before-release-dead : tie.After-release-dead → tie.After-parts-at
+parts-at-before-release-dead c = c .before .before .before .before .before .before
+
+abbrev allocation-at-before-parts-at : tie.After-parts-at → tie.After-allocation-at
+allocation-at-before-parts-at c = c .before
+
+abbrev allocation-at-before-release-dead : tie.After-release-dead → tie.After-allocation-at
+allocation-at-before-release-dead c = allocation-at-before-parts-at (c .before .before .before .before .before .before)
+
+abbrev parts-at-before-release-live : tie.After-release-live → tie.After-parts-at
+parts-at-before-release-live c = c .before .before .before .before .before .before
+
+abbrev allocation-at-before-release-live : tie.After-release-live → tie.After-allocation-at
+allocation-at-before-release-live c = allocation-at-before-parts-at (c .before .before .before .before .before .before)
+
+abbrev else1-before-release-live : tie.After-release-live → tie.Else1
+else1-before-release-live c = c .before .before .before .before
+
 -- where the allocation's parts are: for each memory that is held, and for the one that is given
-found : (c : tie.After-parts-at) (m : Memory) → let a = c .before .before .before .before .before .before .before .before .args in HoldsMarked m (now (a .allocs)) (now (a .parents)) (now (a .protectors)) (now (a .codes)) → wasMade m (provenanceOf (a .e)) ≡ true
+found : (c : tie.After-parts-at) (m : Memory) → let a = entry-before-parts-at c .args in HoldsMarked m (now (a .allocs)) (now (a .parents)) (now (a .protectors)) (now (a .codes)) → wasMade m (provenanceOf (a .e)) ≡ true
     → PartsOf m (a .e .allocation) (c .parts-at .result)
-found c m h w = c .parts-at .ensures m (records-of h) (was-made m (provenanceOf (c .before .before .before .before .before .before .before .before .args .e)) w .allocation)
+found c m h w = c .parts-at .ensures m (records-of h) (was-made m (provenanceOf (entry-before-parts-at c .args .e)) w .allocation)
 
-here : (c : tie.After-parts-at) → let t = c .before .before .before .before .before .before .before .before in TreeAt (t .pre .0) (t .args .e .allocation) (now (t .args .parents)) (now (t .args .codes)) (c .parts-at .result)
-here c = let (m, (h, w)) = c .before .before .before .before .before .before .before .before .pre in tree-at (trees-of h) (found c m h w)
+here : (c : tie.After-parts-at) → let t = entry-before-parts-at c in TreeAt (t .pre .0) (t .args .e .allocation) (now (t .args .parents)) (now (t .args .codes)) (c .parts-at .result)
+here c = let (m, (h, w)) = entry-before-parts-at c .pre in tree-at (trees-of h) (found c m h w)
 
-marked : (c : tie.After-parts-at) → let t = c .before .before .before .before .before .before .before .before in now (t .args .protectors) ≡ held 1024 protectorsOf (t .pre .0)
-marked c = c .before .before .before .before .before .before .before .before .pre .1 .0 .trees .protectors
+marked : (c : tie.After-parts-at) → let t = entry-before-parts-at c in now (t .args .protectors) ≡ held 1024 protectorsOf (t .pre .0)
+marked c = entry-before-parts-at c .pre .1 .0 .trees .protectors
 
-node-made : (c : tie.After-parts-at) → let t = c .before .before .before .before .before .before .before .before in t .args .e .node < nodeCount (allocationAt (t .pre .0) (t .args .e .allocation))
-node-made c = let t = c .before .before .before .before .before .before .before .before in was-made (t .pre .0) (provenanceOf (t .args .e)) (t .pre .1 .1) .node
+node-made : (c : tie.After-parts-at) → let t = entry-before-parts-at c in t .args .e .node < nodeCount (allocationAt (t .pre .0) (t .args .e .allocation))
+node-made c = let t = entry-before-parts-at c in was-made (t .pre .0) (provenanceOf (t .args .e)) (t .pre .1 .1) .node
 
 cast-n : tie.Need-cast-n
 cast-n c = search needs
@@ -40,7 +65,7 @@ allocation-at-requires : tie.Need-allocation-at-requires
 allocation-at-requires c κs = let s = c .before .before .before .before .before .before in record-in (records-of (s .pre .1 .0)) _ (was-made (s .pre .0) (provenanceOf (s .args .e)) (s .pre .1 .1) .allocation)
 
 parts-at-requires : tie.Need-parts-at-requires
-parts-at-requires c κs = let t = c .before .before .before .before .before .before .before in let (m, (h, w)) = t .pre in (m, (records-of h, was-made m (provenanceOf (t .args .e)) w .allocation))
+parts-at-requires c κs = let t = entry-before-allocation-at c in let (m, (h, w)) = t .pre in (m, (records-of h, was-made m (provenanceOf (t .args .e)) w .allocation))
 
 sub-release-dead : tie.Need-sub-release-dead
 sub-release-dead c = omega (arith, nodes-ordered (here (c .before .before)))
@@ -71,8 +96,8 @@ same-length-2 c = search needs
 
 returns : tie.Need-returns
 returns c = λ m h w.
-    let t = found (c .before .before .before .before .before .before .before .before) m h w in
-    let read = c .before .before .before .before .before .before .before .before .before .allocation-at .ensures in
+    let t = found (parts-at-before-release-dead (c .before .before)) m h w in
+    let read = allocation-at-before-release-dead (c .before .before) .allocation-at .ensures in
     released-dead h _ t (found-dead h (t .made) read (c .before .before .before .before .before .before .if1 .taken)) _ (c .before .before .release-dead .ensures _ (marks-held (tree-at (trees-of h) t) (h .trees .protectors)))
 
 mul-release-live : tie.Need-mul-release-live
@@ -118,9 +143,9 @@ same-length-4 c = search needs
 
 returns-2 : tie.Need-returns-2
 returns-2 c = λ m h w.
-    let t = found (c .before .before .before .before .before .before .before .before .before .before) m h w in
-    let read = c .before .before .before .before .before .before .before .before .before .before .before .allocation-at .ensures in
-    released h _ t (found-live h (t .made) read (c .before .before .before .before .before .before .before .before .if1 .left)) _ _ (c .before .before .before .before .release-live .ensures _ (all-held (tree-at (trees-of h) t) (h .trees .protectors)))
+    let t = found (parts-at-before-release-live (c .before .before .before .before)) m h w in
+    let read = allocation-at-before-release-live (c .before .before .before .before) .allocation-at .ensures in
+    released h _ t (found-live h (t .made) read (else1-before-release-live (c .before .before .before .before) .if1 .left)) _ _ (c .before .before .before .before .release-live .ensures _ (all-held (tree-at (trees-of h) t) (h .trees .protectors)))
 
 pub release-entry-spec : {M : Type 1} → statement M
 release-entry-spec =

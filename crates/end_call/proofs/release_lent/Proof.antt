@@ -7,26 +7,36 @@ use Rattle.end_call.proofs.Spans.{spans-made, touched, codes-total}
 use Rattle.end_call.proofs.release_lent.Statement.{statement}
 use Rattle.end_call.proofs.release_lent.Tie as tie
 
+-- ---- states by name: `g-before-f` is the state behind g, as it is known behind f; the first one is `entry`
+abbrev entry-before-span-of : tie.After-span-of → tie.Start
+entry-before-span-of c = let c1 = c .before .before .before .before .before .before in c1 .before
+
+abbrev entry-before-starts-at : tie.After-starts-at → tie.Start
+entry-before-starts-at c = entry-before-span-of (c .before)
+
+abbrev entry-before-starts-at2 : tie.After-starts-at2 → tie.Start
+entry-before-starts-at2 c = entry-before-span-of (c .before .before)
+
 span-of-requires : tie.Need-span-of-requires
 span-of-requires c κs = search needs
 
 starts-at-requires : tie.Need-starts-at-requires
 starts-at-requires c κs =
-    let s = c .before .before .before .before .before .before .before in
+    let s = entry-before-span-of c in
     let m = s .pre .0 .0 in
     let spans = c .span-of .ensures in
     (m, (records-of (s .pre .0 .1 .0), omega (arith, spans .ordered, spans-made m (entriesIn (s .args .numbers .now)) _ _ spans (s .pre .0 .1 .1))))
 
 starts-at-requires-2 : tie.Need-starts-at-requires-2
 starts-at-requires-2 c κs =
-    let s = c .before .before .before .before .before .before .before .before in
+    let s = entry-before-starts-at c in
     let m = s .pre .0 .0 in
     (m, (records-of (s .pre .0 .1 .0), spans-made m (entriesIn (s .args .numbers .now)) _ _ (c .before .span-of .ensures) (s .pre .0 .1 .1)))
 
 release-all-requires : tie.Need-release-all-requires
 release-all-requires c κs =
     let e = c .before .before .before in
-    let s = e .before .before .before .before .before .before .before .before .before in
+    let s = entry-before-starts-at2 e in
     let t = touched (e .before .before .span-of .ensures) (e .before .starts-at .ensures) (e .starts-at2 .ensures) in
     (s .pre .0, (t, omega (arith, codes-total (s .pre .0 .1 .0) t, s .pre .1)))
 

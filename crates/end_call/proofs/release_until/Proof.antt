@@ -21,6 +21,10 @@ Inv-loop allocs parents protectors₀ codes₀ numbers i₀ protectors codes i =
 abbrev μ-loop : tie.MeasureT-loop
 μ-loop allocs parents protectors₀ codes₀ numbers i₀ protectors codes i = length numbers - i
 
+-- ---- states by name: `g-before-f` is the state behind g, as it is known behind f; the first one is `entry`
+abbrev entry-before-at-loop : tie.At-loop Inv-loop μ-loop → tie.Start Inv-loop μ-loop
+entry-before-at-loop c = c .before .before .before .before .before .before
+
 loop-holds : tie.Need-loop-holds Inv-loop μ-loop
 loop-holds c = (omega arith, refl, refl, λ m h made. turn-first h made)
 
@@ -90,7 +94,7 @@ same-length-4 c = search needs
 
 returns-2 : tie.Need-returns-2 Inv-loop μ-loop
 returns-2 c = λ m h made.
-    let numbers = c .before .before .before .before .before .before .before .args .numbers .now in
+    let numbers = entry-before-at-loop (c .before) .args .numbers .now in
     turn-done (drop-of-length-le (entriesIn numbers) {i = c .before .loop .i} (omega (arith, numbers-count numbers))) (c .before .loop .inv .3 m h made)
 
 pub release-until-spec : {M : Type 1} → statement M

@@ -9,6 +9,10 @@ use lib.ListN.{length, take, drop, length-drop}
 use Rattle.end_call.proofs.save.Statement.{statement}
 use Rattle.end_call.proofs.save.Tie as tie
 
+-- ---- states by name: `g-before-f` is the state behind g, as it is known behind f; the first one is `entry`
+abbrev entry-before-copy-row : tie.After-copy-row → tie.Start
+entry-before-copy-row c = c .before .before .before .before .before
+
 sub-copy-row : tie.Need-sub-copy-row
 sub-copy-row c = search needs
 
@@ -26,7 +30,7 @@ same-length c = search needs
 
 returns : tie.Need-returns
 returns c =
-    let s = c .before .before .before .before .before .before .before in
+    let s = entry-before-copy-row (c .before .before) in
     let n = s .args .end - s .args .start in
     let part = take n (drop (s .args .start) (s .args .src .now)) in
     let wide : length part ≡ n = length-take-le n (drop (s .args .start) (s .args .src .now)) (simp length-drop (omega arith)) in

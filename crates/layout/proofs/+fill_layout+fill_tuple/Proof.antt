@@ -61,6 +61,136 @@ fill-layout-claims t = (header-of-reads.Asked, header-of-reads.Learnt, wide-read
 abbrev fill-tuple-claims : ℕ → fill-tuple-lts.Claims
 fill-tuple-claims t = (tail-start-reads.Asked, tail-start-reads.Learnt, fill-layout-below t, fill-layout.Post, cells-to-freeze-mask-reads.Asked, cells-to-freeze-mask-reads.Learnt)
 
+-- ---- states by name: `g-before-f` is the state behind g, as it is known behind f; the first one is `entry`
+abbrev fill-layout-entry-before-header-of : (t : ℕ) → fill-layout-lts.After-header-of (fill-layout-claims t) (fill-layout-at t) fill-layout.Post → fill-layout-lts.Start (fill-layout-claims t) (fill-layout-at t) fill-layout.Post
+fill-layout-entry-before-header-of t c = c .before .before .before .before .before
+
+abbrev fill-layout-entry-before-then2 : (t : ℕ) → fill-layout-lts.Then2 (fill-layout-claims t) (fill-layout-at t) fill-layout.Post → fill-layout-lts.Start (fill-layout-claims t) (fill-layout-at t) fill-layout.Post
+fill-layout-entry-before-then2 t c = fill-layout-entry-before-header-of t (c .before .before .before .before .before)
+
+abbrev fill-layout-else1-before-header-of : (t : ℕ) → fill-layout-lts.After-header-of (fill-layout-claims t) (fill-layout-at t) fill-layout.Post → fill-layout-lts.Else1 (fill-layout-claims t) (fill-layout-at t) fill-layout.Post
+fill-layout-else1-before-header-of t c = c .before .before
+
+abbrev fill-layout-else1-before-then2 : (t : ℕ) → fill-layout-lts.Then2 (fill-layout-claims t) (fill-layout-at t) fill-layout.Post → fill-layout-lts.Else1 (fill-layout-claims t) (fill-layout-at t) fill-layout.Post
+fill-layout-else1-before-then2 t c = fill-layout-else1-before-header-of t (c .before .before .before .before .before)
+
+abbrev fill-layout-wide-before-then3 : (t : ℕ) → fill-layout-lts.Then3 (fill-layout-claims t) (fill-layout-at t) fill-layout.Post → fill-layout-lts.After-wide (fill-layout-claims t) (fill-layout-at t) fill-layout.Post
+fill-layout-wide-before-then3 t c = c .before .before .before .before .before .before
+
+abbrev fill-layout-entry-before-wide : (t : ℕ) → fill-layout-lts.After-wide (fill-layout-claims t) (fill-layout-at t) fill-layout.Post → fill-layout-lts.Start (fill-layout-claims t) (fill-layout-at t) fill-layout.Post
+fill-layout-entry-before-wide t c = c .before .before .before .before .before .before
+
+abbrev fill-layout-entry-before-then3 : (t : ℕ) → fill-layout-lts.Then3 (fill-layout-claims t) (fill-layout-at t) fill-layout.Post → fill-layout-lts.Start (fill-layout-claims t) (fill-layout-at t) fill-layout.Post
+fill-layout-entry-before-then3 t c = fill-layout-entry-before-wide t (c .before .before .before .before .before .before)
+
+abbrev fill-layout-entry-before-else2 : (t : ℕ) → fill-layout-lts.Else2 (fill-layout-claims t) (fill-layout-at t) fill-layout.Post → fill-layout-lts.Start (fill-layout-claims t) (fill-layout-at t) fill-layout.Post
+fill-layout-entry-before-else2 t c = fill-layout-entry-before-header-of t (c .before .before .before .before .before)
+
+abbrev fill-layout-entry-before-fill-tuple : (t : ℕ) → fill-layout-lts.After-fill-tuple (fill-layout-claims t) (fill-layout-at t) fill-layout.Post → fill-layout-lts.Start (fill-layout-claims t) (fill-layout-at t) fill-layout.Post
+fill-layout-entry-before-fill-tuple t c = fill-layout-entry-before-else2 t (c .before .before .before .before .before .before)
+
+abbrev fill-layout-header-of-before-else2 : (t : ℕ) → fill-layout-lts.Else2 (fill-layout-claims t) (fill-layout-at t) fill-layout.Post → fill-layout-lts.After-header-of (fill-layout-claims t) (fill-layout-at t) fill-layout.Post
+fill-layout-header-of-before-else2 t c = c .before .before .before .before .before
+
+abbrev fill-layout-header-of-before-fill-tuple : (t : ℕ) → fill-layout-lts.After-fill-tuple (fill-layout-claims t) (fill-layout-at t) fill-layout.Post → fill-layout-lts.After-header-of (fill-layout-claims t) (fill-layout-at t) fill-layout.Post
+fill-layout-header-of-before-fill-tuple t c = fill-layout-header-of-before-else2 t (c .before .before .before .before .before .before)
+
+abbrev fill-layout-wide-before-else2 : (t : ℕ) → fill-layout-lts.Else2 (fill-layout-claims t) (fill-layout-at t) fill-layout.Post → fill-layout-lts.After-wide (fill-layout-claims t) (fill-layout-at t) fill-layout.Post
+fill-layout-wide-before-else2 t c = c .before .before .before .before
+
+abbrev fill-layout-wide-before-fill-tuple : (t : ℕ) → fill-layout-lts.After-fill-tuple (fill-layout-claims t) (fill-layout-at t) fill-layout.Post → fill-layout-lts.After-wide (fill-layout-claims t) (fill-layout-at t) fill-layout.Post
+fill-layout-wide-before-fill-tuple t c = fill-layout-wide-before-else2 t (c .before .before .before .before .before .before)
+
+abbrev fill-layout-wide2-before-else2 : (t : ℕ) → fill-layout-lts.Else2 (fill-layout-claims t) (fill-layout-at t) fill-layout.Post → fill-layout-lts.After-wide2 (fill-layout-claims t) (fill-layout-at t) fill-layout.Post
+fill-layout-wide2-before-else2 t c = c .before .before .before
+
+abbrev fill-layout-wide2-before-fill-tuple : (t : ℕ) → fill-layout-lts.After-fill-tuple (fill-layout-claims t) (fill-layout-at t) fill-layout.Post → fill-layout-lts.After-wide2 (fill-layout-claims t) (fill-layout-at t) fill-layout.Post
+fill-layout-wide2-before-fill-tuple t c = fill-layout-wide2-before-else2 t (c .before .before .before .before .before .before)
+
+abbrev fill-layout-has-cells-before-else2 : (t : ℕ) → fill-layout-lts.Else2 (fill-layout-claims t) (fill-layout-at t) fill-layout.Post → fill-layout-lts.After-has-cells (fill-layout-claims t) (fill-layout-at t) fill-layout.Post
+fill-layout-has-cells-before-else2 t c = c .before
+
+abbrev fill-layout-has-cells-before-fill-tuple : (t : ℕ) → fill-layout-lts.After-fill-tuple (fill-layout-claims t) (fill-layout-at t) fill-layout.Post → fill-layout-lts.After-has-cells (fill-layout-claims t) (fill-layout-at t) fill-layout.Post
+fill-layout-has-cells-before-fill-tuple t c = fill-layout-has-cells-before-else2 t (c .before .before .before .before .before .before)
+
+abbrev fill-layout-else1-before-else2 : (t : ℕ) → fill-layout-lts.Else2 (fill-layout-claims t) (fill-layout-at t) fill-layout.Post → fill-layout-lts.Else1 (fill-layout-claims t) (fill-layout-at t) fill-layout.Post
+fill-layout-else1-before-else2 t c = fill-layout-else1-before-header-of t (c .before .before .before .before .before)
+
+abbrev fill-layout-else1-before-fill-tuple : (t : ℕ) → fill-layout-lts.After-fill-tuple (fill-layout-claims t) (fill-layout-at t) fill-layout.Post → fill-layout-lts.Else1 (fill-layout-claims t) (fill-layout-at t) fill-layout.Post
+fill-layout-else1-before-fill-tuple t c = fill-layout-else1-before-else2 t (c .before .before .before .before .before .before)
+
+abbrev fill-layout-else2-before-fill-tuple : (t : ℕ) → fill-layout-lts.After-fill-tuple (fill-layout-claims t) (fill-layout-at t) fill-layout.Post → fill-layout-lts.Else2 (fill-layout-claims t) (fill-layout-at t) fill-layout.Post
+fill-layout-else2-before-fill-tuple t c = c .before .before .before .before .before .before
+
+abbrev fill-layout-is-tuple-before-fill-tuple : (t : ℕ) → fill-layout-lts.After-fill-tuple (fill-layout-claims t) (fill-layout-at t) fill-layout.Post → fill-layout-lts.After-is-tuple (fill-layout-claims t) (fill-layout-at t) fill-layout.Post
+fill-layout-is-tuple-before-fill-tuple t c = c .before .before .before .before .before
+
+abbrev fill-layout-entry-before-else1 : (t : ℕ) → fill-layout-lts.Else1 (fill-layout-claims t) (fill-layout-at t) fill-layout.Post → fill-layout-lts.Start (fill-layout-claims t) (fill-layout-at t) fill-layout.Post
+fill-layout-entry-before-else1 t c = c .before .before .before
+
+abbrev fill-layout-entry-before-has-cells : (t : ℕ) → fill-layout-lts.After-has-cells (fill-layout-claims t) (fill-layout-at t) fill-layout.Post → fill-layout-lts.Start (fill-layout-claims t) (fill-layout-at t) fill-layout.Post
+fill-layout-entry-before-has-cells t c = fill-layout-entry-before-else1 t (c .before .before .before .before .before .before)
+
+abbrev fill-layout-entry-before-fill-last : (t : ℕ) → fill-layout-lts.After-fill-last (fill-layout-claims t) (fill-layout-at t) fill-layout.Post → fill-layout-lts.Start (fill-layout-claims t) (fill-layout-at t) fill-layout.Post
+fill-layout-entry-before-fill-last t c = fill-layout-entry-before-has-cells t (c .before .before .before .before .before)
+
+abbrev fill-layout-header-of-before-has-cells : (t : ℕ) → fill-layout-lts.After-has-cells (fill-layout-claims t) (fill-layout-at t) fill-layout.Post → fill-layout-lts.After-header-of (fill-layout-claims t) (fill-layout-at t) fill-layout.Post
+fill-layout-header-of-before-has-cells t c = c .before .before .before .before
+
+abbrev fill-layout-header-of-before-fill-last : (t : ℕ) → fill-layout-lts.After-fill-last (fill-layout-claims t) (fill-layout-at t) fill-layout.Post → fill-layout-lts.After-header-of (fill-layout-claims t) (fill-layout-at t) fill-layout.Post
+fill-layout-header-of-before-fill-last t c = fill-layout-header-of-before-has-cells t (c .before .before .before .before .before)
+
+abbrev fill-layout-wide-before-has-cells : (t : ℕ) → fill-layout-lts.After-has-cells (fill-layout-claims t) (fill-layout-at t) fill-layout.Post → fill-layout-lts.After-wide (fill-layout-claims t) (fill-layout-at t) fill-layout.Post
+fill-layout-wide-before-has-cells t c = c .before .before .before
+
+abbrev fill-layout-wide-before-fill-last : (t : ℕ) → fill-layout-lts.After-fill-last (fill-layout-claims t) (fill-layout-at t) fill-layout.Post → fill-layout-lts.After-wide (fill-layout-claims t) (fill-layout-at t) fill-layout.Post
+fill-layout-wide-before-fill-last t c = fill-layout-wide-before-has-cells t (c .before .before .before .before .before)
+
+abbrev fill-layout-wide2-before-has-cells : (t : ℕ) → fill-layout-lts.After-has-cells (fill-layout-claims t) (fill-layout-at t) fill-layout.Post → fill-layout-lts.After-wide2 (fill-layout-claims t) (fill-layout-at t) fill-layout.Post
+fill-layout-wide2-before-has-cells t c = c .before .before
+
+abbrev fill-layout-wide2-before-fill-last : (t : ℕ) → fill-layout-lts.After-fill-last (fill-layout-claims t) (fill-layout-at t) fill-layout.Post → fill-layout-lts.After-wide2 (fill-layout-claims t) (fill-layout-at t) fill-layout.Post
+fill-layout-wide2-before-fill-last t c = fill-layout-wide2-before-has-cells t (c .before .before .before .before .before)
+
+abbrev fill-layout-has-cells-before-fill-last : (t : ℕ) → fill-layout-lts.After-fill-last (fill-layout-claims t) (fill-layout-at t) fill-layout.Post → fill-layout-lts.After-has-cells (fill-layout-claims t) (fill-layout-at t) fill-layout.Post
+fill-layout-has-cells-before-fill-last t c = c .before .before .before .before .before
+
+abbrev fill-layout-else1-before-has-cells : (t : ℕ) → fill-layout-lts.After-has-cells (fill-layout-claims t) (fill-layout-at t) fill-layout.Post → fill-layout-lts.Else1 (fill-layout-claims t) (fill-layout-at t) fill-layout.Post
+fill-layout-else1-before-has-cells t c = c .before .before .before .before .before .before
+
+abbrev fill-layout-else1-before-fill-last : (t : ℕ) → fill-layout-lts.After-fill-last (fill-layout-claims t) (fill-layout-at t) fill-layout.Post → fill-layout-lts.Else1 (fill-layout-claims t) (fill-layout-at t) fill-layout.Post
+fill-layout-else1-before-fill-last t c = fill-layout-else1-before-has-cells t (c .before .before .before .before .before)
+
+abbrev fill-tuple-entry-before-else1 : (t : ℕ) → fill-tuple-lts.Else1 (fill-tuple-claims t) (fill-tuple-at t) fill-tuple.Post → fill-tuple-lts.Start (fill-tuple-claims t) (fill-tuple-at t) fill-tuple.Post
+fill-tuple-entry-before-else1 t c = c .before .before .before .before
+
+abbrev fill-tuple-entry-before-fill-layout : (t : ℕ) → fill-tuple-lts.After-fill-layout (fill-tuple-claims t) (fill-tuple-at t) fill-tuple.Post → fill-tuple-lts.Start (fill-tuple-claims t) (fill-tuple-at t) fill-tuple.Post
+fill-tuple-entry-before-fill-layout t c = fill-tuple-entry-before-else1 t (c .before .before .before .before)
+
+abbrev fill-tuple-tail-start-before-fill-layout : (t : ℕ) → fill-tuple-lts.After-fill-layout (fill-tuple-claims t) (fill-tuple-at t) fill-tuple.Post → fill-tuple-lts.After-tail-start (fill-tuple-claims t) (fill-tuple-at t) fill-tuple.Post
+fill-tuple-tail-start-before-fill-layout t c = c .before .before .before
+
+abbrev fill-tuple-else2-before-fill-layout : (t : ℕ) → fill-tuple-lts.After-fill-layout (fill-tuple-claims t) (fill-tuple-at t) fill-tuple.Post → fill-tuple-lts.Else2 (fill-tuple-claims t) (fill-tuple-at t) fill-tuple.Post
+fill-tuple-else2-before-fill-layout t c = c .before .before
+
+abbrev fill-tuple-entry-before-cells-to-freeze-mask : (t : ℕ) → fill-tuple-lts.After-cells-to-freeze-mask (fill-tuple-claims t) (fill-tuple-at t) fill-tuple.Post → fill-tuple-lts.Start (fill-tuple-claims t) (fill-tuple-at t) fill-tuple.Post
+fill-tuple-entry-before-cells-to-freeze-mask t c = let c1 = c .before .before .before .before .before .before in fill-tuple-entry-before-else1 t (c1 .before .before .before .before .before)
+
+abbrev fill-tuple-fill-layout-before-cells-to-freeze-mask : (t : ℕ) → fill-tuple-lts.After-cells-to-freeze-mask (fill-tuple-claims t) (fill-tuple-at t) fill-tuple.Post → fill-tuple-lts.After-fill-layout (fill-tuple-claims t) (fill-tuple-at t) fill-tuple.Post
+fill-tuple-fill-layout-before-cells-to-freeze-mask t c = let c1 = c .before .before .before .before .before .before in c1 .before
+
+abbrev fill-tuple-tail-start-before-cells-to-freeze-mask : (t : ℕ) → fill-tuple-lts.After-cells-to-freeze-mask (fill-tuple-claims t) (fill-tuple-at t) fill-tuple.Post → fill-tuple-lts.After-tail-start (fill-tuple-claims t) (fill-tuple-at t) fill-tuple.Post
+fill-tuple-tail-start-before-cells-to-freeze-mask t c = let c1 = c .before .before .before .before .before .before in c1 .before .before .before .before
+
+abbrev fill-tuple-else2-before-cells-to-freeze-mask : (t : ℕ) → fill-tuple-lts.After-cells-to-freeze-mask (fill-tuple-claims t) (fill-tuple-at t) fill-tuple.Post → fill-tuple-lts.Else2 (fill-tuple-claims t) (fill-tuple-at t) fill-tuple.Post
+fill-tuple-else2-before-cells-to-freeze-mask t c = let c1 = c .before .before .before .before .before .before in c1 .before .before .before
+
+abbrev fill-tuple-else1-before-cells-to-freeze-mask : (t : ℕ) → fill-tuple-lts.After-cells-to-freeze-mask (fill-tuple-claims t) (fill-tuple-at t) fill-tuple.Post → fill-tuple-lts.Else1 (fill-tuple-claims t) (fill-tuple-at t) fill-tuple.Post
+fill-tuple-else1-before-cells-to-freeze-mask t c = let c1 = c .before .before .before .before .before .before in c1 .before .before .before .before .before
+
+abbrev fill-tuple-else1-before-fill-layout : (t : ℕ) → fill-tuple-lts.After-fill-layout (fill-tuple-claims t) (fill-tuple-at t) fill-tuple.Post → fill-tuple-lts.Else1 (fill-tuple-claims t) (fill-tuple-at t) fill-tuple.Post
+fill-tuple-else1-before-fill-layout t c = c .before .before .before .before
+
 fill-layout-returns : (t : ℕ) → fill-layout-lts.Need-returns (fill-layout-claims t) (fill-layout-at t) fill-layout.Post
 fill-layout-returns t c =
     let a = c .before .before .before .args in
@@ -92,10 +222,10 @@ fill-layout-has-cells-requires t c κs = search needs
 
 fill-layout-returns-2 : (t : ℕ) → fill-layout-lts.Need-returns-2 (fill-layout-claims t) (fill-layout-at t) fill-layout.Post
 fill-layout-returns-2 t c =
-    let a = c .before .before .before .before .before .before .before .before .before .before .args in
+    let a = fill-layout-entry-before-then2 t c .args in
     instead
     (bad-header (a .tuples) (metaOf (a .metadata)) (a .words .now) (c .before .before .before .before .before .header-of .result) (c .before .before .before .before .wide .result)
-    (c .before .before .before .wide2 .result) (take (length (a .words .now) - 1) (drop 1 (a .words .now))) (c .before .has-cells .result) (c .before .before .before .before .before .before .before .if1 .left)
+    (c .before .before .before .wide2 .result) (take (length (a .words .now) - 1) (drop 1 (a .words .now))) (c .before .has-cells .result) (fill-layout-else1-before-then2 t c .if1 .left)
     (c .before .before .before .before .before .header-of .ensures) (c .before .before .before .before .wide .ensures) (c .before .before .before .wide2 .ensures) (part-rest 1 (a .words .now)) (c .before .has-cells .ensures)
     (not-true _ (c .if2 .taken)))
     (nothing (a .mask .now))
@@ -105,12 +235,12 @@ fill-layout-is-tuple-requires t c κs = search needs
 
 -- a tuple's cells stand within the words behind its header
 cells-inside : (t : ℕ) (c : fill-layout-lts.After-fill-tuple-arg (fill-layout-claims t) (fill-layout-at t) fill-layout.Post)
-    → c .before .before .before .before .before .before .before .wide .result ≤ length (take (length (c .before .before .before .before .before .before .before .before .before .before .before .before .before .args .words .now) - 1) (drop 1 (c .before .before .before .before .before .before .before .before .before .before .before .before .before .args .words .now)))
-cells-inside t c = cells-within (c .before .before .before .before .before .before .before .wide .result) (c .before .before .before .before .before .before .wide2 .result) (take (length (c .before .before .before .before .before .before .before .before .before .before .before .before .before .args .words .now) - 1) (drop 1 (c .before .before .before .before .before .before .before .before .before .before .before .before .before .args .words .now)))
+    → fill-layout-wide-before-then3 t (c .before) .wide .result ≤ length (take (length (fill-layout-entry-before-then3 t (c .before) .args .words .now) - 1) (drop 1 (fill-layout-entry-before-then3 t (c .before) .args .words .now)))
+cells-inside t c = cells-within (fill-layout-wide-before-then3 t (c .before) .wide .result) (c .before .before .before .before .before .before .wide2 .result) (take (length (fill-layout-entry-before-then3 t (c .before) .args .words .now) - 1) (drop 1 (fill-layout-entry-before-then3 t (c .before) .args .words .now)))
     (sym (c .before .before .before .before .has-cells .ensures) ∙ not-false _ (c .before .before .before .if2 .left))
 
 fill-layout-slice-aggregate-fill-tuple : (t : ℕ) → fill-layout-lts.Need-slice-aggregate-fill-tuple (fill-layout-claims t) (fill-layout-at t) fill-layout.Post
-fill-layout-slice-aggregate-fill-tuple t c = sym (length-take-le (c .before .before .before .before .before .before .before .wide .result) (take (length (c .before .before .before .before .before .before .before .before .before .before .before .before .before .args .words .now) - 1) (drop 1 (c .before .before .before .before .before .before .before .before .before .before .before .before .before .args .words .now))) (cells-inside t c))
+fill-layout-slice-aggregate-fill-tuple t c = sym (length-take-le (fill-layout-wide-before-then3 t (c .before) .wide .result) (take (length (fill-layout-entry-before-then3 t (c .before) .args .words .now) - 1) (drop 1 (fill-layout-entry-before-then3 t (c .before) .args .words .now))) (cells-inside t c))
 
 fill-layout-mul-fill-tuple : (t : ℕ) → fill-layout-lts.Need-mul-fill-tuple (fill-layout-claims t) (fill-layout-at t) fill-layout.Post
 fill-layout-mul-fill-tuple t c = search needs
@@ -132,12 +262,12 @@ fill-layout-same-length t c = search needs
 
 fill-layout-returns-3 : (t : ℕ) → fill-layout-lts.Need-returns-3 (fill-layout-claims t) (fill-layout-at t) fill-layout.Post
 fill-layout-returns-3 t c =
-    let a = c .before .before .before .before .before .before .before .before .before .before .before .before .before .before .before .before .before .before .args in
+    let a = fill-layout-entry-before-fill-tuple t (c .before .before) .args in
     instead
-    (tuple-header (a .tuples) (metaOf (a .metadata)) (a .words .now) (c .before .before .before .before .before .before .before .before .before .before .before .before .before .header-of .result) (c .before .before .before .before .before .before .before .before .before .before .before .before .wide .result)
-    (c .before .before .before .before .before .before .before .before .before .before .before .wide2 .result) (take (length (a .words .now) - 1) (drop 1 (a .words .now))) (c .before .before .before .before .before .before .before .before .before .has-cells .result) (c .before .before .before .before .before .before .before .before .before .before .before .before .before .before .before .if1 .left)
-    (c .before .before .before .before .before .before .before .before .before .before .before .before .before .header-of .ensures) (c .before .before .before .before .before .before .before .before .before .before .before .before .wide .ensures) (c .before .before .before .before .before .before .before .before .before .before .before .wide2 .ensures) (part-rest 1 (a .words .now)) (c .before .before .before .before .before .before .before .before .before .has-cells .ensures)
-    (not-false _ (c .before .before .before .before .before .before .before .before .if2 .left)) (sym (c .before .before .before .before .before .before .before .is-tuple .ensures) ∙ c .before .before .before .before .before .before .if3 .taken))
+    (tuple-header (a .tuples) (metaOf (a .metadata)) (a .words .now) (fill-layout-header-of-before-fill-tuple t (c .before .before) .header-of .result) (fill-layout-wide-before-fill-tuple t (c .before .before) .wide .result)
+    (fill-layout-wide2-before-fill-tuple t (c .before .before) .wide2 .result) (take (length (a .words .now) - 1) (drop 1 (a .words .now))) (fill-layout-has-cells-before-fill-tuple t (c .before .before) .has-cells .result) (fill-layout-else1-before-fill-tuple t (c .before .before) .if1 .left)
+    (fill-layout-header-of-before-fill-tuple t (c .before .before) .header-of .ensures) (fill-layout-wide-before-fill-tuple t (c .before .before) .wide .ensures) (fill-layout-wide2-before-fill-tuple t (c .before .before) .wide2 .ensures) (part-rest 1 (a .words .now)) (fill-layout-has-cells-before-fill-tuple t (c .before .before) .has-cells .ensures)
+    (not-false _ (fill-layout-else2-before-fill-tuple t (c .before .before) .if2 .left)) (sym (fill-layout-is-tuple-before-fill-tuple t (c .before .before) .is-tuple .ensures) ∙ c .before .before .before .before .before .before .if3 .taken))
     (c .before .before .fill-tuple .ensures)
 
 fill-layout-fill-last-requires : (t : ℕ) → fill-layout-lts.Need-fill-last-requires (fill-layout-claims t) (fill-layout-at t) fill-layout.Post
@@ -148,11 +278,11 @@ fill-layout-same-length-2 t c = search needs
 
 fill-layout-returns-4 : (t : ℕ) → fill-layout-lts.Need-returns-4 (fill-layout-claims t) (fill-layout-at t) fill-layout.Post
 fill-layout-returns-4 t c =
-    let a = c .before .before .before .before .before .before .before .before .before .before .before .before .before .before .before .before .args in
+    let a = fill-layout-entry-before-fill-last t (c .before .before) .args in
     instead
-    (last-header (a .tuples) (metaOf (a .metadata)) (a .words .now) (c .before .before .before .before .before .before .before .before .before .before .before .header-of .result) (c .before .before .before .before .before .before .before .before .before .before .wide .result)
-    (c .before .before .before .before .before .before .before .before .before .wide2 .result) (take (length (a .words .now) - 1) (drop 1 (a .words .now))) (c .before .before .before .before .before .before .before .has-cells .result) (c .before .before .before .before .before .before .before .before .before .before .before .before .before .if1 .left)
-    (c .before .before .before .before .before .before .before .before .before .before .before .header-of .ensures) (c .before .before .before .before .before .before .before .before .before .before .wide .ensures) (c .before .before .before .before .before .before .before .before .before .wide2 .ensures) (part-rest 1 (a .words .now)) (c .before .before .before .before .before .before .before .has-cells .ensures)
+    (last-header (a .tuples) (metaOf (a .metadata)) (a .words .now) (fill-layout-header-of-before-fill-last t (c .before .before) .header-of .result) (fill-layout-wide-before-fill-last t (c .before .before) .wide .result)
+    (fill-layout-wide2-before-fill-last t (c .before .before) .wide2 .result) (take (length (a .words .now) - 1) (drop 1 (a .words .now))) (fill-layout-has-cells-before-fill-last t (c .before .before) .has-cells .result) (fill-layout-else1-before-fill-last t (c .before .before) .if1 .left)
+    (fill-layout-header-of-before-fill-last t (c .before .before) .header-of .ensures) (fill-layout-wide-before-fill-last t (c .before .before) .wide .ensures) (fill-layout-wide2-before-fill-last t (c .before .before) .wide2 .ensures) (part-rest 1 (a .words .now)) (fill-layout-has-cells-before-fill-last t (c .before .before) .has-cells .ensures)
     (not-false _ (c .before .before .before .before .before .before .if2 .left)) (sym (c .before .before .before .before .before .is-tuple .ensures) ∙ c .before .before .before .before .if3 .left))
     (c .before .before .fill-last .ensures)
 
@@ -197,28 +327,28 @@ fill-tuple-slice-relend-prefix-cells-to-freeze-mask t c = search needs
 
 fill-tuple-slice-aggregate-cells-to-freeze-mask : (t : ℕ) → fill-tuple-lts.Need-slice-aggregate-cells-to-freeze-mask (fill-tuple-claims t) (fill-tuple-at t) fill-tuple.Post
 fill-tuple-slice-aggregate-cells-to-freeze-mask t c =
-    let a = c .before .before .before .before .before .before .before .before .before .before .before .before .before .before .args in
-    let e : c .before .before .before .before .before .before .before .before .before .tail-start .result ≡ a .size = c .before .before .before .before .before .before .before .before .before .tail-start .ensures in
+    let a = fill-tuple-entry-before-fill-layout t (c .before .before .before .before .before .before) .args in
+    let e : fill-tuple-tail-start-before-fill-layout t (c .before .before .before .before .before .before) .tail-start .result ≡ a .size = fill-tuple-tail-start-before-fill-layout t (c .before .before .before .before .before .before) .tail-start .ensures in
     let m = a .mask .now in
     let after : List ℕ = c .before .before .before .before .before .before .fill-layout .last .1 .1 .1 .0 in
-    sym (ap (λ (n : ℕ). length (take (a .size) (take n m ++ (after ++ drop (length m - n) (drop n m))))) e ∙ replaced-front (a .size) m after (omega (arith, e, c .before .before .before .before .before .before .before .before .if2 .left)))
+    sym (ap (λ (n : ℕ). length (take (a .size) (take n m ++ (after ++ drop (length m - n) (drop n m))))) e ∙ replaced-front (a .size) m after (omega (arith, e, fill-tuple-else2-before-fill-layout t (c .before .before .before .before .before .before) .if2 .left)))
 
 fill-tuple-cells-to-freeze-mask-requires : (t : ℕ) → fill-tuple-lts.Need-cells-to-freeze-mask-requires (fill-tuple-claims t) (fill-tuple-at t) fill-tuple.Post
 fill-tuple-cells-to-freeze-mask-requires t c κs = search needs
 
 fill-tuple-add-t20 : (t : ℕ) → fill-tuple-lts.Need-add-t20 (fill-tuple-claims t) (fill-tuple-at t) fill-tuple.Post
 fill-tuple-add-t20 t c =
-    let a = c .before .before .before .before .before .before .before .before .before .before .before .before .before .before .before .before .before .args in
+    let a = fill-tuple-entry-before-cells-to-freeze-mask t (c .before .before) .args in
     let cells = map unsafeCell (a .cells .now) in
     let tail = tailMask (a .tuples) (metaOf (a .metadata)) (a .tail .now) in
     let m = a .mask .now in
-    let after : List ℕ = c .before .before .before .before .before .before .before .before .before .fill-layout .last .1 .1 .1 .0 in
-    let start = c .before .before .before .before .before .before .before .before .before .before .before .before .tail-start .result in
-    let e : start ≡ a .size = c .before .before .before .before .before .before .before .before .before .before .before .before .tail-start .ensures in
-    let fits : a .size ≤ length m = omega (arith, e, c .before .before .before .before .before .before .before .before .before .before .before .if2 .left) in
+    let after : List ℕ = fill-tuple-fill-layout-before-cells-to-freeze-mask t (c .before .before) .fill-layout .last .1 .1 .1 .0 in
+    let start = fill-tuple-tail-start-before-cells-to-freeze-mask t (c .before .before) .tail-start .result in
+    let e : start ≡ a .size = fill-tuple-tail-start-before-cells-to-freeze-mask t (c .before .before) .tail-start .ensures in
+    let fits : a .size ≤ length m = omega (arith, e, fill-tuple-else2-before-cells-to-freeze-mask t (c .before .before) .if2 .left) in
     let f : Fills tail (drop (a .size) m) (Of (c .before .before .before .before .before .after .given .0 .0)) after =
-    instead (tail-mask (a .tuples) (metaOf (a .metadata)) (a .tail .now) (c .before .before .before .before .before .before .before .before .before .before .before .before .before .if1 .left))
-    (restated (part-rest start m ∙ ap (λ (n : ℕ). drop n m) e) (c .before .before .before .before .before .after .given .1) refl (c .before .before .before .before .before .before .before .before .before .fill-layout .ensures)) in
+    instead (tail-mask (a .tuples) (metaOf (a .metadata)) (a .tail .now) (fill-tuple-else1-before-cells-to-freeze-mask t (c .before .before) .if1 .left))
+    (restated (part-rest start m ∙ ap (λ (n : ℕ). drop n m) e) (c .before .before .before .before .before .after .given .1) refl (fill-tuple-fill-layout-before-cells-to-freeze-mask t (c .before .before) .fill-layout .ensures)) in
     omega (arith, e, length-within tail (drop (a .size) m) after (c .before .before .before .before .before .after .given .0 .0) f, length-drop (a .size) m)
 
 fill-tuple-enum-told : (t : ℕ) → fill-tuple-lts.Need-enum-told (fill-tuple-claims t) (fill-tuple-at t) fill-tuple.Post
@@ -232,40 +362,40 @@ fill-tuple-same-length t c = search needs
 
 fill-tuple-returns-3 : (t : ℕ) → fill-tuple-lts.Need-returns-3 (fill-tuple-claims t) (fill-tuple-at t) fill-tuple.Post
 fill-tuple-returns-3 t c =
-    let a = c .before .before .before .before .before .before .before .before .before .before .before .before .before .before .before .before .before .args in
+    let a = fill-tuple-entry-before-cells-to-freeze-mask t (c .before .before) .args in
     let cells = map unsafeCell (a .cells .now) in
     let tail = tailMask (a .tuples) (metaOf (a .metadata)) (a .tail .now) in
     let m = a .mask .now in
-    let after : List ℕ = c .before .before .before .before .before .before .before .before .before .fill-layout .last .1 .1 .1 .0 in
-    let start = c .before .before .before .before .before .before .before .before .before .before .before .before .tail-start .result in
-    let e : start ≡ a .size = c .before .before .before .before .before .before .before .before .before .before .before .before .tail-start .ensures in
-    let fits : a .size ≤ length m = omega (arith, e, c .before .before .before .before .before .before .before .before .before .before .before .if2 .left) in
+    let after : List ℕ = fill-tuple-fill-layout-before-cells-to-freeze-mask t (c .before .before) .fill-layout .last .1 .1 .1 .0 in
+    let start = fill-tuple-tail-start-before-cells-to-freeze-mask t (c .before .before) .tail-start .result in
+    let e : start ≡ a .size = fill-tuple-tail-start-before-cells-to-freeze-mask t (c .before .before) .tail-start .ensures in
+    let fits : a .size ≤ length m = omega (arith, e, fill-tuple-else2-before-cells-to-freeze-mask t (c .before .before) .if2 .left) in
     let f : Fills tail (drop (a .size) m) (Of (c .before .before .before .before .before .after .given .0 .0)) after =
-    instead (tail-mask (a .tuples) (metaOf (a .metadata)) (a .tail .now) (c .before .before .before .before .before .before .before .before .before .before .before .before .before .if1 .left))
-    (restated (part-rest start m ∙ ap (λ (n : ℕ). drop n m) e) (c .before .before .before .before .before .after .given .1) refl (c .before .before .before .before .before .before .before .before .before .fill-layout .ensures)) in
+    instead (tail-mask (a .tuples) (metaOf (a .metadata)) (a .tail .now) (fill-tuple-else1-before-cells-to-freeze-mask t (c .before .before) .if1 .left))
+    (restated (part-rest start m ∙ ap (λ (n : ℕ). drop n m) e) (c .before .before .before .before .before .after .given .1) refl (fill-tuple-fill-layout-before-cells-to-freeze-mask t (c .before .before) .fill-layout .ensures)) in
     let first : c .before .before .cells-to-freeze-mask .last .1 .0 ≡ maskBytes (table (length (take (a .size) (take start m ++ (after ++ drop (length m - start) (drop start m))))) (isFreeze cells)) =
     c .before .before .cells-to-freeze-mask .ensures in
     restated refl (ap (λ (n : ℕ). Of (n + (c .before .before .before .before .before .after .given .0 .0))) (sym e))
     (sym (ap₂ _++_
     (first ∙ ap (λ (n : ℕ). maskBytes (table n (isFreeze cells))) (ap (λ (n : ℕ). length (take (a .size) (take n m ++ (after ++ drop (length m - n) (drop n m))))) e ∙ replaced-front (a .size) m after fits))
     (ap (λ (n : ℕ). drop (a .size) (take n m ++ (after ++ drop (length m - n) (drop n m)))) e ∙ replaced-rest (a .size) m after fits)))
-    (tail-filled m (a .size) cells tail fits (c .before .before .before .before .before .after .given .0 .0) after (c .before .before .before .before .before .before .before .before .before .before .before .before .before .before .before .before .before .pre .1) f)
+    (tail-filled m (a .size) cells tail fits (c .before .before .before .before .before .after .given .0 .0) after (fill-tuple-entry-before-cells-to-freeze-mask t (c .before .before) .pre .1) f)
 
 fill-tuple-same-length-2 : (t : ℕ) → fill-tuple-lts.Need-same-length-2 (fill-tuple-claims t) (fill-tuple-at t) fill-tuple.Post
 fill-tuple-same-length-2 t c = search needs
 
 fill-tuple-returns-4 : (t : ℕ) → fill-tuple-lts.Need-returns-4 (fill-tuple-claims t) (fill-tuple-at t) fill-tuple.Post
 fill-tuple-returns-4 t c =
-    let a = c .before .before .before .before .before .before .before .before .before .before .before .before .args in
+    let a = fill-tuple-entry-before-fill-layout t (c .before .before .before .before) .args in
     let cells = map unsafeCell (a .cells .now) in
     let tail = tailMask (a .tuples) (metaOf (a .metadata)) (a .tail .now) in
     let m = a .mask .now in
     let after : List ℕ = c .before .before .before .before .fill-layout .last .1 .1 .1 .0 in
-    let start = c .before .before .before .before .before .before .before .tail-start .result in
-    let e : start ≡ a .size = c .before .before .before .before .before .before .before .tail-start .ensures in
+    let start = fill-tuple-tail-start-before-fill-layout t (c .before .before .before .before) .tail-start .result in
+    let e : start ≡ a .size = fill-tuple-tail-start-before-fill-layout t (c .before .before .before .before) .tail-start .ensures in
     let fits : a .size ≤ length m = omega (arith, e, c .before .before .before .before .before .before .if2 .left) in
     let f : Fills tail (drop (a .size) m) None after =
-    instead (tail-mask (a .tuples) (metaOf (a .metadata)) (a .tail .now) (c .before .before .before .before .before .before .before .before .if1 .left))
+    instead (tail-mask (a .tuples) (metaOf (a .metadata)) (a .tail .now) (fill-tuple-else1-before-fill-layout t (c .before .before .before .before) .if1 .left))
     (restated (part-rest start m ∙ ap (λ (n : ℕ). drop n m) e) (c .enum-told .given .1) refl (c .before .before .before .before .fill-layout .ensures)) in
     restated refl refl (sym (ap (λ (n : ℕ). take n m ++ (after ++ drop (length m - n) (drop n m))) e ∙ replaced (a .size) m after fits)) (tail-over m (a .size) cells tail fits after f)
 
@@ -274,16 +404,16 @@ fill-tuple-same-length-3 t c = search needs
 
 fill-tuple-returns-5 : (t : ℕ) → fill-tuple-lts.Need-returns-5 (fill-tuple-claims t) (fill-tuple-at t) fill-tuple.Post
 fill-tuple-returns-5 t c =
-    let a = c .before .before .before .before .before .before .before .before .before .before .before .before .args in
+    let a = fill-tuple-entry-before-fill-layout t (c .before .before .before .before) .args in
     let cells = map unsafeCell (a .cells .now) in
     let tail = tailMask (a .tuples) (metaOf (a .metadata)) (a .tail .now) in
     let m = a .mask .now in
     let after : List ℕ = c .before .before .before .before .fill-layout .last .1 .1 .1 .0 in
-    let start = c .before .before .before .before .before .before .before .tail-start .result in
-    let e : start ≡ a .size = c .before .before .before .before .before .before .before .tail-start .ensures in
+    let start = fill-tuple-tail-start-before-fill-layout t (c .before .before .before .before) .tail-start .result in
+    let e : start ≡ a .size = fill-tuple-tail-start-before-fill-layout t (c .before .before .before .before) .tail-start .ensures in
     let fits : a .size ≤ length m = omega (arith, e, c .before .before .before .before .before .before .if2 .left) in
     let f : Fills tail (drop (a .size) m) WrongLength after =
-    instead (tail-mask (a .tuples) (metaOf (a .metadata)) (a .tail .now) (c .before .before .before .before .before .before .before .before .if1 .left))
+    instead (tail-mask (a .tuples) (metaOf (a .metadata)) (a .tail .now) (fill-tuple-else1-before-fill-layout t (c .before .before .before .before) .if1 .left))
     (restated (part-rest start m ∙ ap (λ (n : ℕ). drop n m) e) (c .enum-told2 .given .1) refl (c .before .before .before .before .fill-layout .ensures)) in
     absurd (never-wrong tail (drop (a .size) m) after f)
 

@@ -16,6 +16,13 @@ Inv-loop cells size end₀ i₀ end i = (i ≤ length cells) × (cellsFit end si
 abbrev μ-loop : tie.MeasureT-loop
 μ-loop cells size end₀ i₀ end i = length cells - i
 
+-- ---- states by name: `g-before-f` is the state behind g, as it is known behind f; the first one is `entry`
+abbrev entry-before-at-loop : tie.At-loop Inv-loop μ-loop → tie.Start Inv-loop μ-loop
+entry-before-at-loop c = c .before .before
+
+abbrev entry-before-cell-size : tie.After-cell-size Inv-loop μ-loop → tie.Start Inv-loop μ-loop
+entry-before-cell-size c = entry-before-at-loop (c .before .before .before .before .before)
+
 loop-holds : tie.Need-loop-holds Inv-loop μ-loop
 loop-holds c = (search needs, refl)
 
@@ -49,7 +56,7 @@ loop-less c = search needs
 loop-again : tie.Need-loop-again Inv-loop μ-loop
 loop-again c =
     let l = c .before .before .before .before .before .loop in
-    let a = c .before .before .before .before .before .before .before .args in (
+    let a = entry-before-cell-size c .args in (
       omega arith,
       rw (c .before .before .cell-start .ensures, c .cell-size .ensures)
           (sym (fits-more (l .end) (a .size) (a .cells .now) (l .i) (c .before .before .before .before .loop-test .taken) (omega (arith, c .before .before .cell-start .ensures))) ∙ l .inv .1),

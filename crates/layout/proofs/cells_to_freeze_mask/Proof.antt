@@ -19,6 +19,22 @@ Inv-loop cells mask₀ size i₀ mask i = (i ≤ length cells) × (mask ≡ mask
 abbrev μ-loop : tie.MeasureT-loop
 μ-loop cells mask₀ size i₀ mask i = length cells - i
 
+-- ---- states by name: `g-before-f` is the state behind g, as it is known behind f; the first one is `entry`
+abbrev entry-before-paint : tie.After-paint Inv-loop μ-loop → tie.Start Inv-loop μ-loop
+entry-before-paint c = c .before .before .before .before
+
+abbrev entry-before-at-loop : tie.At-loop Inv-loop μ-loop → tie.Start Inv-loop μ-loop
+entry-before-at-loop c = entry-before-paint (c .before .before .before)
+
+abbrev entry-before-paint2 : tie.After-paint2 Inv-loop μ-loop → tie.Start Inv-loop μ-loop
+entry-before-paint2 c = entry-before-at-loop (c .before .before .before .before .before .before)
+
+abbrev at-loop-before-paint2 : tie.After-paint2 Inv-loop μ-loop → tie.At-loop Inv-loop μ-loop
+at-loop-before-paint2 c = c .before .before .before .before .before .before
+
+abbrev In-loop-before-paint2 : tie.After-paint2 Inv-loop μ-loop → tie.In-loop Inv-loop μ-loop
+In-loop-before-paint2 c = c .before .before .before .before .before
+
 paint-requires : tie.Need-paint-requires Inv-loop μ-loop
 paint-requires c κs = search needs
 
@@ -51,19 +67,19 @@ loop-less c = search needs
 
 loop-again : tie.Need-loop-again Inv-loop μ-loop
 loop-again c =
-    let a = c .before .before .before .before .before .before .before .before .before .before .before .before .before .before .before .args in
-    let l = c .before .before .before .before .before .before .before .before .loop in (
+    let a = entry-before-paint2 (c .before .before) .args in
+    let l = at-loop-before-paint2 (c .before .before) .loop in (
       omega arith,
       c .before .before .paint2 .ensures
           ∙ next-cell (length (a .mask .now)) (a .cells .now) (l .i) (c .before .before .before .before .before .cell-start .result) (c .before .before .before .before .cell-size .result) (l .mask)
-          (c .before .before .before .before .before .before .before .loop-test .taken) (l .inv .1) (c .before .before .before .before .before .cell-start .ensures) (c .before .before .before .before .cell-size .ensures),
+          (In-loop-before-paint2 (c .before .before) .loop-test .taken) (l .inv .1) (c .before .before .before .before .before .cell-start .ensures) (c .before .before .before .before .cell-size .ensures),
     )
 
 same-length : tie.Need-same-length Inv-loop μ-loop
-same-length c = ap length (c .before .loop .inv .1) ∙ mask-length (length (c .before .before .before .before .before .before .before .before .args .mask .now)) (isFreeze (map unsafeCell (take (c .before .loop .i) (c .before .before .before .before .before .before .before .before .args .cells .now))))
+same-length c = ap length (c .before .loop .inv .1) ∙ mask-length (length (entry-before-at-loop (c .before) .args .mask .now)) (isFreeze (map unsafeCell (take (c .before .loop .i) (entry-before-at-loop (c .before) .args .cells .now))))
 
 returns : tie.Need-returns Inv-loop μ-loop
-returns c = c .before .loop .inv .1 ∙ ap (λ ws. maskBytes (table (length (c .before .before .before .before .before .before .before .before .args .mask .now)) (isFreeze (map unsafeCell ws)))) (take-all (c .before .loop .i) (c .before .before .before .before .before .before .before .before .args .cells .now) (omega arith))
+returns c = c .before .loop .inv .1 ∙ ap (λ ws. maskBytes (table (length (entry-before-at-loop (c .before) .args .mask .now)) (isFreeze (map unsafeCell ws)))) (take-all (c .before .loop .i) (entry-before-at-loop (c .before) .args .cells .now) (omega arith))
 
 pub cells-to-freeze-mask-spec : {M : Type 1} → statement M
 cells-to-freeze-mask-spec =

@@ -14,6 +14,46 @@ use Rattle.layout.proofs.Fill.{no-room, no-bytes, repeated, elements-of
 use Rattle.layout.proofs.fill_elements.Statement.{statement}
 use Rattle.layout.proofs.fill_elements.Tie as tie
 
+-- ---- states by name: `g-before-f` is the state behind g, as it is known behind f; the first one is `entry`
+abbrev entry-before-else2 : tie.Else2 → tie.Start
+entry-before-else2 c = c .before .before .before .before .before .before
+
+abbrev entry-before-wide : tie.After-wide → tie.Start
+entry-before-wide c = c .before .before .before
+
+abbrev entry-before-cells-to-freeze-mask : tie.After-cells-to-freeze-mask → tie.Start
+entry-before-cells-to-freeze-mask c = entry-before-wide (c .before .before .before .before .before)
+
+abbrev wide2-before-cells-to-freeze-mask : tie.After-cells-to-freeze-mask → tie.After-wide2
+wide2-before-cells-to-freeze-mask c = c .before .before .before .before
+
+abbrev wide-before-cells-to-freeze-mask : tie.After-cells-to-freeze-mask → tie.After-wide
+wide-before-cells-to-freeze-mask c = c .before .before .before .before .before
+
+abbrev entry-before-repeat : tie.After-repeat → tie.Start
+entry-before-repeat c = entry-before-else2 (c .before .before .before .before .before .before)
+
+abbrev wide2-before-else2 : tie.Else2 → tie.After-wide2
+wide2-before-else2 c = c .before .before
+
+abbrev wide2-before-repeat : tie.After-repeat → tie.After-wide2
+wide2-before-repeat c = wide2-before-else2 (c .before .before .before .before .before .before)
+
+abbrev wide-before-else2 : tie.Else2 → tie.After-wide
+wide-before-else2 c = c .before .before .before
+
+abbrev wide-before-repeat : tie.After-repeat → tie.After-wide
+wide-before-repeat c = wide-before-else2 (c .before .before .before .before .before .before)
+
+abbrev else1-before-else2 : tie.Else2 → tie.Else1
+else1-before-else2 c = c .before
+
+abbrev else1-before-repeat : tie.After-repeat → tie.Else1
+else1-before-repeat c = else1-before-else2 (c .before .before .before .before .before .before)
+
+abbrev else2-before-repeat : tie.After-repeat → tie.Else2
+else2-before-repeat c = c .before .before .before .before .before .before
+
 wide-requires : tie.Need-wide-requires
 wide-requires c κs = search needs
 
@@ -45,7 +85,7 @@ slice-relend-prefix-cells-to-freeze-mask : tie.Need-slice-relend-prefix-cells-to
 slice-relend-prefix-cells-to-freeze-mask c = omega (arith, factor-within (c .before .before .wide2 .result) (c .before .before .before .wide .result) (c .if2 .left), c .before .if1 .left)
 
 slice-aggregate-cells-to-freeze-mask : tie.Need-slice-aggregate-cells-to-freeze-mask
-slice-aggregate-cells-to-freeze-mask c = sym (length-take-le (c .before .before .before .before .wide .result) (c .before .before .before .before .before .before .before .args .mask .now)
+slice-aggregate-cells-to-freeze-mask c = sym (length-take-le (c .before .before .before .before .wide .result) (entry-before-else2 (c .before) .args .mask .now)
     (omega (arith, factor-within (c .before .before .before .wide2 .result) (c .before .before .before .before .wide .result) (c .before .if2 .left), c .before .before .if1 .left)))
 
 cells-to-freeze-mask-requires : tie.Need-cells-to-freeze-mask-requires
@@ -56,31 +96,31 @@ slice-relend-prefix-repeat c = search needs
 
 slice-aggregate-repeat : tie.Need-slice-aggregate-repeat
 slice-aggregate-repeat c =
-    let m = c .before .before .before .before .before .before .before .before .before .before .before .args .mask .now in
-    let x = c .before .before .before .before .before .before .before .wide2 .result in
-    let y = c .before .before .before .before .before .before .before .before .wide .result in
+    let m = entry-before-cells-to-freeze-mask (c .before .before .before) .args .mask .now in
+    let x = wide2-before-cells-to-freeze-mask (c .before .before .before) .wide2 .result in
+    let y = wide-before-cells-to-freeze-mask (c .before .before .before) .wide .result in
     let first : List ℕ = c .before .before .before .cells-to-freeze-mask .last .1 .0 in
     sym (length-take-le (x * y) (first ++ drop y m) (omega (arith, length-front m first y (c .before .before .before .cells-to-freeze-mask .kept .1 .0), c .before .before .before .before .before .before .if1 .left)))
 
 repeat-requires : tie.Need-repeat-requires
-repeat-requires c κs = factor-above (c .before .before .before .before .before .before .before .wide2 .result) (c .before .before .before .before .before .before .before .before .wide .result) (c .before .before .before .before .before .if2 .left)
+repeat-requires c κs = factor-above (wide2-before-cells-to-freeze-mask (c .before .before .before) .wide2 .result) (wide-before-cells-to-freeze-mask (c .before .before .before) .wide .result) (c .before .before .before .before .before .if2 .left)
 
 same-length : tie.Need-same-length
 same-length c = search needs
 
 returns-3 : tie.Need-returns-3
 returns-3 c =
-    let a = c .before .before .before .before .before .before .before .before .before .before .before .before .before .before .args in
-    let x = c .before .before .before .before .before .before .before .before .before .before .wide2 .result in
-    let y = c .before .before .before .before .before .before .before .before .before .before .before .wide .result in
+    let a = entry-before-repeat (c .before .before) .args in
+    let x = wide2-before-repeat (c .before .before) .wide2 .result in
+    let y = wide-before-repeat (c .before .before) .wide .result in
     let cells = map unsafeCell (a .cells .now) in
     let first : List ℕ = c .before .before .before .before .before .before .cells-to-freeze-mask .last .1 .0 in
     let all : List ℕ = c .before .before .repeat .last .0 in
-    let fits : x * y ≤ length (a .mask .now) = c .before .before .before .before .before .before .before .before .before .if1 .left in
-    let one : y ≤ x * y = factor-within x y (c .before .before .before .before .before .before .before .before .if2 .left) in
+    let fits : x * y ≤ length (a .mask .now) = else1-before-repeat (c .before .before) .if1 .left in
+    let one : y ≤ x * y = factor-within x y (else2-before-repeat (c .before .before) .if2 .left) in
     let e : first ≡ maskBytes (table (length (take y (a .mask .now))) (isFreeze cells)) = c .before .before .before .before .before .before .cells-to-freeze-mask .ensures in
-    elements-of cells (a .mask .now) (all ++ drop (x * y) (first ++ drop y (a .mask .now))) _ x y (a .count) (a .size) (c .before .before .before .before .before .before .before .before .before .before .wide2 .ensures) (c .before .before .before .before .before .before .before .before .before .before .before .wide .ensures)
-    (repeated (a .mask .now) (c .before .before .before .before .before .before .before .before .before .before .before .before .before .before .pre) y (x * y) cells first all (factor-above x y (c .before .before .before .before .before .before .before .before .if2 .left)) one fits
+    elements-of cells (a .mask .now) (all ++ drop (x * y) (first ++ drop y (a .mask .now))) _ x y (a .count) (a .size) (wide2-before-repeat (c .before .before) .wide2 .ensures) (wide-before-repeat (c .before .before) .wide .ensures)
+    (repeated (a .mask .now) (entry-before-repeat (c .before .before) .pre) y (x * y) cells first all (factor-above x y (else2-before-repeat (c .before .before) .if2 .left)) one fits
     (e ∙ ap (λ (n : ℕ). maskBytes (table n (isFreeze cells))) (length-take-le y (a .mask .now) (omega arith)))
     (c .before .before .repeat .ensures))
 

@@ -13,6 +13,31 @@ use Rattle.layout.proofs.Words.{left-over, none-left, last-tuple}
 use Rattle.layout.proofs.fill_last.Statement.{statement}
 use Rattle.layout.proofs.fill_last.Tie as tie
 
+-- ---- states by name: `g-before-f` is the state behind g, as it is known behind f; the first one is `entry`
+abbrev entry-before-wide : tie.After-wide → tie.Start
+entry-before-wide c = c .before .before .before
+
+abbrev entry-before-fill-sized : tie.After-fill-sized → tie.Start
+entry-before-fill-sized c = entry-before-wide (c .before .before .before .before .before .before)
+
+abbrev wide-before-fill-sized : tie.After-fill-sized → tie.After-wide
+wide-before-fill-sized c = c .before .before .before .before .before .before
+
+abbrev else1-before-fill-sized : tie.After-fill-sized → tie.Else1
+else1-before-fill-sized c = c .before .before .before .before .before
+
+abbrev entry-before-fill-slice : tie.After-fill-slice → tie.Start
+entry-before-fill-slice c = entry-before-wide (c .before .before .before .before .before)
+
+abbrev wide-before-fill-slice : tie.After-fill-slice → tie.After-wide
+wide-before-fill-slice c = c .before .before .before .before .before
+
+abbrev entry-before-fill-trait-object : tie.After-fill-trait-object → tie.Start
+entry-before-fill-trait-object c = entry-before-wide (c .before .before .before .before .before)
+
+abbrev wide-before-fill-trait-object : tie.After-fill-trait-object → tie.After-wide
+wide-before-fill-trait-object c = c .before .before .before .before .before
+
 wide-requires : tie.Need-wide-requires
 wide-requires c κs = search needs
 
@@ -50,8 +75,8 @@ same-length c = search needs
 
 returns-2 : tie.Need-returns-2
 returns-2 c =
-    let a = c .before .before .before .before .before .before .before .before .before .before .before .args in
-    let n : length (a .words .now) ≤ a .head .cells = omega (arith, c .before .before .before .before .before .before .before .before .wide .ensures, c .before .before .before .before .before .before .before .if1 .left) in
+    let a = entry-before-fill-sized (c .before .before) .args in
+    let n : length (a .words .now) ≤ a .head .cells = omega (arith, wide-before-fill-sized (c .before .before) .wide .ensures, else1-before-fill-sized (c .before .before) .if1 .left) in
     instead (none-left (a .head) Sized (metaOf (a .metadata)) (a .words .now) (c .before .before .before .before .before .enum-told .given .1) n ∙ ap (λ (n : ℕ). sizedMask n (map unsafeCell (a .words .now))) (sym (c .before .before .before .before .wide2 .ensures))) (c .before .before .fill-sized .ensures)
 
 same-length-2 : tie.Need-same-length-2
@@ -59,8 +84,8 @@ same-length-2 c = search needs
 
 returns-3 : tie.Need-returns-3
 returns-3 c =
-    let a = c .before .before .before .before .before .before .before .before .before .before .args in
-    let n : length (a .words .now) ≤ a .head .cells = omega (arith, c .before .before .before .before .before .before .before .wide .ensures, c .before .before .before .before .before .before .if1 .left) in
+    let a = entry-before-fill-slice (c .before .before) .args in
+    let n : length (a .words .now) ≤ a .head .cells = omega (arith, wide-before-fill-slice (c .before .before) .wide .ensures, c .before .before .before .before .before .before .if1 .left) in
     instead (none-left (a .head) Slice (metaOf (a .metadata)) (a .words .now) (c .before .before .before .before .enum-told2 .given .1) n) (c .before .before .fill-slice .ensures)
 
 same-length-3 : tie.Need-same-length-3
@@ -68,8 +93,8 @@ same-length-3 c = search needs
 
 returns-4 : tie.Need-returns-4
 returns-4 c =
-    let a = c .before .before .before .before .before .before .before .before .before .before .args in
-    let n : length (a .words .now) ≤ a .head .cells = omega (arith, c .before .before .before .before .before .before .before .wide .ensures, c .before .before .before .before .before .before .if1 .left) in
+    let a = entry-before-fill-trait-object (c .before .before) .args in
+    let n : length (a .words .now) ≤ a .head .cells = omega (arith, wide-before-fill-trait-object (c .before .before) .wide .ensures, c .before .before .before .before .before .before .if1 .left) in
     instead (none-left (a .head) TraitObject (metaOf (a .metadata)) (a .words .now) (c .before .before .before .before .enum-told3 .given .1) n) (c .before .before .fill-trait-object .ensures)
 
 returns-5 : tie.Need-returns-5

@@ -12,6 +12,10 @@ use Rattle.layout.proofs.Fill.{no-room, room}
 use Rattle.layout.proofs.fill_sized.Statement.{statement}
 use Rattle.layout.proofs.fill_sized.Tie as tie
 
+-- ---- states by name: `g-before-f` is the state behind g, as it is known behind f; the first one is `entry`
+abbrev entry-before-cells-to-freeze-mask : tie.After-cells-to-freeze-mask → tie.Start
+entry-before-cells-to-freeze-mask c = c .before .before .before .before .before
+
 returns : tie.Need-returns
 returns c = no-room (c .before .before .before .args .mask .now) (c .before .before .before .pre) (c .before .before .before .args .size) (isFreeze (map unsafeCell (c .before .before .before .args .cells .now))) (c .if1 .taken)
 
@@ -29,7 +33,7 @@ same-length c = search needs
 
 returns-2 : tie.Need-returns-2
 returns-2 c =
-    let s = c .before .before .before .before .before .before .before in
+    let s = entry-before-cells-to-freeze-mask (c .before .before) in
     let f = isFreeze (map unsafeCell (s .args .cells .now)) in
     let fits : s .args .size ≤ length (s .args .mask .now) = c .before .before .before .before .if1 .left in
     let e : c .before .before .cells-to-freeze-mask .last .1 .0 ≡ maskBytes (table (length (take (s .args .size) (s .args .mask .now))) f) = c .before .before .cells-to-freeze-mask .ensures in

@@ -8,6 +8,10 @@ use Rattle.layout.proofs.Fill.{instead}
 use Rattle.layout.proofs.fill_slice.Statement.{statement}
 use Rattle.layout.proofs.fill_slice.Tie as tie
 
+-- ---- states by name: `g-before-f` is the state behind g, as it is known behind f; the first one is `entry`
+abbrev entry-before-fill-elements : tie.After-fill-elements → tie.Start
+entry-before-fill-elements c = let c1 = c .before .before .before .before .before .before in c1 .before
+
 enum-told : tie.Need-enum-told
 enum-told c = search needs
 
@@ -27,7 +31,7 @@ same-length : tie.Need-same-length
 same-length c = search needs
 
 returns-2 : tie.Need-returns-2
-returns-2 c = instead (ap (λ m. sliceMask (metaOf m) (c .before .before .before .before .before .before .before .before .before .args .size) (map unsafeCell (c .before .before .before .before .before .before .before .before .before .args .cells .now))) (c .before .before .before .before .before .metadata .given .1)) (c .before .before .fill-elements .ensures)
+returns-2 c = instead (ap (λ m. sliceMask (metaOf m) (entry-before-fill-elements (c .before .before) .args .size) (map unsafeCell (entry-before-fill-elements (c .before .before) .args .cells .now))) (c .before .before .before .before .before .metadata .given .1)) (c .before .before .fill-elements .ensures)
 
 returns-3 : tie.Need-returns-3
 returns-3 c = search needs

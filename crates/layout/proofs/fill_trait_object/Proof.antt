@@ -9,6 +9,13 @@ use Rattle.layout.proofs.Fill.{instead}
 use Rattle.layout.proofs.fill_trait_object.Statement.{statement}
 use Rattle.layout.proofs.fill_trait_object.Tie as tie
 
+-- ---- states by name: `g-before-f` is the state behind g, as it is known behind f; the first one is `entry`
+abbrev entry-before-wide : tie.After-wide → tie.Start
+entry-before-wide c = c .before .before .before .before .before
+
+abbrev entry-before-fill-sized : tie.After-fill-sized → tie.Start
+entry-before-fill-sized c = entry-before-wide (c .before .before)
+
 enum-told : tie.Need-enum-told
 enum-told c = search needs
 
@@ -35,7 +42,7 @@ same-length c = search needs
 
 returns-3 : tie.Need-returns-3
 returns-3 c =
-    let a = c .before .before .before .before .before .before .before .before .before .args in
+    let a = entry-before-fill-sized (c .before .before) .args in
     let cells = map unsafeCell (a .cells .now) in
     instead (ap (λ m. traitObjectMask (metaOf m) (a .size) cells) (c .before .before .before .before .before .enum-told3 .given .1) ∙ ap (λ (n : ℕ). sizedMask n cells) (sym (c .before .before .before .before .wide .ensures)))
     (c .before .before .fill-sized .ensures)

@@ -4,6 +4,40 @@ use Rattle.perform.proofs.Requests.{is-alone, trees, frames, asked, lef
 use Rattle.perform.proofs.perform.Statement.{statement}
 use Rattle.perform.proofs.perform.Tie as tie
 
+-- ---- states by name: `g-before-f` is the state behind g, as it is known behind f; the first one is `entry`
+abbrev entry-before-frame-used : tie.After-frame-used → tie.Start
+entry-before-frame-used c = let c1 = c .before .before .before .before .before .before in c1 .before .before
+
+abbrev entry-before-retag-arg5 : tie.After-retag-arg5 → tie.Start
+entry-before-retag-arg5 c = let c1 = c .before .before .before .before .before .before in entry-before-frame-used (c1 .before)
+
+abbrev entry-before-end-call-arg5 : tie.After-end-call-arg5 → tie.Start
+entry-before-end-call-arg5 c = let c1 = c .before .before .before .before .before .before in entry-before-frame-used (c1 .before)
+
+abbrev frame-used-before-end-call-arg5 : tie.After-end-call-arg5 → tie.After-frame-used
+frame-used-before-end-call-arg5 c = let c1 = c .before .before .before .before .before .before in c1 .before
+
+abbrev enum-told-before-retag : tie.After-retag → tie.After-enum-told
+enum-told-before-retag c = c .before .before .before .before .before .before
+
+abbrev enum-told-before-slice-known11 : tie.After-slice-known11 → tie.After-enum-told
+enum-told-before-slice-known11 c = let c1 = c .before .before .before .before .before .before in enum-told-before-retag (c1 .before .before .before .before)
+
+abbrev retag-before-slice-known11 : tie.After-slice-known11 → tie.After-retag
+retag-before-slice-known11 c = let c1 = c .before .before .before .before .before .before in c1 .before .before .before .before
+
+abbrev frame-used-before-end-call : tie.After-end-call → tie.After-frame-used
+frame-used-before-end-call c = let c1 = c .before .before .before .before .before .before in c1 .before .before
+
+abbrev enum-told3-before-end-call : tie.After-end-call → tie.After-enum-told3
+enum-told3-before-end-call c = c .before .before .before .before .before .before
+
+abbrev entry-before-in-memory : tie.After-in-memory → tie.Start
+entry-before-in-memory c = let c1 = c .before .before .before .before .before .before in entry-before-frame-used (c1 .before)
+
+abbrev at-match-keys4-before-in-memory : tie.After-in-memory → tie.At-match-keys4
+at-match-keys4-before-in-memory c = c .before .before .before .before .before .before
+
 frame-used-requires : tie.Need-frame-used-requires
 frame-used-requires c κs = search needs
 
@@ -11,22 +45,22 @@ enum-told : tie.Need-enum-told
 enum-told c = search needs
 
 retag-requires : tie.Need-retag-requires
-retag-requires c κs = let s = c .before .before .before .before .before .before .before .before .before .before .before .before .before .before .before in (s .pre .0, trees (s .pre .1 .0))
+retag-requires c κs = let s = entry-before-retag-arg5 c in (s .pre .0, trees (s .pre .1 .0))
 
 enum-told-2 : tie.Need-enum-told-2
 enum-told-2 c = search needs
 
 new-call-requires : tie.Need-new-call-requires
-new-call-requires c κs = let s = c .before .before .before .before .before .before .before .before .before .before .before in let u = c .before .before .before .frame-used .ensures in ((s .pre .0, (frames (s .pre .1 .0), new-closed (s .pre .1 .0) (s .pre .1 .1) (u .0) (c .before .enum-told2 .given .1))), u .1)
+new-call-requires c κs = let s = entry-before-frame-used (c .before .before .before) in let u = c .before .before .before .frame-used .ensures in ((s .pre .0, (frames (s .pre .1 .0), new-closed (s .pre .1 .0) (s .pre .1 .1) (u .0) (c .before .enum-told2 .given .1))), u .1)
 
 enum-told-3 : tie.Need-enum-told-3
 enum-told-3 c = search needs
 
 end-call-requires : tie.Need-end-call-requires
-end-call-requires c κs = let s = c .before .before .before .before .before .before .before .before .before .before .before .before .before .before .before in ((s .pre .0, trees (s .pre .1 .0)), c .before .before .before .before .before .before .before .frame-used .ensures .1)
+end-call-requires c κs = let s = entry-before-end-call-arg5 c in ((s .pre .0, trees (s .pre .1 .0)), frame-used-before-end-call-arg5 c .frame-used .ensures .1)
 
 in-memory-requires : tie.Need-in-memory-requires
-in-memory-requires c κs = let s = c .before .before .before .before .before .before .before .before .before .before .before .before .before .before in (s .pre .0, asked (s .pre .1 .0) (s .pre .1 .1) (is-alone (s .args .q .kind) (c .before .before .before .before .before .match .keys4)))
+in-memory-requires c κs = let s = entry-before-frame-used (c .before .before .before .before .before .before) in (s .pre .0, asked (s .pre .1 .0) (s .pre .1 .1) (is-alone (s .args .q .kind) (c .before .before .before .before .before .match .keys4)))
 
 same-length : tie.Need-same-length
 same-length c = search needs
@@ -44,7 +78,7 @@ same-length-5 : tie.Need-same-length-5
 same-length-5 c = search needs
 
 returns : tie.Need-returns
-returns c = λ s h formed. left-retag h formed (c .before .before .before .before .before .before .before .before .before .before .before .before .before .before .before .before .enum-told .given .1) (c .before .before .before .before .before .before .before .before .before .before .retag .ensures s (trees h))
+returns c = λ s h formed. left-retag h formed (enum-told-before-slice-known11 c .enum-told .given .1) (retag-before-slice-known11 c .retag .ensures s (trees h))
 
 same-length-6 : tie.Need-same-length-6
 same-length-6 c = search needs
@@ -68,7 +102,7 @@ same-length-11 : tie.Need-same-length-11
 same-length-11 c = search needs
 
 returns-3 : tie.Need-returns-3
-returns-3 c = λ s h formed. left-end-call h formed (c .before .before .before .before .before .before .before .before .before .before .before .before .before .before .frame-used .ensures .0) (c .before .before .before .before .before .before .before .before .before .before .before .before .enum-told3 .given .1) (c .before .before .before .before .before .before .end-call .ensures s (trees h))
+returns-3 c = λ s h formed. left-end-call h formed (frame-used-before-end-call (c .before .before .before .before .before .before) .frame-used .ensures .0) (enum-told3-before-end-call (c .before .before .before .before .before .before) .enum-told3 .given .1) (c .before .before .before .before .before .before .end-call .ensures s (trees h))
 
 same-length-12 : tie.Need-same-length-12
 same-length-12 c = search needs
@@ -86,7 +120,7 @@ same-length-16 : tie.Need-same-length-16
 same-length-16 c = search needs
 
 returns-4 : tie.Need-returns-4
-returns-4 c = λ s h formed. let q = c .before .before .before .before .before .before .before .before .before .before .before .before .before .before .before .before .before .before .before .before .before .args .q in let k = is-alone (q .kind) (c .before .before .before .before .before .before .before .before .before .before .before .before .match .keys4) in left-memory h formed k (c .before .before .before .before .before .before .in-memory .ensures s (asked h formed k))
+returns-4 c = λ s h formed. let q = entry-before-in-memory (c .before .before .before .before .before .before) .args .q in let k = is-alone (q .kind) (at-match-keys4-before-in-memory (c .before .before .before .before .before .before) .match .keys4) in left-memory h formed k (c .before .before .before .before .before .before .in-memory .ensures s (asked h formed k))
 
 pub perform-spec : {M : Type 1} → statement M
 perform-spec =

@@ -8,6 +8,34 @@ use Rattle.retag.proofs.Grown.{count-small}
 use Rattle.retag.proofs.insert_child.Statement.{statement}
 use Rattle.retag.proofs.insert_child.Tie as tie
 
+-- ---- states by name: `g-before-f` is the state behind g, as it is known behind f; the first one is `entry`
+abbrev entry-before-start-code : tie.After-start-code → tie.Start
+entry-before-start-code c = c .before .before .before .before .before .before
+
+abbrev entry-before-protector-number : tie.After-protector-number → tie.Start
+entry-before-protector-number c = entry-before-start-code (c .before)
+
+abbrev entry-before-insert-node-at : tie.After-insert-node-at → tie.Start
+entry-before-insert-node-at c = entry-before-start-code (c .before .before .before .before .before .before)
+
+abbrev entry-before-slice-known8 : tie.After-slice-known8 → tie.Start
+entry-before-slice-known8 c = let c1 = c .before .before .before .before .before .before in entry-before-insert-node-at (c1 .before .before)
+
+abbrev insert-node-at-before-slice-known8 : tie.After-slice-known8 → tie.After-insert-node-at
+insert-node-at-before-slice-known8 c = let c1 = c .before .before .before .before .before .before in c1 .before .before
+
+abbrev start-code-before-insert-node-at : tie.After-insert-node-at → tie.After-start-code
+start-code-before-insert-node-at c = c .before .before .before .before .before .before
+
+abbrev start-code-before-slice-known8 : tie.After-slice-known8 → tie.After-start-code
+start-code-before-slice-known8 c = let c1 = c .before .before .before .before .before .before in start-code-before-insert-node-at (c1 .before .before)
+
+abbrev protector-number-before-insert-node-at : tie.After-insert-node-at → tie.After-protector-number
+protector-number-before-insert-node-at c = c .before .before .before .before .before
+
+abbrev protector-number-before-slice-known8 : tie.After-slice-known8 → tie.After-protector-number
+protector-number-before-slice-known8 c = let c1 = c .before .before .before .before .before .before in protector-number-before-insert-node-at (c1 .before .before)
+
 start-code-requires : tie.Need-start-code-requires
 start-code-requires c κs = search needs
 
@@ -15,11 +43,11 @@ protector-number-requires : tie.Need-protector-number-requires
 protector-number-requires c κs = search needs
 
 cast-insert-node-at : tie.Need-cast-insert-node-at
-cast-insert-node-at c = let s = c .before .before .before .before .before .before .before .before .before .before .before in omega (arith, s .pre .0 .1 .1 .reached .inTree, count-small (s .pre .0 .0) (s .pre .0 .1 .0 .valid) (s .args .n) (s .pre .0 .1 .1 .reached .made))
+cast-insert-node-at c = let s = entry-before-protector-number (c .before .before .before .before) in omega (arith, s .pre .0 .1 .1 .reached .inTree, count-small (s .pre .0 .0) (s .pre .0 .1 .0 .valid) (s .args .n) (s .pre .0 .1 .1 .reached .made))
 
 insert-node-at-requires : tie.Need-insert-node-at-requires
 insert-node-at-requires c κs =
-    let s = c .before .before .before .before .before .before .before .before .before .before .before in
+    let s = entry-before-protector-number (c .before .before .before .before) in
     let (h, fits, long, at) = s .pre .0 .1 in
     let (mask, e) = s .pre .1 in (
       (
@@ -46,9 +74,9 @@ same-length-4 c = search needs
 
 returns : tie.Need-returns
 returns c = λ m mask h fits long at e.
-    let s = c .before .before .before .before .before .before .before .before .before .before .before .before .before .before .before .before .before .before .before .before in
-    c .before .before .before .before .before .before .before .before .insert-node-at .ensures m (childAt (settingsAfterInit (settingsOf (s .args .settings) mask)) (s .args .node) (s .args .from) (s .args .bytes))
-    (child-fits (s .args .settings) mask h fits long e (c .before .before .before .before .before .before .before .before .before .before .before .before .before .before .start-code .ensures) (c .before .before .before .before .before .before .before .before .before .before .before .before .before .protector-number .ensures)) at
+    let s = entry-before-slice-known8 c in
+    insert-node-at-before-slice-known8 c .insert-node-at .ensures m (childAt (settingsAfterInit (settingsOf (s .args .settings) mask)) (s .args .node) (s .args .from) (s .args .bytes))
+    (child-fits (s .args .settings) mask h fits long e (start-code-before-slice-known8 c .start-code .ensures) (protector-number-before-slice-known8 c .protector-number .ensures)) at
 
 pub insert-child-spec : {M : Type 1} → statement M
 insert-child-spec =

@@ -14,6 +14,13 @@ Inv-loop mask₀ freeze cell i₀ mask i = (i ≤ length mask₀) × (length mas
 abbrev μ-loop : tie.MeasureT-loop
 μ-loop mask₀ freeze cell i₀ mask i = length mask₀ - i
 
+-- ---- states by name: `g-before-f` is the state behind g, as it is known behind f; the first one is `entry`
+abbrev entry-before-inside-code : tie.After-inside-code Inv-loop μ-loop → tie.Start Inv-loop μ-loop
+entry-before-inside-code c = c .before .before
+
+abbrev entry-before-chosen-code : tie.After-chosen-code Inv-loop μ-loop → tie.Start Inv-loop μ-loop
+entry-before-chosen-code c = entry-before-inside-code (c .before .before .before .before .before)
+
 inside-code-requires : tie.Need-inside-code-requires Inv-loop μ-loop
 inside-code-requires c κs = search needs
 
@@ -40,7 +47,7 @@ loop-less c = search needs
 
 loop-again : tie.Need-loop-again Inv-loop μ-loop
 loop-again c =
-    let s = c .before .before .before .before .before .before .before in
+    let s = entry-before-chosen-code c in
     let l = c .before .before .before .loop in
     (omega arith, length-set (l .mask) (l .i) _ ∙ l .inv .1, next-made (c .before .before .before .before .before .inside-code .result) (c .before .before .before .before .inside-code2 .result) (s .args .mask .now) (l .i) _ (l .mask) (omega arith) (l .inv .2) (c .chosen-code .ensures))
 

@@ -10,6 +10,31 @@ use Rattle.retag.specs.Settings.{maskOf}
 use Rattle.retag.proofs.reborrow.Statement.{statement}
 use Rattle.retag.proofs.reborrow.Tie as tie
 
+-- ---- states by name: `g-before-f` is the state behind g, as it is known behind f; the first one is `entry`
+abbrev entry-before-inside-codes : tie.After-inside-codes → tie.Start
+entry-before-inside-codes c = let c1 = c .before .before .before .before .before .before in c1 .before
+
+abbrev entry-before-reborrow-inside-arg5 : tie.After-reborrow-inside-arg5 → tie.Start
+entry-before-reborrow-inside-arg5 c = let c1 = c .before .before .before .before .before .before in entry-before-inside-codes (c1 .before)
+
+abbrev inside-codes-before-reborrow-inside-arg5 : tie.After-reborrow-inside-arg5 → tie.After-inside-codes
+inside-codes-before-reborrow-inside-arg5 c = let c1 = c .before .before .before .before .before .before in c1 .before
+
+abbrev entry-before-reborrow-inside : tie.After-reborrow-inside → tie.Start
+entry-before-reborrow-inside c = let c1 = c .before .before .before .before .before .before in entry-before-inside-codes (c1 .before .before)
+
+abbrev entry-before-slice-known10 : tie.After-slice-known10 → tie.Start
+entry-before-slice-known10 c = let c1 = c .before .before .before .before .before .before in entry-before-reborrow-inside (c1 .before .before)
+
+abbrev inside-codes-before-reborrow-inside : tie.After-reborrow-inside → tie.After-inside-codes
+inside-codes-before-reborrow-inside c = let c1 = c .before .before .before .before .before .before in c1 .before .before
+
+abbrev inside-codes-before-slice-known10 : tie.After-slice-known10 → tie.After-inside-codes
+inside-codes-before-slice-known10 c = let c1 = c .before .before .before .before .before .before in inside-codes-before-reborrow-inside (c1 .before .before)
+
+abbrev reborrow-inside-before-slice-known10 : tie.After-slice-known10 → tie.After-reborrow-inside
+reborrow-inside-before-slice-known10 c = let c1 = c .before .before .before .before .before .before in c1 .before .before
+
 slice-relend-prefix-inside-codes : tie.Need-slice-relend-prefix-inside-codes
 slice-relend-prefix-inside-codes c = search needs
 
@@ -24,21 +49,21 @@ slice-reshare-prefix-reborrow-inside c = search needs
 
 slice-aggregate-reborrow-inside : tie.Need-slice-aggregate-reborrow-inside
 slice-aggregate-reborrow-inside c =
-    let t = c .before .before .before .before .before .before .before .before .before .before .before .before .before .before in
+    let t = entry-before-reborrow-inside-arg5 c in
     let M = now (t .args .mask) in
-    let codes = c .before .before .before .before .before .before .before .inside-codes .last .0 in
-    let long : length codes ≡ t .args .len = c .before .before .before .before .before .before .before .inside-codes .kept .0 ∙ length-take-le (t .args .len) M (t .pre .1) in
+    let codes = inside-codes-before-reborrow-inside-arg5 c .inside-codes .last .0 in
+    let long : length codes ≡ t .args .len = inside-codes-before-reborrow-inside-arg5 c .inside-codes .kept .0 ∙ length-take-le (t .args .len) M (t .pre .1) in
     let front = take-at codes (drop (t .args .len) M) (t .args .len) long in
     sym (ap length front ∙ long)
 
 reborrow-inside-requires : tie.Need-reborrow-inside-requires
 reborrow-inside-requires c κs =
-    let t = c .before .before .before .before .before .before .before .before .before .before .before .before .before .before in
+    let t = entry-before-reborrow-inside-arg5 c in
     let M = now (t .args .mask) in
-    let codes = c .before .before .before .before .before .before .before .inside-codes .last .0 in
-    let long : length codes ≡ t .args .len = c .before .before .before .before .before .before .before .inside-codes .kept .0 ∙ length-take-le (t .args .len) M (t .pre .1) in
+    let codes = inside-codes-before-reborrow-inside-arg5 c .inside-codes .last .0 in
+    let long : length codes ≡ t .args .len = inside-codes-before-reborrow-inside-arg5 c .inside-codes .kept .0 ∙ length-take-le (t .args .len) M (t .pre .1) in
     let front = take-at codes (drop (t .args .len) M) (t .args .len) long in
-    (t .pre .0, (maskOf (take (t .args .len) M), front ∙ c .before .before .before .before .before .before .before .inside-codes .ensures))
+    (t .pre .0, (maskOf (take (t .args .len) M), front ∙ inside-codes-before-reborrow-inside-arg5 c .inside-codes .ensures))
 
 same-length : tie.Need-same-length
 same-length c = search needs
@@ -57,13 +82,13 @@ same-length-5 c = search needs
 
 returns : tie.Need-returns
 returns c =
-    let t = c .before .before .before .before .before .before .before .before .before .before .before .before .before .before .before .before .before .before .before .before .before .before .before in
+    let t = entry-before-slice-known10 c in
     let M = now (t .args .mask) in
-    let codes = c .before .before .before .before .before .before .before .before .before .before .before .before .before .before .before .before .inside-codes .last .0 in
-    let long : length codes ≡ t .args .len = c .before .before .before .before .before .before .before .before .before .before .before .before .before .before .before .before .inside-codes .kept .0 ∙ length-take-le (t .args .len) M (t .pre .1) in
+    let codes = inside-codes-before-slice-known10 c .inside-codes .last .0 in
+    let long : length codes ≡ t .args .len = inside-codes-before-slice-known10 c .inside-codes .kept .0 ∙ length-take-le (t .args .len) M (t .pre .1) in
     let front = take-at codes (drop (t .args .len) M) (t .args .len) long in (
-      λ s frame h e. c .before .before .before .before .before .before .before .before .reborrow-inside .ensures s frame (maskOf (take (t .args .len) M)) h (record { entered = e; inside = front ∙ c .before .before .before .before .before .before .before .before .before .before .before .before .before .before .before .before .inside-codes .ensures }),
-      ap (λ (l : List ℕ). l ++ drop (t .args .len) M) (c .before .before .before .before .before .before .before .before .before .before .before .before .before .before .before .before .inside-codes .ensures),
+      λ s frame h e. reborrow-inside-before-slice-known10 c .reborrow-inside .ensures s frame (maskOf (take (t .args .len) M)) h (record { entered = e; inside = front ∙ inside-codes-before-slice-known10 c .inside-codes .ensures }),
+      ap (λ (l : List ℕ). l ++ drop (t .args .len) M) (inside-codes-before-slice-known10 c .inside-codes .ensures),
     )
 
 pub reborrow-spec : {M : Type 1} → statement M

@@ -25,41 +25,138 @@ use Rattle.retag.proofs.Tests.{first-4}
 use Rattle.retag.proofs.reborrow_inside.Statement.{statement}
 use Rattle.retag.proofs.reborrow_inside.Tie as tie
 
+-- ---- states by name: `g-before-f` is the state behind g, as it is known behind f; the first one is `entry`
+abbrev entry-before-never-made : tie.After-never-made → tie.Start
+entry-before-never-made c = let c1 = c .before .before .before .before .before .before in c1 .before .before .before .before
+
+abbrev entry-before-parts-at : tie.After-parts-at → tie.Start
+entry-before-parts-at c = entry-before-never-made (c .before .before .before)
+
+abbrev entry-before-used-from : tie.After-used-from → tie.Start
+entry-before-used-from c = entry-before-never-made (c .before .before .before .before .before)
+
+abbrev provenance-before-never-made : tie.After-never-made → tie.After-provenance
+provenance-before-never-made c = c .before .before .before
+
+abbrev provenance-before-used-from : tie.After-used-from → tie.After-provenance
+provenance-before-used-from c = provenance-before-never-made (c .before .before .before .before .before)
+
+abbrev entry-before-retag-refusal : tie.After-retag-refusal → tie.Start
+entry-before-retag-refusal c = entry-before-parts-at (c .before .before .before .before .before .before)
+
+abbrev entry-before-else3 : tie.Else3 → tie.Start
+entry-before-else3 c = entry-before-retag-refusal (c .before .before .before)
+
+abbrev provenance-before-parts-at : tie.After-parts-at → tie.After-provenance
+provenance-before-parts-at c = c .before .before .before .before .before .before
+
+abbrev provenance-before-retag-refusal : tie.After-retag-refusal → tie.After-provenance
+provenance-before-retag-refusal c = provenance-before-parts-at (c .before .before .before .before .before .before)
+
+abbrev provenance-before-else3 : tie.Else3 → tie.After-provenance
+provenance-before-else3 c = provenance-before-retag-refusal (c .before .before .before)
+
+abbrev used-from-before-retag-refusal : tie.After-retag-refusal → tie.After-used-from
+used-from-before-retag-refusal c = c .before .before .before .before
+
+abbrev used-from-before-else3 : tie.Else3 → tie.After-used-from
+used-from-before-else3 c = used-from-before-retag-refusal (c .before .before .before)
+
+abbrev entry-before-then1 : tie.Then1 → tie.Start
+entry-before-then1 c = let c1 = c .before .before .before .before .before .before in c1 .before .before
+
+abbrev entry-before-never-made-arg : tie.After-never-made-arg → tie.Start
+entry-before-never-made-arg c = let c1 = c .before .before .before .before .before .before in c1 .before .before .before
+
+abbrev entry-before-then2 : tie.Then2 → tie.Start
+entry-before-then2 c = entry-before-never-made (c .before)
+
+abbrev entry-before-else2 : tie.Else2 → tie.Start
+entry-before-else2 c = entry-before-never-made (c .before)
+
+abbrev entry-before-then3 : tie.Then3 → tie.Start
+entry-before-then3 c = entry-before-retag-refusal (c .before .before .before)
+
+abbrev used-from-before-then3 : tie.Then3 → tie.After-used-from
+used-from-before-then3 c = used-from-before-retag-refusal (c .before .before .before)
+
+abbrev provenance-before-then3 : tie.Then3 → tie.After-provenance
+provenance-before-then3 c = provenance-before-retag-refusal (c .before .before .before)
+
+abbrev entry-before-add-child : tie.After-add-child → tie.Start
+entry-before-add-child c = entry-before-else3 (c .before .before .before .before .before)
+
+abbrev entry-before-slice-known9 : tie.After-slice-known9 → tie.Start
+entry-before-slice-known9 c = let c1 = c .before .before .before .before .before .before in entry-before-add-child (c1 .before .before)
+
+abbrev else3-before-add-child : tie.After-add-child → tie.Else3
+else3-before-add-child c = c .before .before .before .before .before
+
+abbrev else3-before-slice-known9 : tie.After-slice-known9 → tie.Else3
+else3-before-slice-known9 c = let c1 = c .before .before .before .before .before .before in else3-before-add-child (c1 .before .before)
+
+abbrev add-child-before-slice-known9 : tie.After-slice-known9 → tie.After-add-child
+add-child-before-slice-known9 c = let c1 = c .before .before .before .before .before .before in c1 .before .before
+
+abbrev used-from-before-add-child : tie.After-add-child → tie.After-used-from
+used-from-before-add-child c = used-from-before-else3 (c .before .before .before .before .before)
+
+abbrev used-from-before-slice-known9 : tie.After-slice-known9 → tie.After-used-from
+used-from-before-slice-known9 c = let c1 = c .before .before .before .before .before .before in used-from-before-add-child (c1 .before .before)
+
+abbrev entry-before-else1 : tie.Else1 → tie.Start
+entry-before-else1 c = let c1 = c .before .before .before .before .before .before in c1 .before .before
+
+abbrev provenance-before-add-child : tie.After-add-child → tie.After-provenance
+provenance-before-add-child c = provenance-before-else3 (c .before .before .before .before .before)
+
+abbrev provenance-before-slice-known9 : tie.After-slice-known9 → tie.After-provenance
+provenance-before-slice-known9 c = let c1 = c .before .before .before .before .before .before in provenance-before-add-child (c1 .before .before)
+
+abbrev retag-refusal-before-else3 : tie.Else3 → tie.After-retag-refusal
+retag-refusal-before-else3 c = c .before .before .before
+
+abbrev retag-refusal-before-add-child : tie.After-add-child → tie.After-retag-refusal
+retag-refusal-before-add-child c = retag-refusal-before-else3 (c .before .before .before .before .before)
+
+abbrev retag-refusal-before-slice-known9 : tie.After-slice-known9 → tie.After-retag-refusal
+retag-refusal-before-slice-known9 c = let c1 = c .before .before .before .before .before .before in retag-refusal-before-add-child (c1 .before .before)
+
 -- where the tree lies
-part : (c : tie.After-parts-at) → let t = c .before .before .before .before .before .before .before .before .before .before .before .before .before in (m : Memory) → HoldsMarked m (now (t .args .allocs)) (now (t .args .parents)) (now (t .args .protectors)) (now (t .args .codes))
+part : (c : tie.After-parts-at) → let t = entry-before-parts-at c in (m : Memory) → HoldsMarked m (now (t .args .allocs)) (now (t .args .parents)) (now (t .args .protectors)) (now (t .args .codes))
     → (namesNeverMade m (provenanceOf (t .args .p .provenance)) ≡ false) × PartsOf m (c .before .before .before .before .before .before .provenance .given .0 .0) (c .parts-at .result)
 part c m h =
-    let t = c .before .before .before .before .before .before .before .before .before .before .before .before .before in
+    let t = entry-before-parts-at c in
     let r = trees-of h .records in
     let known = ap (λ (q : Provenance). namesNeverMade m (provenanceOf q)) (c .before .before .before .before .before .before .provenance .given .1) ∙ sym (c .before .before .before .never-made .ensures m r) ∙ c .before .before .if2 .left in
     (known, c .parts-at .ensures m r (points-made (t .args .p) (c .before .before .before .before .before .before .provenance .given .1) (record { records = r; made = known })))
 
 -- and how much is used
-located : (c : tie.After-used-from) → let t = c .before .before .before .before .before .before .before .before .before .before .before .before .before .before .before in (m : Memory) → HoldsMarked m (now (t .args .allocs)) (now (t .args .parents)) (now (t .args .protectors)) (now (t .args .codes))
-    → Located m (provenanceOf (t .args .p .provenance)) (c .before .before .before .before .before .before .before .before .provenance .given .0 .0) (c .used-from .result) (c .before .before .parts-at .result)
+located : (c : tie.After-used-from) → let t = entry-before-used-from c in (m : Memory) → HoldsMarked m (now (t .args .allocs)) (now (t .args .parents)) (now (t .args .protectors)) (now (t .args .codes))
+    → Located m (provenanceOf (t .args .p .provenance)) (provenance-before-used-from c .provenance .given .0 .0) (c .used-from .result) (c .before .before .parts-at .result)
 located c m h =
     let (known, lies) = part (c .before .before) m h in
     let u = c .used-from .ensures m (trees-of h .records) (lies .starts) in
     record { made = known; used = record { words = refl; nodes = u .nodes; codes = u .codes }; part = lies }
 
 -- where nothing is refused: there is a place for the child, and the buffers hold the memory in which the reads are made
-passed : (c : tie.Else3) → let t = c .before .before .before .before .before .before .before .before .before .before .before .before .before .before .before .before .before .before .before .before .before .before in (m : Memory) → HoldsMarked m (now (t .args .allocs)) (now (t .args .parents)) (now (t .args .protectors)) (now (t .args .codes)) → Passed m (c .before .before .before .before .before .before .before .before .before .before .before .before .before .before .before .provenance .given .0 .0) (c .before .before .before .before .before .before .before .before .before .before .before .before .before .before .before .provenance .given .0 .1 .0) (t .args .p .addr) (length (now (t .args .inside)))
-passed c m h = c .before .before .before .retag-refusal .ensures .1 m (trees-of h) (located (c .before .before .before .before .before .before .before) m h) .passed (c .if3 .left)
+passed : (c : tie.Else3) → let t = entry-before-else3 c in (m : Memory) → HoldsMarked m (now (t .args .allocs)) (now (t .args .parents)) (now (t .args .protectors)) (now (t .args .codes)) → Passed m (provenance-before-else3 c .provenance .given .0 .0) (provenance-before-else3 c .provenance .given .0 .1 .0) (t .args .p .addr) (length (now (t .args .inside)))
+passed c m h = c .before .before .before .retag-refusal .ensures .1 m (trees-of h) (located (used-from-before-else3 c) m h) .passed (c .if3 .left)
 
-read : (c : tie.Else3) → let t = c .before .before .before .before .before .before .before .before .before .before .before .before .before .before .before .before .before .before .before .before .before .before in (m : Memory) → HoldsMarked m (now (t .args .allocs)) (now (t .args .parents)) (now (t .args .protectors)) (now (t .args .codes))
-    → HoldsMarked (afterReads m (c .before .before .before .before .before .before .before .before .before .before .before .before .before .before .before .provenance .given .0 .0) (c .before .before .before .before .before .before .before .before .before .before .before .before .before .before .before .provenance .given .0 .1 .0) (t .args .p .addr) (now (t .args .inside))) (now (t .args .allocs)) (now (t .args .parents)) (now (t .args .protectors)) (c .before .before .before .retag-refusal .last .1 .1 .0)
+read : (c : tie.Else3) → let t = entry-before-else3 c in (m : Memory) → HoldsMarked m (now (t .args .allocs)) (now (t .args .parents)) (now (t .args .protectors)) (now (t .args .codes))
+    → HoldsMarked (afterReads m (provenance-before-else3 c .provenance .given .0 .0) (provenance-before-else3 c .provenance .given .0 .1 .0) (t .args .p .addr) (now (t .args .inside))) (now (t .args .allocs)) (now (t .args .parents)) (now (t .args .protectors)) (c .before .before .before .retag-refusal .last .1 .1 .0)
 read c m h =
-    let t = c .before .before .before .before .before .before .before .before .before .before .before .before .before .before .before .before .before .before .before .before .before .before in
-    let of = c .before .before .before .before .before .before .before .before .before .before .before .before .before .before .before .provenance .given .0 in
+    let t = entry-before-else3 c in
+    let of = provenance-before-else3 c .provenance .given .0 in
     holds-after (readsAt m (of .0) (of .1 .0) (t .args .p .addr) (now (t .args .inside))) m (of .0) (passed c m h .fits .reached .made) h
-    (tested-made (now (t .args .inside)) (c .before .before .before .retag-refusal .ensures .1 m (trees-of h) (located (c .before .before .before .before .before .before .before) m h)) (c .if3 .left))
+    (tested-made (now (t .args .inside)) (c .before .before .before .retag-refusal .ensures .1 m (trees-of h) (located (used-from-before-else3 c) m h)) (c .if3 .left))
 
 enum-told : tie.Need-enum-told
 enum-told c = search needs
 
 returns : tie.Need-returns
 returns c = λ s frame mask h a.
-    let t = c .before .before .before .before .before .before .before .before in
+    let t = entry-before-then1 c in
     let w = settingsOf (t .args .settings) mask in
     let p = thinPointerOf (t .args .p) in
     retagged w frame p s (givesPointer none, s) (nowhere w frame p s (ap provenanceOf (c .before .enum-told .given .1)) (sym (inside-length (t .args .settings) mask (a .inside)) ∙ c .if1 .taken))
@@ -75,30 +172,30 @@ cast-parent : tie.Need-cast-parent
 cast-parent c = search needs
 
 never-made-requires : tie.Need-never-made-requires
-never-made-requires c κs = let t = c .before .before .before .before .before .before .before .before .before in (t .pre .0 .0, trees-of (t .pre .0 .1) .records)
+never-made-requires c κs = let t = entry-before-never-made-arg c in (t .pre .0 .0, trees-of (t .pre .0 .1) .records)
 
 same-length : tie.Need-same-length
 same-length c = search needs
 
 returns-2 : tie.Need-returns-2
 returns-2 c = λ s frame mask h a.
-    let t = c .before .before .before .before .before .before .before .before .before .before .before in
+    let t = entry-before-then2 c in
     let unmade = first-4 _ _ _ (thinPointerOf (t .args .p)) (s .memory) (ap (λ (q : Provenance). namesNeverMade (s .memory) (provenanceOf q)) (c .before .before .before .before .provenance .given .1) ∙ sym (c .before .never-made .ensures (s .memory) (trees-of h .records)) ∙ c .if2 .taken) in
     retagged-refused (settingsOf (t .args .settings) mask) frame (t .args .p) (c .before .before .before .before .provenance .given .1) s _
     (refused-by-tests (t .args .settings) mask frame (t .args .entries) s a (t .args .p) _ unmade (λ z. omega (arith, z))) (λ z. omega (arith, z)) (h .trees)
 
 parts-at-requires : tie.Need-parts-at-requires
 parts-at-requires c κs =
-    let t = c .before .before .before .before .before .before .before .before .before .before .before .before in
+    let t = entry-before-else2 (c .before) in
     let r = trees-of (t .pre .0 .1) .records in
     let known = ap (λ (q : Provenance). namesNeverMade (t .pre .0 .0) (provenanceOf q)) (c .before .before .before .before .before .provenance .given .1) ∙ sym (c .before .before .never-made .ensures (t .pre .0 .0) r) ∙ c .before .if2 .left in
     (t .pre .0 .0, (r, points-made (t .args .p) (c .before .before .before .before .before .provenance .given .1) (record { records = r; made = known })))
 
 used-from-requires : tie.Need-used-from-requires
-used-from-requires c κs = let (m, h) = c .before .before .before .before .before .before .before .before .before .before .before .before .before .before .pre .0 in let lies = part (c .before) m h .1 in (m, (trees-of h .records, omega (arith, lies .made), lies .starts))
+used-from-requires c κs = let (m, h) = entry-before-parts-at (c .before) .pre .0 in let lies = part (c .before) m h .1 in (m, (trees-of h .records, omega (arith, lies .made), lies .starts))
 
 retag-refusal-requires : tie.Need-retag-refusal-requires
-retag-refusal-requires c κs = let (m, h) = c .before .before .before .before .before .before .before .before .before .before .before .before .before .before .before .before .before .before .pre .0 in ((m, (trees-of h, located (c .before .before .before) m h)), c .before .before .before .before .before .before .before .before .before .before .before .provenance .given .1)
+retag-refusal-requires c κs = let (m, h) = entry-before-used-from (c .before .before .before) .pre .0 in ((m, (trees-of h, located (c .before .before .before) m h)), provenance-before-used-from (c .before .before .before) .provenance .given .1)
 
 same-length-2 : tie.Need-same-length-2
 same-length-2 c = search needs
@@ -111,9 +208,9 @@ same-length-4 c = search needs
 
 returns-3 : tie.Need-returns-3
 returns-3 c = λ s frame mask h a.
-    let t = c .before .before .before .before .before .before .before .before .before .before .before .before .before .before .before .before .before .before .before .before .before .before in
-    let l = located (c .before .before .before .before .before .before .before) (s .memory) h in
-    retagged-refused (settingsOf (t .args .settings) mask) frame (t .args .p) (c .before .before .before .before .before .before .before .before .before .before .before .before .before .before .before .provenance .given .1) s _
+    let t = entry-before-then3 c in
+    let l = located (used-from-before-then3 c) (s .memory) h in
+    retagged-refused (settingsOf (t .args .settings) mask) frame (t .args .p) (provenance-before-then3 c .provenance .given .1) s _
     (c .before .before .before .retag-refusal .ensures .0 s frame mask (trees-of h) l a) (c .if3 .taken)
     (record {
       allocs = h .trees .allocs;
@@ -123,18 +220,18 @@ returns-3 c = λ s frame mask h a.
     })
 
 add-child-requires : tie.Need-add-child-requires
-add-child-requires c κs = let t = c .before .before .before .before .before .before .before .before .before .before .before .before .before .before .before .before .before .before .before .before .before .before .before .before .before .before in let (m, h) = t .pre .0 in ((m, (located (c .before .before .before .before .before .before .before .before .before .before .before) m h, passed (c .before .before .before .before) m h, h .valid, read (c .before .before .before .before) m h)), (c .before .before .before .before .before .before .before .before .before .before .before .before .before .before .before .before .before .before .before .provenance .given .1, t .pre .1))
+add-child-requires c κs = let t = entry-before-else3 (c .before .before .before .before) in let (m, h) = t .pre .0 in ((m, (located (used-from-before-else3 (c .before .before .before .before)) m h, passed (c .before .before .before .before) m h, h .valid, read (c .before .before .before .before) m h)), (provenance-before-else3 (c .before .before .before .before) .provenance .given .1, t .pre .1))
 
 cast-t45 : tie.Need-cast-t45
 cast-t45 c =
-    let t = c .before .before .before .before .before .before .before .before .before .before .before .before .before .before .before .before .before .before .before .before .before .before .before .before .before .before .before .before .before .before .before .before .before .before .before in
+    let t = entry-before-slice-known9 c in
     let (m, h) = t .pre .0 in
-    let k = passed (c .before .before .before .before .before .before .before .before .before .before .before .before .before) m h in
-    omega (arith, c .before .before .before .before .before .before .before .before .add-child .ensures m (t .pre .1 .0) (located (c .before .before .before .before .before .before .before .before .before .before .before .before .before .before .before .before .before .before .before .before) m h) k (h .valid) (read (c .before .before .before .before .before .before .before .before .before .before .before .before .before) m h) (t .pre .1 .1) .number, count-small m (h .valid) _ (k .fits .reached .made))
+    let k = passed (else3-before-slice-known9 c) m h in
+    omega (arith, add-child-before-slice-known9 c .add-child .ensures m (t .pre .1 .0) (located (used-from-before-slice-known9 c) m h) k (h .valid) (read (else3-before-slice-known9 c) m h) (t .pre .1 .1) .number, count-small m (h .valid) _ (k .fits .reached .made))
 
 returns-4 : tie.Need-returns-4
 returns-4 c = λ s frame mask h a.
-    let t = c .before .before .before .before .before .before .before .before in
+    let t = entry-before-else1 c in
     let w = settingsOf (t .args .settings) mask in
     let p = thinPointerOf (t .args .p) in
     retagged w frame p s (refusedWith 7, s) (nowhere-refused w frame p s (ap provenanceOf (c .before .enum-told .given .1)) (λ z. c .if1 .left (inside-length (t .args .settings) mask (a .inside) ∙ z)))
@@ -154,11 +251,11 @@ same-length-8 c = search needs
 
 returns-5 : tie.Need-returns-5
 returns-5 c = λ s frame mask h a.
-    let t = c .before .before .before .before .before .before .before .before .before .before .before .before .before .before .before .before .before .before .before .before .before .before .before .before .before .before .before .before .before .before .before .before .before .before .before in
+    let t = entry-before-slice-known9 c in
     let m = s .memory in
-    let l = located (c .before .before .before .before .before .before .before .before .before .before .before .before .before .before .before .before .before .before .before .before) m h in
-    retagged-child (settingsOf (t .args .settings) mask) frame (t .args .p) (c .before .before .before .before .before .before .before .before .before .before .before .before .before .before .before .before .before .before .before .before .before .before .before .before .before .before .before .before .provenance .given .1) s (sym (c .before .before .before .before .before .before .before .before .before .before .before .before .before .before .before .before .retag-refusal .ensures .0 s frame mask (trees-of h) l a) ∙ c .before .before .before .before .before .before .before .before .before .before .before .before .before .if3 .left)
-    (c .before .before .before .before .before .before .before .before .add-child .ensures m mask l (passed (c .before .before .before .before .before .before .before .before .before .before .before .before .before) m h) (h .valid) (read (c .before .before .before .before .before .before .before .before .before .before .before .before .before) m h) (a .inside))
+    let l = located (used-from-before-slice-known9 c) m h in
+    retagged-child (settingsOf (t .args .settings) mask) frame (t .args .p) (provenance-before-slice-known9 c .provenance .given .1) s (sym (retag-refusal-before-slice-known9 c .retag-refusal .ensures .0 s frame mask (trees-of h) l a) ∙ else3-before-slice-known9 c .if3 .left)
+    (add-child-before-slice-known9 c .add-child .ensures m mask l (passed (else3-before-slice-known9 c) m h) (h .valid) (read (else3-before-slice-known9 c) m h) (a .inside))
 
 pub reborrow-inside-spec : {M : Type 1} → statement M
 reborrow-inside-spec =

@@ -19,10 +19,13 @@ same-length-2 c = search needs
 same-length-3 : tie.Need-same-length-3
 same-length-3 c = search needs
 
+-- behind the end call
+abbrev ended : tie.After-reply-of → tie.After-end-call-list
+ended c = let asked = c .before in asked .before .before .before .before .before .before
+
 returns : tie.Need-returns
 returns c =
-    let at = c .before .before .before .before .before .before .before in
-    in-numbers (c .reply-of .ensures) (at .end-call-list .ensures)
+    in-numbers (c .reply-of .ensures) (ended c .end-call-list .ensures)
 
 pub end-call-reply-spec : {M : Type 1} → statement M
 end-call-reply-spec =

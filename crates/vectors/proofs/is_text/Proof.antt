@@ -8,6 +8,10 @@ use Rattle.vectors.proofs.Agreeing.{agrees-text, agrees-long}
 use Rattle.vectors.proofs.is_text.Statement.{statement}
 use Rattle.vectors.proofs.is_text.Tie as tie
 
+-- ---- states by name: `g-before-f` is the state behind g, as it is known behind f; the first one is `entry`
+abbrev entry-before-same : tie.After-same → tie.Start
+entry-before-same c = let c1 = c .before .before .before .before .before .before in c1 .before
+
 enum-known-judged : tie.Need-enum-known-judged
 enum-known-judged c = search needs
 
@@ -21,7 +25,7 @@ enum-told : tie.Need-enum-told
 enum-told c = search needs
 
 returns : tie.Need-returns
-returns c = λ run before k. agrees-text (c .before .before .before .before .before .before .before .args .text .now) _ (c .same .result) (subst (λ (j : Judged). JudgedAs run before j (c .before .before .before .before .before .before .before .args .out .now)) (c .before .before .before .judged .given .1) k) (c .same .ensures .0) (c .same .ensures .1)
+returns c = λ run before k. agrees-text (entry-before-same c .args .text .now) _ (c .same .result) (subst (λ (j : Judged). JudgedAs run before j (entry-before-same c .args .out .now)) (c .before .before .before .judged .given .1) k) (c .same .ensures .0) (c .same .ensures .1)
 
 returns-2 : tie.Need-returns-2
 returns-2 c = λ run before k. agrees-long (c .before .before .before .before .args .text .now) (subst (λ (j : Judged). JudgedAs run before j (c .before .before .before .before .args .out .now)) (c .enum-told .given .1) k)

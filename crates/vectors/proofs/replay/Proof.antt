@@ -6,8 +6,18 @@ use lib.Seq.{length-take-le}
 use Rattle.vectors.proofs.replay.Statement.{statement}
 use Rattle.vectors.proofs.replay.Tie as tie
 
+-- ---- states by name: `g-before-f` is the state behind g, as it is known behind f; the first one is `entry`
+abbrev entry-before-else1 : tie.Else1 → tie.Start
+entry-before-else1 c = let c1 = c .before .before .before .before .before .before in c1 .before .before .before .before
+
+abbrev entry-before-same : tie.After-same → tie.Start
+entry-before-same c = entry-before-else1 (c .before .before .before)
+
+abbrev entry-before-count-agreeing-arg8 : tie.After-count-agreeing-arg8 → tie.Start
+entry-before-count-agreeing-arg8 c = let c1 = c .before .before .before .before .before .before in entry-before-same (c1 .before .before .before .before)
+
 slice-aggregate-same : tie.Need-slice-aggregate-same
-slice-aggregate-same c = sym (length-take-le 8 (c .before .before .before .before .before .before .before .before .before .before .before .args .file .now) (omega arith))
+slice-aggregate-same c = sym (length-take-le 8 (entry-before-else1 (c .before) .args .file .now) (omega arith))
 
 slice-aggregate-same-2 : tie.Need-slice-aggregate-same-2
 slice-aggregate-same-2 c = search needs
@@ -31,7 +41,7 @@ cast-total : tie.Need-cast-total
 cast-total c = search needs
 
 count-agreeing-requires : tie.Need-count-agreeing-requires
-count-agreeing-requires c κs = let s = c .before .before .before .before .before .before .before .before .before .before .before .before .before .before .before .before .before .before .before .before .before .before .before in (s .pre .0, (s .pre .1, (omega arith, omega arith)))
+count-agreeing-requires c κs = let s = entry-before-count-agreeing-arg8 c in (s .pre .0, (s .pre .1, (omega arith, omega arith)))
 
 print-count-requires : tie.Need-print-count-requires
 print-count-requires c κs = search needs

@@ -7,6 +7,10 @@ use Rattle.library.proofs.Performed.{can-enter, allocated}
 use Rattle.library.proofs.allocate.allocate.Statement.{statement}
 use Rattle.library.proofs.allocate.allocate.Tie as tie
 
+-- ---- states by name: `g-before-f` is the state behind g, as it is known behind f; the first one is `entry`
+abbrev else2-before-allocate : tie.After-allocate → tie.Else2
+else2-before-allocate c = c .before .before .before
+
 well-formed-requires : tie.Need-well-formed-requires
 well-formed-requires c κs = search needs
 
@@ -46,7 +50,7 @@ same-length-6 c = search needs
 
 returns-3 : tie.Need-returns-3
 returns-3 c =
-    let s = c .before .before .before .before .before .before .before in
+    let s = else2-before-allocate (c .before .before .before .before) in
     let formed = sym (s .before .before .before .well-formed .ensures .0) ∙ not-false _ (s .before .before .if1 .left) in
     let fine = sym (s .before .bad-allocation .ensures) ∙ s .if2 .left in
     allocated _ formed _ _ fine _ _ (c .before .before .before .before .allocate .ensures _ _ (can-enter _ formed _ _ fine))

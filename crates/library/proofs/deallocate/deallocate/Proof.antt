@@ -10,6 +10,10 @@ use Rattle.library.proofs.Performed.{deallocated}
 use Rattle.library.proofs.deallocate.deallocate.Statement.{statement}
 use Rattle.library.proofs.deallocate.deallocate.Tie as tie
 
+-- ---- states by name: `g-before-f` is the state behind g, as it is known behind f; the first one is `entry`
+abbrev else2-before-deallocate : tie.After-deallocate → tie.Else2
+else2-before-deallocate c = c .before .before .before
+
 well-formed-requires : tie.Need-well-formed-requires
 well-formed-requires c κs = search needs
 
@@ -51,7 +55,7 @@ same-length-6 c = search needs
 
 returns-3 : tie.Need-returns-3
 returns-3 c =
-    let s = c .before .before .before .before .before .before .before in
+    let s = else2-before-deallocate (c .before .before .before .before) in
     let formed = sym (s .before .before .before .well-formed .ensures .0) ∙ not-false _ (s .before .before .if1 .left) in
     let fine = sym (s .before .bad-allocation .ensures) ∙ s .if2 .left in
     deallocated _ formed _ _ _ _ fine (c .before .before .before .before .deallocate .ensures _ _ (holds-marked (sound _ formed)) (allocation-kind _ _ fine))

@@ -11,6 +11,13 @@ use Rattle.library.proofs.Performed.{dereferenced}
 use Rattle.library.proofs.dereferenceable.signed_dereferenceable.Statement.{statement}
 use Rattle.library.proofs.dereferenceable.signed_dereferenceable.Tie as tie
 
+-- ---- states by name: `g-before-f` is the state behind g, as it is known behind f; the first one is `entry`
+abbrev entry-before-well-formed : tie.After-well-formed → tie.Start
+entry-before-well-formed c = c .before .before .before .before .before .before
+
+abbrev entry-before-signed-dereferenceable : tie.After-signed-dereferenceable → tie.Start
+entry-before-signed-dereferenceable c = entry-before-well-formed (c .before .before)
+
 well-formed-requires : tie.Need-well-formed-requires
 well-formed-requires c κs = search needs
 
@@ -23,7 +30,7 @@ signed-dereferenceable-requires c κs = (_, holds-records (sound _ (sym (c .befo
 returns-2 : tie.Need-returns-2
 returns-2 c =
     let formed = sym (c .before .before .well-formed .ensures .0) ∙ not-false _ (c .before .if1 .left) in
-    let same = toZ-ofZ (c .before .before .before .before .before .before .before .before .fits .len) in
+    let same = toZ-ofZ (entry-before-signed-dereferenceable c .fits .len) in
     rw (← ap back same, ← ap ahead same)
     (dereferenced _ _ _ _ formed (c .signed-dereferenceable .ensures _ (holds-records (sound _ formed))))
 

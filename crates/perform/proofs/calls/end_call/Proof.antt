@@ -7,13 +7,23 @@ use Rattle.state.proofs.States.{frames-held, trees-held}
 use Rattle.perform.proofs.calls.end_call.Statement.{statement}
 use Rattle.perform.proofs.calls.end_call.Tie as tie
 
+-- ---- states by name: `g-before-f` is the state behind g, as it is known behind f; the first one is `entry`
+abbrev entry-before-frame-numbers : tie.After-frame-numbers → tie.Start
+entry-before-frame-numbers c = let c1 = c .before .before .before .before .before .before in c1 .before
+
+abbrev entry-before-end-call-in-run : tie.After-end-call-in-run → tie.Start
+entry-before-end-call-in-run c = entry-before-frame-numbers (c .before .before .before)
+
+abbrev entry-before-then1 : tie.Then1 → tie.Start
+entry-before-then1 c = entry-before-end-call-in-run (c .before .before .before .before .before .before)
+
 frame-numbers-requires : tie.Need-frame-numbers-requires
 frame-numbers-requires c κs = let s = c .before .before .before .before .before .before in ((s .pre .0 .0 .frames, frames-held (s .pre .0 .1)), s .pre .1)
 
 end-call-in-run-requires : tie.Need-end-call-in-run-requires
 end-call-in-run-requires c κs =
     let found = c .before .before in
-    let s = found .before .before .before .before .before .before .before in
+    let s = entry-before-frame-numbers found in
     let h = s .pre .0 .1 in
     (s .pre .0 .0 .memory, (trees-held h, numbers-made h (s .args .f) (found .frame-numbers .result .now) (found .frame-numbers .ensures (s .pre .0 .0 .frames) (frames-held h))))
 
@@ -21,7 +31,7 @@ refusal-requires : tie.Need-refusal-requires
 refusal-requires c κs = search needs
 
 close-frame-requires : tie.Need-close-frame-requires
-close-frame-requires c κs = let s = c .before .before .before .before .before .before .before .before .before .before .before .before .before .before .before .before .before in ((s .pre .0 .0 .frames, frames-held (s .pre .0 .1)), s .pre .1)
+close-frame-requires c κs = let s = entry-before-then1 (c .before) in ((s .pre .0 .0 .frames, frames-held (s .pre .0 .1)), s .pre .1)
 
 same-length : tie.Need-same-length
 same-length c = search needs
@@ -37,7 +47,7 @@ returns c = λ s h.
     let asked = c .before .before .before .before .before in
     let ended = asked .before .before .before .before .before in
     let found = ended .before .before .before in
-    let f = found .before .before .before .before .before .before .before .args .f in
+    let f = entry-before-frame-numbers found .args .f in
     let numbers = found .frame-numbers .result .now in
     let is = found .frame-numbers .ensures (s .frames) (frames-held h) in
     left-accepted h f numbers is (ended .end-call-in-run .ensures (s .memory) (trees-held h) (numbers-made h f numbers is))
@@ -57,7 +67,7 @@ returns-2 c = λ s h.
     let asked = c .before in
     let ended = asked .before .before .before .before .before in
     let found = ended .before .before .before in
-    let f = found .before .before .before .before .before .before .before .args .f in
+    let f = entry-before-frame-numbers found .args .f in
     let numbers = found .frame-numbers .result .now in
     let is = found .frame-numbers .ensures (s .frames) (frames-held h) in
     left-refused h f numbers is (ended .end-call-in-run .ensures (s .memory) (trees-held h) (numbers-made h f numbers is))

@@ -13,6 +13,82 @@ use Rattle.perform.proofs.Memories.{can, allocate-left, deallocate-kind
 use Rattle.perform.proofs.in_memory.in_memory.Statement.{statement}
 use Rattle.perform.proofs.in_memory.in_memory.Tie as tie
 
+-- ---- states by name: `g-before-f` is the state behind g, as it is known behind f; the first one is `entry`
+abbrev entry-before-wide : tie.After-wide → tie.Start
+entry-before-wide c = let c1 = c .before .before .before .before .before .before in c1 .before
+
+abbrev entry-before-pointer : tie.After-pointer → tie.Start
+entry-before-pointer c = entry-before-wide (c .before .before .before)
+
+abbrev wide-before-pointer : tie.After-pointer → tie.After-wide
+wide-before-pointer c = c .before .before .before
+
+abbrev entry-before-wide2 : tie.After-wide2 → tie.Start
+entry-before-wide2 c = entry-before-wide (c .before)
+
+abbrev entry-before-signed-length : tie.After-signed-length → tie.Start
+entry-before-signed-length c = entry-before-wide2 (c .before .before .before .before .before .before)
+
+abbrev enum-told-before-allocate : tie.After-allocate → tie.After-enum-told
+enum-told-before-allocate c = c .before .before .before
+
+abbrev wide-before-wide3 : tie.After-wide3 → tie.After-wide
+wide-before-wide3 c = c .before .before
+
+abbrev wide-before-allocate : tie.After-allocate → tie.After-wide
+wide-before-allocate c = wide-before-wide3 (c .before .before .before .before .before .before)
+
+abbrev wide2-before-wide3 : tie.After-wide3 → tie.After-wide2
+wide2-before-wide3 c = c .before
+
+abbrev wide2-before-allocate : tie.After-allocate → tie.After-wide2
+wide2-before-allocate c = wide2-before-wide3 (c .before .before .before .before .before .before)
+
+abbrev wide3-before-allocate : tie.After-allocate → tie.After-wide3
+wide3-before-allocate c = c .before .before .before .before .before .before
+
+abbrev enum-told2-before-deallocate : tie.After-deallocate → tie.After-enum-told2
+enum-told2-before-deallocate c = c .before .before .before
+
+abbrev pointer-before-deallocate : tie.After-deallocate → tie.After-pointer
+pointer-before-deallocate c = c .before .before .before .before .before
+
+abbrev wide-before-deallocate : tie.After-deallocate → tie.After-wide
+wide-before-deallocate c = wide-before-wide3 (c .before .before .before .before .before .before)
+
+abbrev wide2-before-deallocate : tie.After-deallocate → tie.After-wide2
+wide2-before-deallocate c = wide2-before-wide3 (c .before .before .before .before .before .before)
+
+abbrev wide3-before-deallocate : tie.After-deallocate → tie.After-wide3
+wide3-before-deallocate c = c .before .before .before .before .before .before
+
+abbrev pointer-before-load : tie.After-load → tie.After-pointer
+pointer-before-load c = c .before .before .before .before .before
+
+abbrev wide3-before-load : tie.After-load → tie.After-wide3
+wide3-before-load c = c .before .before .before .before .before .before
+
+abbrev wide2-before-load : tie.After-load → tie.After-wide2
+wide2-before-load c = wide2-before-wide3 (c .before .before .before .before .before .before)
+
+abbrev pointer-before-store : tie.After-store → tie.After-pointer
+pointer-before-store c = c .before .before .before .before .before .before
+
+abbrev wide3-before-pointer : tie.After-pointer → tie.After-wide3
+wide3-before-pointer c = c .before
+
+abbrev wide3-before-store : tie.After-store → tie.After-wide3
+wide3-before-store c = wide3-before-pointer (c .before .before .before .before .before .before)
+
+abbrev enum-told4-before-store : tie.After-store → tie.After-enum-told4
+enum-told4-before-store c = c .before .before .before .before
+
+abbrev entry-before-wide3 : tie.After-wide3 → tie.Start
+entry-before-wide3 c = entry-before-wide (c .before .before)
+
+abbrev entry-before-signed-dereferenceable : tie.After-signed-dereferenceable → tie.Start
+entry-before-signed-dereferenceable c = entry-before-wide3 (c .before .before .before .before .before .before)
+
 wide-requires : tie.Need-wide-requires
 wide-requires c κs = search needs
 
@@ -29,31 +105,31 @@ enum-told : tie.Need-enum-told
 enum-told c = search needs
 
 allocate-requires : tie.Need-allocate-requires
-allocate-requires c κs = let s = c .before .before .before .before .before .before .before .before .before .before .before .before .before .before in (s .pre .0 .memory, (_, can (s .pre .1) (c .before .before .enum-told .given .1) (c .before .before .before .before .before .before .before .wide .ensures) (c .before .before .before .before .before .before .wide2 .ensures) (c .before .before .before .before .before .wide3 .ensures)))
+allocate-requires c κs = let s = entry-before-pointer (c .before .before .before .before) in (s .pre .0 .memory, (_, can (s .pre .1) (c .before .before .enum-told .given .1) (wide-before-pointer (c .before .before .before .before) .wide .ensures) (c .before .before .before .before .before .before .wide2 .ensures) (c .before .before .before .before .before .wide3 .ensures)))
 
 enum-told-2 : tie.Need-enum-told-2
 enum-told-2 c = search needs
 
 deallocate-requires : tie.Need-deallocate-requires
-deallocate-requires c κs = let s = c .before .before .before .before .before .before .before .before .before .before .before .before .before .before in (s .pre .0 .memory, holds-marked (s .pre .1 .holds))
+deallocate-requires c κs = let s = entry-before-pointer (c .before .before .before .before) in (s .pre .0 .memory, holds-marked (s .pre .1 .holds))
 
 enum-told-3 : tie.Need-enum-told-3
 enum-told-3 c = search needs
 
 load-requires : tie.Need-load-requires
-load-requires c κs = let s = c .before .before .before .before .before .before .before .before .before .before .before .before .before .before in ((s .pre .0 .memory, holds-trees (s .pre .1 .holds)), load-exponent (s .pre .1) (c .before .before .enum-told3 .given .1) (c .before .before .before .before .before .wide3 .ensures))
+load-requires c κs = let s = entry-before-pointer (c .before .before .before .before) in ((s .pre .0 .memory, holds-trees (s .pre .1 .holds)), load-exponent (s .pre .1) (c .before .before .enum-told3 .given .1) (c .before .before .before .before .before .wide3 .ensures))
 
 enum-told-4 : tie.Need-enum-told-4
 enum-told-4 c = search needs
 
 store-requires : tie.Need-store-requires
-store-requires c κs = let s = c .before .before .before .before .before .before .before .before .before .before .before .before .before .before .before in ((s .pre .0 .memory, holds-bytes (s .pre .1 .holds)), store-exponent (s .pre .1) (c .before .before .before .enum-told4 .given .1) (c .before .before .before .before .before .before .wide3 .ensures))
+store-requires c κs = let s = entry-before-pointer (c .before .before .before .before .before) in ((s .pre .0 .memory, holds-bytes (s .pre .1 .holds)), store-exponent (s .pre .1) (c .before .before .before .enum-told4 .given .1) (c .before .before .before .before .before .before .wide3 .ensures))
 
 enum-told-5 : tie.Need-enum-told-5
 enum-told-5 c = search needs
 
 dereferenceable-requires : tie.Need-dereferenceable-requires
-dereferenceable-requires c κs = let s = c .before .before .before .before .before .before .before .before .before .before .before .before .before in (s .pre .0 .memory, holds-records (s .pre .1 .holds))
+dereferenceable-requires c κs = let s = entry-before-pointer (c .before .before .before) in (s .pre .0 .memory, holds-records (s .pre .1 .holds))
 
 enum-told-6 : tie.Need-enum-told-6
 enum-told-6 c = search needs
@@ -62,13 +138,13 @@ signed-length-requires : tie.Need-signed-length-requires
 signed-length-requires c κs = search needs
 
 signed-dereferenceable-requires : tie.Need-signed-dereferenceable-requires
-signed-dereferenceable-requires c κs = let s = c .before .before .before .before .before .before .before .before .before .before .before .before .before .before in (s .pre .0 .memory, holds-records (s .pre .1 .holds))
+signed-dereferenceable-requires c κs = let s = entry-before-signed-length c in (s .pre .0 .memory, holds-records (s .pre .1 .holds))
 
 enum-told-7 : tie.Need-enum-told-7
 enum-told-7 c = search needs
 
 leak-check-requires : tie.Need-leak-check-requires
-leak-check-requires c κs = let s = c .before .before .before .before .before .before .before .before .before .before .before .before .before in (s .pre .0 .memory, holds-records (s .pre .1 .holds))
+leak-check-requires c κs = let s = entry-before-pointer (c .before .before .before) in (s .pre .0 .memory, holds-records (s .pre .1 .holds))
 
 enum-told-8 : tie.Need-enum-told-8
 enum-told-8 c = search needs
@@ -89,7 +165,7 @@ same-length-2 : tie.Need-same-length-2
 same-length-2 c = search needs
 
 returns : tie.Need-returns
-returns c = λ s h. allocate-left h (c .before .before .before .before .before .before .before .enum-told .given .1) (c .before .before .before .before .before .before .before .before .before .before .before .before .wide .ensures) (c .before .before .before .before .before .before .before .before .before .before .before .wide2 .ensures) (c .before .before .before .before .before .before .before .before .before .before .wide3 .ensures) (c .before .before .before .before .allocate .ensures (s .memory) _ (can h (c .before .before .before .before .before .before .before .enum-told .given .1) (c .before .before .before .before .before .before .before .before .before .before .before .before .wide .ensures) (c .before .before .before .before .before .before .before .before .before .before .before .wide2 .ensures) (c .before .before .before .before .before .before .before .before .before .before .wide3 .ensures)))
+returns c = λ s h. allocate-left h (enum-told-before-allocate (c .before .before .before .before) .enum-told .given .1) (wide-before-allocate (c .before .before .before .before) .wide .ensures) (wide2-before-allocate (c .before .before .before .before) .wide2 .ensures) (wide3-before-allocate (c .before .before .before .before) .wide3 .ensures) (c .before .before .before .before .allocate .ensures (s .memory) _ (can h (enum-told-before-allocate (c .before .before .before .before) .enum-told .given .1) (wide-before-allocate (c .before .before .before .before) .wide .ensures) (wide2-before-allocate (c .before .before .before .before) .wide2 .ensures) (wide3-before-allocate (c .before .before .before .before) .wide3 .ensures)))
 
 same-length-3 : tie.Need-same-length-3
 same-length-3 c = search needs
@@ -98,7 +174,7 @@ same-length-4 : tie.Need-same-length-4
 same-length-4 c = search needs
 
 returns-2 : tie.Need-returns-2
-returns-2 c = λ s h. deallocate-left h (c .before .before .before .before .before .before .before .enum-told2 .given .1) (c .before .before .before .before .before .before .before .before .before .pointer .ensures) (c .before .before .before .before .before .before .before .before .before .before .before .before .wide .ensures) (c .before .before .before .before .before .before .before .before .before .before .before .wide2 .ensures) (c .before .before .before .before .before .before .before .before .before .before .wide3 .ensures) (c .before .before .before .before .deallocate .ensures (s .memory) _ (holds-marked (h .holds)) (deallocate-kind h (c .before .before .before .before .before .before .before .enum-told2 .given .1) (c .before .before .before .before .before .before .before .before .before .pointer .ensures) (c .before .before .before .before .before .before .before .before .before .before .before .before .wide .ensures) (c .before .before .before .before .before .before .before .before .before .before .before .wide2 .ensures) (c .before .before .before .before .before .before .before .before .before .before .wide3 .ensures)))
+returns-2 c = λ s h. deallocate-left h (enum-told2-before-deallocate (c .before .before .before .before) .enum-told2 .given .1) (pointer-before-deallocate (c .before .before .before .before) .pointer .ensures) (wide-before-deallocate (c .before .before .before .before) .wide .ensures) (wide2-before-deallocate (c .before .before .before .before) .wide2 .ensures) (wide3-before-deallocate (c .before .before .before .before) .wide3 .ensures) (c .before .before .before .before .deallocate .ensures (s .memory) _ (holds-marked (h .holds)) (deallocate-kind h (enum-told2-before-deallocate (c .before .before .before .before) .enum-told2 .given .1) (pointer-before-deallocate (c .before .before .before .before) .pointer .ensures) (wide-before-deallocate (c .before .before .before .before) .wide .ensures) (wide2-before-deallocate (c .before .before .before .before) .wide2 .ensures) (wide3-before-deallocate (c .before .before .before .before) .wide3 .ensures)))
 
 same-length-5 : tie.Need-same-length-5
 same-length-5 c = search needs
@@ -107,7 +183,7 @@ same-length-6 : tie.Need-same-length-6
 same-length-6 c = search needs
 
 returns-3 : tie.Need-returns-3
-returns-3 c = λ s h. load-left h (c .before .before .before .before .before .before .before .pointer .ensures) (c .before .before .before .before .before .before .before .before .wide3 .ensures) (c .before .before .before .before .before .enum-told3 .given .1) (c .before .before .before .before .before .before .before .before .before .wide2 .ensures) (c .before .before .load .ensures (s .memory) (holds-trees (h .holds)))
+returns-3 c = λ s h. load-left h (pointer-before-load (c .before .before) .pointer .ensures) (wide3-before-load (c .before .before) .wide3 .ensures) (c .before .before .before .before .before .enum-told3 .given .1) (wide2-before-load (c .before .before) .wide2 .ensures) (c .before .before .load .ensures (s .memory) (holds-trees (h .holds)))
 
 same-length-7 : tie.Need-same-length-7
 same-length-7 c = search needs
@@ -119,7 +195,7 @@ same-length-9 : tie.Need-same-length-9
 same-length-9 c = search needs
 
 returns-4 : tie.Need-returns-4
-returns-4 c = λ s h. store-left h (c .before .before .before .before .before .before .before .before .before .before .pointer .ensures) (c .before .before .before .before .before .before .before .before .before .before .before .wide3 .ensures) (c .before .before .before .before .before .before .before .before .enum-told4 .given .1) (c .before .before .before .before .store .ensures (s .memory) (holds-bytes (h .holds)))
+returns-4 c = λ s h. store-left h (pointer-before-store (c .before .before .before .before) .pointer .ensures) (wide3-before-store (c .before .before .before .before) .wide3 .ensures) (enum-told4-before-store (c .before .before .before .before) .enum-told4 .given .1) (c .before .before .before .before .store .ensures (s .memory) (holds-bytes (h .holds)))
 
 same-length-10 : tie.Need-same-length-10
 same-length-10 c = search needs
@@ -131,7 +207,7 @@ same-length-11 : tie.Need-same-length-11
 same-length-11 c = search needs
 
 returns-6 : tie.Need-returns-6
-returns-6 c = λ s h. let a = c .before .before .before .before .before .before .before .before .before .before .before .before .before .before .before in let same = toZ-ofZ {w = w64} {z = c .before .signed-length .result} (sfits-of (c .before .signed-length .ok)) in signed-left h (c .before .before .before .before .before .pointer .ensures) (c .before .before .before .enum-told6 .given .1) (c .before .signed-length .result) (c .before .signed-length .ensures) {r = c .signed-dereferenceable .result} (rw (← ap back same, ← ap ahead same) (reach-answers _ _ _ (s .memory) (a .args .words .now) (c .signed-dereferenceable .ensures (s .memory) (holds-records (h .holds)))))
+returns-6 c = λ s h. let a = entry-before-signed-dereferenceable c in let same = toZ-ofZ {w = w64} {z = c .before .signed-length .result} (sfits-of (c .before .signed-length .ok)) in signed-left h (c .before .before .before .before .before .pointer .ensures) (c .before .before .before .enum-told6 .given .1) (c .before .signed-length .result) (c .before .signed-length .ensures) {r = c .signed-dereferenceable .result} (rw (← ap back same, ← ap ahead same) (reach-answers _ _ _ (s .memory) (a .args .words .now) (c .signed-dereferenceable .ensures (s .memory) (holds-records (h .holds)))))
 
 same-length-12 : tie.Need-same-length-12
 same-length-12 c = search needs

@@ -11,6 +11,10 @@ use Rattle.answer.specs.Answer.{answerOf}
 use Rattle.perform.proofs.retags.enter.Statement.{statement}
 use Rattle.perform.proofs.retags.enter.Tie as tie
 
+-- ---- states by name: `g-before-f` is the state behind g, as it is known behind f; the first one is `entry`
+abbrev entry-before-enter-pointer : tie.After-enter-pointer → tie.Start
+entry-before-enter-pointer c = c .before .before .before .before .before .before
+
 enum-known-answer : tie.Need-enum-known-answer
 enum-known-answer c = search needs
 
@@ -33,7 +37,7 @@ same-length : tie.Need-same-length
 same-length c = search needs
 
 returns : tie.Need-returns
-returns c = λ fs h. let s = c .before .before .before .before .before .before .before .before in c .before .before .enter-pointer .ensures fs h ∙ ap (λ (x : Answer). framesHeld (entered (protector (s .args .protected)) (s .args .f) (answerOf x [] .pointer) fs)) (sym (c .before .before .before .before .before .answer .given .1))
+returns c = λ fs h. let s = entry-before-enter-pointer (c .before .before) in c .before .before .enter-pointer .ensures fs h ∙ ap (λ (x : Answer). framesHeld (entered (protector (s .args .protected)) (s .args .f) (answerOf x [] .pointer) fs)) (sym (c .before .before .before .before .before .answer .given .1))
 
 returns-2 : tie.Need-returns-2
 returns-2 c = λ fs h. let s = c .before .before .before in h .held ∙ ap (λ (x : Answer). framesHeld (entered (protector (s .args .protected)) (s .args .f) (answerOf x [] .pointer) fs)) (sym (c .enum-told .given .1))

@@ -10,6 +10,13 @@ use Rattle.perform.proofs.Retagging.{not-entered, is-entered}
 use Rattle.perform.proofs.retags.enter_node.Statement.{statement}
 use Rattle.perform.proofs.retags.enter_node.Tie as tie
 
+-- ---- states by name: `g-before-f` is the state behind g, as it is known behind f; the first one is `entry`
+abbrev entry-before-push-entry : tie.After-push-entry → tie.Start
+entry-before-push-entry c = c .before .before .before .before .before
+
+abbrev entry-before-push-entry2 : tie.After-push-entry2 → tie.Start
+entry-before-push-entry2 c = c .before .before .before .before .before
+
 enum-told : tie.Need-enum-told
 enum-told c = search needs
 
@@ -32,13 +39,13 @@ same-length : tie.Need-same-length
 same-length c = search needs
 
 returns-2 : tie.Need-returns-2
-returns-2 c = λ fs h. let s = c .before .before .before .before .before .before .before in c .before .before .push-entry .ensures fs h .held ∙ ap framesHeld (sym (is-entered (protector (s .args .protected)) (s .args .f) fs (ap (λ (x : Protected). isYes (protector x)) (c .before .before .before .before .enum-told2 .given .1)) (record { allocation = s .args .allocation; node = s .args .node })))
+returns-2 c = λ fs h. let s = entry-before-push-entry (c .before .before) in c .before .before .push-entry .ensures fs h .held ∙ ap framesHeld (sym (is-entered (protector (s .args .protected)) (s .args .f) fs (ap (λ (x : Protected). isYes (protector x)) (c .before .before .before .before .enum-told2 .given .1)) (record { allocation = s .args .allocation; node = s .args .node })))
 
 same-length-2 : tie.Need-same-length-2
 same-length-2 c = search needs
 
 returns-3 : tie.Need-returns-3
-returns-3 c = λ fs h. let s = c .before .before .before .before .before .before .before in c .before .before .push-entry2 .ensures fs h .held ∙ ap framesHeld (sym (is-entered (protector (s .args .protected)) (s .args .f) fs (ap (λ (x : Protected). isYes (protector x)) (c .before .before .before .before .enum-told3 .given .1)) (record { allocation = s .args .allocation; node = s .args .node })))
+returns-3 c = λ fs h. let s = entry-before-push-entry2 (c .before .before) in c .before .before .push-entry2 .ensures fs h .held ∙ ap framesHeld (sym (is-entered (protector (s .args .protected)) (s .args .f) fs (ap (λ (x : Protected). isYes (protector x)) (c .before .before .before .before .enum-told3 .given .1)) (record { allocation = s .args .allocation; node = s .args .node })))
 
 pub enter-node-spec : {M : Type 1} → statement M
 enter-node-spec =

@@ -10,6 +10,10 @@ use Rattle.pointer.specs.Pointer.{provenanceOf}
 use Rattle.perform.proofs.retags.enter_pointer.Statement.{statement}
 use Rattle.perform.proofs.retags.enter_pointer.Tie as tie
 
+-- ---- states by name: `g-before-f` is the state behind g, as it is known behind f; the first one is `entry`
+abbrev entry-before-enter-node : tie.After-enter-node → tie.Start
+entry-before-enter-node c = c .before .before .before .before .before .before
+
 enum-told : tie.Need-enum-told
 enum-told c = search needs
 
@@ -26,7 +30,7 @@ same-length : tie.Need-same-length
 same-length c = search needs
 
 returns-2 : tie.Need-returns-2
-returns-2 c = λ fs h. let s = c .before .before .before .before .before .before .before .before in c .before .before .enter-node .ensures fs h ∙ ap (λ (x : Provenance). framesHeld (entered (protector (s .args .protected)) (s .args .f) (provenanceOf x) fs)) (sym (c .before .before .before .before .before .provenance .given .1))
+returns-2 c = λ fs h. let s = entry-before-enter-node (c .before .before) in c .before .before .enter-node .ensures fs h ∙ ap (λ (x : Provenance). framesHeld (entered (protector (s .args .protected)) (s .args .f) (provenanceOf x) fs)) (sym (c .before .before .before .before .before .provenance .given .1))
 
 pub enter-pointer-spec : {M : Type 1} → statement M
 enter-pointer-spec =
