@@ -29,6 +29,8 @@ ROOT = HERE.parent
 TOOLS = HERE / "target" / "release"
 WORK = ROOT / "target" / "definition-on-runs"
 EACH_FILE = 50
+# The most words that may follow a request's fourth in a run.
+MOST_WORDS = 4096
 KINDS = {"stack": "Stack", "heap": "Heap", "global": "Global", "function": "Function", "vtable": "VTable"}
 MARKS = {"no": "No", "weak": "Weak", "strong": "Strong"}
 # The answers that each kind of request can get. An end call's 4 and 16 to 23 need a memory and frames that no run makes.
@@ -119,11 +121,17 @@ class Case:
         """What stands where the Rust had no answer."""
         return [line for line in self.answers if line.split(" ")[1] == "!"]
 
+    def requests(self):
+        """The requests as the definition cuts them. That cut is the program's: a list in which one announces more words than a run may is given by its words."""
+        requests = [[int(word, 16) for word in request.split(" ") if len(word) == 8] for request in requests_of(self.run)]
+        if any(len(words) > 3 and following(words[0], words[3]) > MOST_WORDS for words in requests):
+            return listed(listed(map(str, words)) for words in requests)
+        return f"(requestsOf {listed(map(str, self.run))})"
+
     def equation(self, opened):
         start = "empty" if self.start is None else f"({state(self.start)})"
-        requests = listed(map(str, self.run))
         return (
-            f"{self.name} : run {start} (requestsOf {requests}) ≡ ({listed(map(answer, self.answers))}, {state(self.left)})\n"
+            f"{self.name} : run {start} {self.requests()} ≡ ({listed(map(answer, self.answers))}, {state(self.left)})\n"
             f"unfolding {opened}\n{self.name} = refl\n"
         )
 

@@ -66,6 +66,8 @@ slip "a cell may touch the size's end only" 's/from + len > size {/from + len >=
 slip "65 entries" 's/len() >= 64/len() >= 65/'
 slip "1,025 nodes, by a retag" 's/self.nodes() >= 1024/self.nodes() >= 1025/'
 slip "4,097 words" 's/words as u128 + size <= 4096/words as u128 + size <= 4097/'
+slip "4,097 words after the fourth in a run" 's/MOST_WORDS: usize = 4096/MOST_WORDS: usize = 4097/'
+slip "at most 4,096 words after the fourth in a list" 's/self.outcome(words);/self.outcome(words.filter(|words| words.len() <= 4 + MOST_WORDS));/'
 slip "32,769 codes, by a retag" 's/a.words.len() > 32768/a.words.len() > 32769/'
 slip "32,769 codes, by an allocation" 's/self.codes() as u128 + size <= 32768/self.codes() as u128 + size <= 32769/'
 slip "1,025 nodes, by an allocation" 's/self.nodes() < 1024/self.nodes() < 1025/'

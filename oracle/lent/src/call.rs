@@ -271,12 +271,12 @@ impl Call {
         }
     }
 
-    /// A run can make the request, and means the same by it.
-    pub fn fits_a_run(&self) -> bool {
+    /// A list can make the request, and means the same by it.
+    pub fn fits_a_list(&self) -> bool {
         !matches!(self, Call::New | Call::NewCall) && Call::of(&self.words()).as_ref() == Some(self)
     }
 
-    /// The request that has the call's answer. Where a number of the call fits no run, another one stands for it:
+    /// The request that has the call's answer. Where a number of the call fits no list, another one stands for it:
     /// exponents from 31 on, kinds and extras from 7 on are all outside their lists, lengths from 2^32 - 1 on are above
     /// all sizes, and no allocation has a node 4,095.
     pub fn words(&self) -> Words {

@@ -187,7 +187,7 @@ impl Comparison {
         after: &Lent,
     ) -> std::io::Result<()> {
         let Some(oracle) = &mut self.oracle else { return Ok(()) };
-        if reply.refusal == 1 || !call.fits_a_run() {
+        if reply.refusal == 1 || !call.fits_a_list() {
             return Ok(());
         }
         let before = Reference { allocs: m.allocs.clone(), frames: call.frames(lent) }.text(true);

@@ -45,7 +45,7 @@ fn extend_accepted(r: &mut Random, m: &mut Reference, style: &Style, requests: &
         for _ in 0..8 {
             let request = deep::candidate(r, m, style);
             let before = m.clone();
-            if m.step(Some(&request)).refusal == 0 {
+            if m.step_in_run(Some(&request)).refusal == 0 {
                 requests.push(request);
                 break;
             }
@@ -110,7 +110,7 @@ fn hunt(r: &mut Random, m: &Reference, mut style: Style) -> Option<Words> {
     let mut last = None;
     for _ in 0..40 {
         let request = deep::candidate(r, m, &style);
-        let refusal = m.clone().step(Some(&request)).refusal;
+        let refusal = m.clone().step_in_run(Some(&request)).refusal;
         if refusal == wanted {
             return Some(request);
         }
@@ -131,7 +131,7 @@ fn loose_list(r: &mut Random) -> Vec<Words> {
     extend_accepted(r, &mut m, &style, &mut requests, prefix);
     for _ in 0..r.range(5, 60) {
         let request = deep::candidate(r, &m, &style);
-        m.step(Some(&request));
+        m.step_in_run(Some(&request));
         requests.push(request);
     }
     requests

@@ -67,7 +67,7 @@ fn around(r: &mut Random, bound: u64) -> u64 {
 fn go_on(r: &mut Random, requests: &mut Vec<Words>) {
     let mut m = Reference::new();
     for request in requests.iter() {
-        if m.step(Some(request)).refusal != 0 {
+        if m.step_in_run(Some(request)).refusal != 0 {
             return;
         }
     }
@@ -80,7 +80,7 @@ fn go_on(r: &mut Random, requests: &mut Vec<Words>) {
     };
     for _ in 0..r.below(12) {
         let request = deep::candidate(r, &m, &style);
-        let refused = m.step(Some(&request)).refusal != 0;
+        let refused = m.step_in_run(Some(&request)).refusal != 0;
         requests.push(request);
         if refused {
             return;

@@ -242,7 +242,18 @@ impl Reference {
 
     /// Answer one request; none stands for one that the input ends inside.
     pub fn step(&mut self, words: Option<&[u32]>) -> Answer {
-        let answer = match self.outcome(words) {
+        let outcome = self.outcome(words);
+        self.answer(words, outcome)
+    }
+
+    /// The same in a run, where a request with too many words falls under 2.
+    pub fn step_in_run(&mut self, words: Option<&[u32]>) -> Answer {
+        let outcome = self.outcome(words.filter(|words| words.len() <= 4 + MOST_WORDS));
+        self.answer(words, outcome)
+    }
+
+    fn answer(&self, words: Option<&[u32]>, outcome: Outcome) -> Answer {
+        let answer = match outcome {
             Ok(third) => Answer { refusal: 0, third },
             Err(25) => Answer { refusal: 25, third: Third::Leak(self.leaks().next().unwrap()) },
             Err(refusal) => Answer { refusal, third: Third::None },
@@ -624,14 +635,14 @@ pub fn output(input: &[u8], list: bool) -> String {
     output_from(Reference::new(), input, list)
 }
 
-/// The same, from a memory that is there already. In a run alone a request with too many words falls under 2.
+/// The same, from a memory that is there already.
 pub fn output_from(mut memory: Reference, input: &[u8], list: bool) -> String {
     let mut text = String::new();
     let (mut at, mut index) = (0, 0);
     while at < input.len() {
         let (words, next) = next_request(input, at);
-        let words = words.filter(|words| list || words.len() <= 4 + MOST_WORDS);
-        let answer = memory.step(words.as_deref());
+        let words = words.as_deref();
+        let answer = if list { memory.step(words) } else { memory.step_in_run(words) };
         writeln!(text, "{index} {} {}", answer.refusal, third(&answer.third)).unwrap();
         if answer.refusal != 0 && !list {
             break;

@@ -13,7 +13,8 @@ const USAGE: &str =
     "usage: oracle [--list] [--start] [--batch] [--whole-counts] [--confirm-panics] [--messages] [--time N]
        oracle --itself [--batch] [--whole-counts] [--no-memory]
   A run on standard input, document 01's output on standard output.
-  --list            go on after a refusal, and print the open frames last (f)
+  --list            go on after a refusal, take any number of words behind a fourth, and print the open frames
+                    last (f)
   --start           before the run stand a 32-bit length and a text of that length: memory and frames to start
                     from, in the lines that --list prints last (a, d, n, f)
   --batch           many runs, each as a 32-bit length in bytes, most significant first, and its bytes;
