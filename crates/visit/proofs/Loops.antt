@@ -34,6 +34,27 @@ module _ (row out : List ℕ) (fits : length row ≤ length out) where
   pub copied-all : (i : ℕ) → i ≡ length row → copiedTo i ≡ row ++ drop (length row) out
   copied-all i e = ap copiedTo e ∙ ap (λ (l : List ℕ). l ++ drop (length row) out) (take-append-seam row (drop (length row) out))
 
+-- ---- each element of row changed in place into that of target
+module _ (row target : List ℕ) (same : length target ≡ length row) where
+  -- the elements before i are changed
+  abbrev pub changedTo : ℕ → List ℕ
+  changedTo i = take i target ++ drop i row
+
+  pub changed-to-length : (i : ℕ) → i ≤ length row → length (changedTo i) ≡ length row
+  changed-to-length i l =
+      length-append (take i target) (drop i row) ∙ rw (length-take-le i target (omega (arith, same)), length-drop i row) (omega arith)
+
+  pub not-yet : (i : ℕ) → i < length row → (now : List ℕ) → now ≡ changedTo i → getD now i 0 ≡ getD row i 0
+  not-yet i l now e = ap (λ (m : List ℕ). getD m i 0) e ∙ loop-get target row 0 i same l
+
+  pub change-turn : (i : ℕ) → i < length row → (now after : List ℕ) → now ≡ changedTo i → after ≡ set now i (getD target i 0) → after ≡ changedTo (i + 1)
+  change-turn i l now after e s =
+      s ∙ ap (λ (m : List ℕ). set m i (getD target i 0)) e ∙ loop-set target row 0 i same l ∙ ap changedTo (sym (add-one i))
+
+  pub changed-all : (i : ℕ) → i ≡ length row → changedTo i ≡ target
+  changed-all i e =
+      ap₂ (λ (a b : List ℕ). a ++ b) (take-all i target (omega (arith, same))) (drop-of-length-le row {i = i} (omega arith)) ∙ append-nil target
+
 -- ---- f of each element, in place
 map-at : (f : ℕ → ℕ) (l : List ℕ) (i : ℕ) → i < length l → getD (map f l) i 0 ≡ f (getD l i 0)
 map-at f [] i h = absurd (omega arith)

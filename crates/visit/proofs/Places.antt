@@ -1,10 +1,10 @@
 -- Where the rows of a table stand.
 use Prim.Native.Nat.{ℕ, _+_, _-_, _*_, _≤_, _<_}
 use mathlib.Core.Path.{_≡_, sym, ap, ap₂, subst⁻¹, _∙_}
-use mathlib.Core.List.{List, _++_}
+use mathlib.Core.List.{List, _++_, append-assoc}
 use native.Mathlib.Omega.{arith}
 use lib.ListN.{length, take, drop, length-drop, take-append-drop}
-use lib.Seq.{length-take-le, take-at}
+use lib.Seq.{length-take-le, take-at, take-take, take-add, take-append-le, drop-append-le, drop-drop}
 use Rattle.definition.specs.Tree.{relation}
 use Rattle.definition.proofs.Parts.{row-fits}
 use Rattle.visit.specs.declared.Answer.{Answer}
@@ -27,6 +27,41 @@ pub put-back : (f : List ℕ → List ℕ) (w n : ℕ) (codes row : List ℕ) �
     → take (n * w) codes ++ (row ++ drop (n * w + w - n * w) (drop (n * w) codes)) ≡ withRowAt w n (f (rowAt w n codes)) codes
 put-back f w n codes row e =
     ap₂ (λ (r : List ℕ) (k : ℕ). take (n * w) codes ++ (r ++ drop k (drop (n * w) codes))) (e ∙ ap f (part-row w n codes)) (width-of (n * w) w)
+
+-- the part that is lent as the visited bytes of row n, and the table when it is given back changed
+module _ (w n from len : ℕ) (codes : List ℕ) (fits : n * w + w ≤ length codes) (inside : from + len ≤ w) where
+  abbrev at : ℕ
+  at = n * w + from
+
+  abbrev rest : List ℕ
+  rest = drop (n * w) codes
+
+  abbrev row : List ℕ
+  row = rowAt w n codes
+
+  wide : length row ≡ w
+  wide = length-take-le w rest (omega (arith, length-drop (n * w) codes))
+
+  -- the bytes from there on: those of the row, and the rows behind it
+  from-there : drop at codes ≡ drop from row ++ drop w rest
+  from-there =
+      sym (drop-drop from (n * w) codes)
+      ∙ ap (drop from) (sym (take-append-drop w rest))
+      ∙ drop-append-le from row (drop w rest) (omega (arith, wide))
+
+  many : len ≤ length (drop from row)
+  many = omega (arith, length-drop from row, wide)
+
+  pub part-bytes : take (at + len - at) (drop at codes) ≡ take len (drop from row)
+  part-bytes = ap₂ (λ (k : ℕ) (cs : List ℕ). take k cs) (width-of at len) from-there ∙ take-append-le len (drop from row) (drop w rest) many
+
+  pub put-bytes : (given : List ℕ) → take at codes ++ (given ++ drop (at + len - at) (drop at codes)) ≡ withRowAt w n (take from row ++ (given ++ drop len (drop from row))) codes
+  put-bytes given =
+      let before : take at codes ≡ take (n * w) codes ++ take from row =
+      take-add (n * w) from codes ∙ ap (λ (l : List ℕ). take (n * w) codes ++ l) (sym (take-take from w rest (omega arith))) in
+      let behind : drop (at + len - at) (drop at codes) ≡ drop len (drop from row) ++ drop w rest =
+      ap₂ (λ (k : ℕ) (cs : List ℕ). drop k cs) (width-of at len) from-there ∙ drop-append-le len (drop from row) (drop w rest) many in
+      ap₂ (λ (l r : List ℕ). l ++ (given ++ r)) before behind ∙ simp append-assoc
 
 -- a row that is put back as it was
 pub same-row : (w n : ℕ) (codes : List ℕ) → withRowAt w n (rowAt w n codes) codes ≡ codes

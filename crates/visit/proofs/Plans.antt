@@ -1,4 +1,4 @@
--- How a plan is made: the children are linked from the last node down, and the path is marked from the accessed node up.
+-- How a plan is made, from the last node down: each node is linked in front of the children of its parent, and marked if it is on the path.
 use Prim.Native.Nat.{ℕ, _+_, _*_, _≤_, _<_}
 use mathlib.Core.Path.{_≡_, refl, sym, ap, subst, _∙_}
 use mathlib.Core.Bool.{Bool, true, false, not, _||_, or-true, or-false}
@@ -6,16 +6,16 @@ use mathlib.Core.List.{List, _++_}
 use native.Mathlib.Nat.{le-refl, min-le-left}
 use native.Mathlib.Decide.{ℕ-discrete, decLt}
 use native.Mathlib.Omega.{arith}
-use borrow.Author.Tests.{ne-eqb}
+use borrow.Author.Tests.{eq-eqb, ne-eqb}
 use lib.Dec.{eqb}
-use lib.ListN.{length, getD, take, drop, set, replicate, getD-replicate, length-replicate, length-take, List·getD-eq-default}
+use lib.ListN.{length, getD, take, drop, set, replicate, getD-replicate, length-replicate, length-set, length-take, List·getD-eq-default}
 use lib.Seq.{getD-set-same, getD-set-other, getD-take, length-take-le, take-at}
 use Rattle.definition.specs.Notation.{if_then_else_}
 use Rattle.definition.specs.Permission.NodeRelation.{Local, Foreign}
 use Rattle.definition.specs.Tree.{relation, isAbove}
 use Rattle.definition.proofs.Trees.{Parents, above-itself, above-parent, not-above-smaller}
 use Rattle.visit.specs.declared.Reach.{Reach}
-use Rattle.visit.specs.Plan.{childFrom, Linked, Marked, Planned, Zeros, Roomy, Unmarked, SameLinks}
+use Rattle.visit.specs.Plan.{childFrom, linkedIn, Linked, Marked, Planned, Zeros, Roomy}
 use Rattle.visit.proofs.Children.{search-here, search-spared, search-other, search-end, search-from, sibling-root, sibling-at}
 
 -- ---- the links
@@ -24,12 +24,11 @@ pub record Linking (s : ℕ) (ps plan : List ℕ) (m : ℕ) : Type 0 where
   pub first : (k : ℕ) → k < length ps → getD plan (3 * k) 0 ≡ childFrom s k m (drop m ps)
   pub next : (k : ℕ) → m ≤ k → k < length ps → getD plan (3 * k + 1) 0 ≡ childFrom s (getD ps k 0) (k + 1) (drop (k + 1) ps)
   pub root : getD plan 1 0 ≡ 0
-  pub unmarked : Unmarked plan
 
 module _ (s : ℕ) (ps : List ℕ) where
   pub linking-none : (plan : List ℕ) → Zeros plan → Linking s ps plan (length ps)
   linking-none plan z =
-      record { first = λ k l. z (3 * k) ∙ sym (search-end s ps k (length ps) (le-refl (length ps))); next = λ k h l. absurd (omega arith); root = z 1; unmarked = λ k. z (3 * k + 2) }
+      record { first = λ k l. z (3 * k) ∙ sym (search-end s ps k (length ps) (le-refl (length ps))); next = λ k h l. absurd (omega arith); root = z 1 }
 
   pub linked : Parents ps → (plan : List ℕ) → (m : ℕ) → m ≤ 1 → (0 < length ps → 0 < m) → Linking s ps plan m → Linked s ps plan
   linked tree plan m h z links =
@@ -64,10 +63,7 @@ module _ (s : ℕ) (ps : List ℕ) where
     root-kept : getD followed 1 0 ≡ 0
     root-kept = getD-set-other plan (3 * m + 1) 1 _ 0 (λ r. absurd (omega arith)) ∙ links .root
 
-    unmarked-kept : Unmarked followed
-    unmarked-kept k = getD-set-other plan (3 * m + 1) (3 * k + 2) _ 0 (λ r. absurd (omega arith)) ∙ links .unmarked k
-
-    pub linked-spared : m ≡ s → Linking s ps followed m
+    linked-spared : m ≡ s → Linking s ps followed m
     linked-spared q =
         record {
           first = λ k i.
@@ -77,10 +73,9 @@ module _ (s : ℕ) (ps : List ℕ) where
               ];
           next = next-linked;
           root = root-kept;
-          unmarked = unmarked-kept;
         }
 
-    pub linked-first : (m ≡ s → ⊥) → length followed ≡ length plan → Linking s ps (set followed (3 * p) m) m
+    linked-first : (m ≡ s → ⊥) → length followed ≡ length plan → Linking s ps (set followed (3 * p) m) m
     linked-first q same =
         record {
           first = λ k i.
@@ -93,39 +88,61 @@ module _ (s : ℕ) (ps : List ℕ) where
               ];
           next = λ k h i. getD-set-other followed (3 * p) (3 * k + 1) m 0 (λ r. absurd (omega arith)) ∙ next-linked k h i;
           root = getD-set-other followed (3 * p) 1 m 0 (λ r. absurd (omega arith)) ∙ root-kept;
-          unmarked = λ k. getD-set-other followed (3 * p) (3 * k + 2) m 0 (λ r. absurd (omega arith)) ∙ unmarked-kept k;
         }
 
+    pub linked-at : Linking s ps (linkedIn s p m plan) m
+    linked-at = elim (ℕ-discrete m s) [
+      | yes q ↦ rw (eq-eqb m s q) (linked-spared q)
+      | no q ↦ rw (ne-eqb m s q) (linked-first q (length-set plan (3 * m + 1) (getD plan (3 * p) 0)))
+    ]
+
+-- the marks are as before
+pub marks-left : (s p m : ℕ) (plan : List ℕ) (k : ℕ) → getD (linkedIn s p m plan) (3 * k + 2) 0 ≡ getD plan (3 * k + 2) 0
+marks-left s p m plan k =
+    let followed = set plan (3 * m + 1) (getD plan (3 * p) 0) in
+    let kept : getD followed (3 * k + 2) 0 ≡ getD plan (3 * k + 2) 0 = getD-set-other plan (3 * m + 1) (3 * k + 2) _ 0 (λ r. absurd (omega arith)) in
+    elim (ℕ-discrete m s) [
+      | yes q ↦ rw (eq-eqb m s q) kept
+      | no q ↦ rw (ne-eqb m s q) (getD-set-other followed (3 * p) (3 * k + 2) m 0 (λ r. absurd (omega arith)) ∙ kept)
+    ]
+
+pub linked-length : (s p m : ℕ) (plan : List ℕ) → length (linkedIn s p m plan) ≡ length plan
+linked-length s p m plan =
+    let followed = set plan (3 * m + 1) (getD plan (3 * p) 0) in
+    let kept : length followed ≡ length plan = length-set plan (3 * m + 1) (getD plan (3 * p) 0) in
+    elim (ℕ-discrete m s) [
+      | yes q ↦ rw (eq-eqb m s q) kept
+      | no q ↦ rw (ne-eqb m s q) (length-set followed (3 * p) m ∙ kept)
+    ]
+
+-- the links are as before where a node is marked
+pub links-left : (s : ℕ) (ps plan : List ℕ) (m n : ℕ) → Linking s ps plan m → Linking s ps (set plan (3 * n + 2) 1) m
+links-left s ps plan m n links =
+    record {
+      first = λ k l. getD-set-other plan (3 * n + 2) (3 * k) 1 0 (λ r. absurd (omega arith)) ∙ links .first k l;
+      next = λ k h l. getD-set-other plan (3 * n + 2) (3 * k + 1) 1 0 (λ r. absurd (omega arith)) ∙ links .next k h l;
+      root = getD-set-other plan (3 * n + 2) 1 1 0 (λ r. absurd (omega arith)) ∙ links .root;
+    }
+
 -- ---- the path
--- what is marked, or lies above n, is what lies above the accessed node; the links are as before
-pub record Marking (ps : List ℕ) (accessed : ℕ) (before plan : List ℕ) (n : ℕ) : Type 0 where
-  pub path : (k : ℕ) → k < length ps → isAbove ps k accessed ≡ (not (eqb (getD plan (3 * k + 2) 0) 0) || isAbove ps k n)
-  pub same : SameLinks before plan
-
-pub same-links : (plan : List ℕ) → SameLinks plan plan
-same-links plan = record { first = λ k. refl; next = λ k. refl }
-
-pub links-kept : (s : ℕ) (ps before after : List ℕ) → SameLinks before after → Linked s ps before → Linked s ps after
-links-kept s ps before after same links = record { first = λ k l. same .first k ∙ links .first k l; next = λ k l. same .next k ∙ links .next k l }
+-- what is marked, or lies above n, is what lies above the accessed node
+abbrev pub Marking : List ℕ → ℕ → List ℕ → ℕ → Type 0
+Marking ps accessed plan n = (k : ℕ) → k < length ps → isAbove ps k accessed ≡ (not (eqb (getD plan (3 * k + 2) 0) 0) || isAbove ps k n)
 
 module _ (ps : List ℕ) (tree : Parents ps) (accessed : ℕ) where
-  pub marking-none : (plan : List ℕ) → Unmarked plan → Marking ps accessed plan plan accessed
-  marking-none plan z = record { path = λ k l. sym (rw (z k)); same = same-links plan }
+  pub marking-none : (plan : List ℕ) → Zeros plan → Marking ps accessed plan accessed
+  marking-none plan z k l = sym (rw (z (3 * k + 2)))
 
-  module _ (before plan : List ℕ) (n : ℕ) (l : 3 * n + 2 < length plan) (marks : Marking ps accessed before plan n) where
+  pub marking-linked : (s p m : ℕ) (plan : List ℕ) (n : ℕ) → Marking ps accessed plan n → Marking ps accessed (linkedIn s p m plan) n
+  marking-linked s p m plan n marks k l = marks k l ∙ ap (λ (x : ℕ). not (eqb x 0) || isAbove ps k n) (sym (marks-left s p m plan k))
+
+  module _ (plan : List ℕ) (n : ℕ) (l : 3 * n + 2 < length plan) (marks : Marking ps accessed plan n) where
     abbrev marked : List ℕ
     marked = set plan (3 * n + 2) 1
 
-    same-marked : SameLinks before marked
-    same-marked =
-        record {
-          first = λ k. getD-set-other plan (3 * n + 2) (3 * k) 1 0 (λ r. absurd (omega arith)) ∙ marks .same .first k;
-          next = λ k. getD-set-other plan (3 * n + 2) (3 * k + 1) 1 0 (λ r. absurd (omega arith)) ∙ marks .same .next k;
-        }
-
     -- n is marked, and lies above the accessed node
     here : n < length ps → isAbove ps n accessed ≡ true
-    here i = marks .path n i ∙ rw (above-itself ps n) (or-true (not (eqb (getD plan (3 * n + 2) 0) 0)))
+    here i = marks n i ∙ rw (above-itself ps n) (or-true (not (eqb (getD plan (3 * n + 2) 0) 0)))
 
     mark-here : not (eqb (getD marked (3 * n + 2) 0) 0) ≡ true
     mark-here = rw (getD-set-same plan (3 * n + 2) 1 0 l)
@@ -133,21 +150,17 @@ module _ (ps : List ℕ) (tree : Parents ps) (accessed : ℕ) where
     mark-other : (k : ℕ) → (k ≡ n → ⊥) → getD marked (3 * k + 2) 0 ≡ getD plan (3 * k + 2) 0
     mark-other k q = getD-set-other plan (3 * n + 2) (3 * k + 2) 1 0 (λ r. absurd (omega arith))
 
-    pub marked-up : 0 < n → (up : ℕ) → up ≡ getD ps n 0 → Marking ps accessed before marked up
-    marked-up z up e =
-        record {
-          path = λ k i.
-              elim (ℕ-discrete k n) [
-                | yes q ↦
-                    subst (λ (j : ℕ). isAbove ps j accessed ≡ (not (eqb (getD marked (3 * j + 2) 0) 0) || isAbove ps j up)) (sym q)
-                    (here (omega arith) ∙ sym (ap (λ (b : Bool). b || isAbove ps n up) mark-here))
-                | no q ↦
-                    marks .path k i
-                    ∙ ap (λ (b : Bool). not (eqb (getD plan (3 * k + 2) 0) 0) || b) (above-parent ps tree k n z ∙ rw (ne-eqb n k (λ r. q (sym r)), sym e))
-                    ∙ ap (λ (x : ℕ). not (eqb x 0) || isAbove ps k up) (sym (mark-other k q))
-              ];
-          same = same-marked;
-        }
+    pub marked-up : 0 < n → (up : ℕ) → up ≡ getD ps n 0 → Marking ps accessed marked up
+    marked-up z up e k i =
+        elim (ℕ-discrete k n) [
+          | yes q ↦
+              subst (λ (j : ℕ). isAbove ps j accessed ≡ (not (eqb (getD marked (3 * j + 2) 0) 0) || isAbove ps j up)) (sym q)
+              (here (omega arith) ∙ sym (ap (λ (b : Bool). b || isAbove ps n up) mark-here))
+          | no q ↦
+              marks k i
+              ∙ ap (λ (b : Bool). not (eqb (getD plan (3 * k + 2) 0) 0) || b) (above-parent ps tree k n z ∙ rw (ne-eqb n k (λ r. q (sym r)), sym e))
+              ∙ ap (λ (x : ℕ). not (eqb x 0) || isAbove ps k up) (sym (mark-other k q))
+        ]
 
     told : (up flag : Bool) → up ≡ not flag → (if up then Local else Foreign) ≡ (if flag then Foreign else Local)
     told true true e = cc
@@ -164,14 +177,11 @@ module _ (ps : List ℕ) (tree : Parents ps) (accessed : ℕ) where
           | yes q ↦
               subst (λ (j : ℕ). isAbove ps j accessed ≡ not (eqb (getD marked (3 * j + 2) 0) 0)) (sym q) (here (omega arith) ∙ sym mark-here)
           | no q ↦
-              marks .path k i
+              marks k i
               ∙ ap (λ (b : Bool). not (eqb (getD plan (3 * k + 2) 0) 0) || b) (not-above-smaller ps tree k n (omega arith))
               ∙ or-false (not (eqb (getD plan (3 * k + 2) 0) 0))
               ∙ ap (λ (x : ℕ). not (eqb x 0)) (sym (mark-other k q))
         ]))
-
-    pub marked-same : SameLinks before marked
-    marked-same = same-marked
 
 pub roomy-still : {ps plan after : List ℕ} → length after ≡ length plan → Roomy ps plan → Roomy ps after
 roomy-still e room = record { size = e ∙ room .size; few = room .few }

@@ -1,21 +1,19 @@
--- Codes under accesses: a part under one access, code by code; and a row under the accesses of a visit, part by part. What is left from a place on
--- tells of the whole.
-use Prim.Native.Nat.{ℕ, zero, suc, _+_, _-_, _≤_, _<_}
+-- Codes under accesses, byte by byte: what is left from a place on tells of the whole. The codes at the front that stay under one access; and the
+-- visited bytes in a row.
+use Prim.Native.Nat.{ℕ, zero, suc, _+_, _≤_, _<_}
 use mathlib.Core.Path.{_≡_, refl, sym, ap, ap₂, subst, _∙_}
-use mathlib.Core.Bool.{Bool, true, false}
+use mathlib.Core.Bool.{Bool, true, false, not}
 use mathlib.Core.Option.{Option, none, some}
-use mathlib.Core.List.{List, [], _∷_, _++_, map, append-assoc}
+use mathlib.Core.List.{List, [], _∷_, _++_, map}
 use native.Mathlib.Numerals.{add-one}
-use native.Mathlib.Nat.{add-zero, min-le-left}
+use native.Mathlib.Nat.{min-le-left}
 use native.Mathlib.Omega.{arith}
 use lib.ListN.{length, getD, take, drop, set, replicate, getD-replicate, length-replicate, length-map, length-take, length-drop, take-append-drop, List·getD-map, drop-of-length-le}
-use lib.Seq.{getD-take, drop-drop, drop-cons, length-take-le, take-at, drop-at, take-append-add, drop-append-add, set-getD}
-use Rattle.definition.specs.Notation.{_or_, firstRefusal}
+use lib.Seq.{getD-take, drop-cons, length-take-le, set-getD}
+use Rattle.definition.specs.Notation.{if_then_else_, _or_}
 use Rattle.definition.specs.Permission.{AccessKind, NodeRelation}
 use Rattle.definition.specs.Permission.Permission.{Unprot}
 use Rattle.definition.specs.Permission.PermissionUnprot.{Cell}
-use Rattle.definition.proofs.Booleans.{or-assoc}
-use Rattle.definition.proofs.Lists.{loop-get, loop-set}
 use Rattle.permission.proofs.Codes.{end-access-code, init-access-code, stays-told, becomes-told, refused-told, refused-next, refused-some}
 use Rattle.permission.specs.Codes.{accessKind, transitionCode, refusalCode, nextCode, endAccessCode, initAccessCode}
 use Rattle.permission.specs.declared.AccessKind as declared
@@ -25,7 +23,8 @@ use Rattle.visit.specs.declared.Accesses.{Accesses}
 use Rattle.visit.specs.declared.Answer.{Answer}
 use Rattle.visit.specs.declared.Answer.the-variants as answer
 use Rattle.visit.specs.declared.Accesses.the-variants.{Each, AtEnd, AtInit}
-use Rattle.visit.specs.Walk.{Told, ToldPart, unrefused, accessAt, accessesAt, codesRefusal, codesAfter}
+use Rattle.visit.specs.declared.Reach.{Reach}
+use Rattle.visit.specs.Walk.{Told, ToldBytes, ToldRow, unrefused, accessAt, accessesAt, codesRefusal, codesAfter, outcomeAt, isStays, stayingUnder, stayingCount}
 use Rattle.visit.proofs.Steps.{no-refusal, no-change}
 
 abbrev isTrue : Bool → Type 0
@@ -39,75 +38,35 @@ isNone (some a) = ⊥
 pub true-not-false : true ≡ false → ⊥
 true-not-false e = subst isTrue e tt
 
+pub is-so : (b : Bool) → not b ≡ false → b ≡ true
+is-so true e = refl
+is-so false e = absurd (true-not-false e)
+
+is-not : (b : Bool) → not b ≡ true → b ≡ false
+is-not true e = absurd (true-not-false (sym e))
+is-not false e = refl
+
 pub or-positive : (n y : ℕ) → 0 < n → (n or y) ≡ n
 or-positive zero y h = absurd (omega arith)
 or-positive (suc n) y h = refl
 
--- ---- a part of a row, under one access
-module _ (a : AccessKind) (r : NodeRelation) where
-  abbrev refusal : ℕ → ℕ
-  refusal = refusalCode (some a) r
+-- ---- one code
+is-stays : (o : Outcome) → isStays o ≡ true → o ≡ Stays
+is-stays Stays e = refl
+is-stays (Becomes d) e = absurd (true-not-false (sym e))
+is-stays (Refused n) e = absurd (true-not-false (sym e))
 
-  abbrev next : ℕ → ℕ
-  next = nextCode (some a) r
+pub at-stays : (x : Option AccessKind) (r : NodeRelation) (c : ℕ) → outcomeAt x r c ≡ Stays → (refusalCode x r c ≡ 0) × (nextCode x r c ≡ c)
+at-stays none r c e = (no-refusal r c, no-change r c)
+at-stays (some a) r c e = stays-told a r c e
 
-  -- the check is at the k-th code
-  abbrev pub PartAt : List ℕ → ℕ → Bool → Type 0
-  PartAt row k changes = (firstRefusal refusal (drop k row) ≡ firstRefusal refusal row) × (changes ≡ false → drop k row ≡ map next (drop k row) → row ≡ map next row)
+pub at-becomes : (x : Option AccessKind) (r : NodeRelation) (c d : ℕ) → outcomeAt x r c ≡ Becomes d → (refusalCode x r c ≡ 0) × (nextCode x r c ≡ d)
+at-becomes none r c d e = absurd (true-not-false (ap isStays e))
+at-becomes (some a) r c d e = becomes-told a r c d e
 
-  pub part-start : (row : List ℕ) → PartAt row 0 false
-  part-start row = (refl, λ z h. h)
-
-  pub part-done : (row : List ℕ) (k : ℕ) (changes : Bool) → length row ≤ k → PartAt row k changes → ToldPart (some a) r row (unrefused changes)
-  unfolding firstRefusal
-  part-done row k true l told = sym (told .0) ∙ ap (firstRefusal refusal) (drop-of-length-le row l)
-  part-done row k false l told =
-      (sym (told .0) ∙ ap (firstRefusal refusal) (drop-of-length-le row l), told .1 refl (rw (drop-of-length-le row {i = k} l)))
-
-  module _ (row : List ℕ) (k : ℕ) (l : k < length row) (o : Outcome) (t : o ≡ transitionCode a r (getD row k 0)) where
-    -- the code and those behind it
-    here : drop k row ≡ getD row k 0 ∷ drop (k + 1) row
-    here = rw (add-one k) (drop-cons row k 0 l)
-
-    refusal-here : firstRefusal refusal (drop k row) ≡ (refusal (getD row k 0) or firstRefusal refusal (drop (k + 1) row))
-    unfolding firstRefusal
-    refusal-here = ap (firstRefusal refusal) here
-
-    module _ (changes : Bool) (told : PartAt row k changes) where
-      passed : refusal (getD row k 0) ≡ 0 → firstRefusal refusal (drop (k + 1) row) ≡ firstRefusal refusal row
-      passed z = sym (refusal-here ∙ ap (λ (n : ℕ). n or firstRefusal refusal (drop (k + 1) row)) z) ∙ told .0
-
-      pub part-stays : (changes′ : Bool) → o ≡ Stays → changes′ ≡ changes → PartAt row (k + 1) changes′
-      part-stays changes′ e q =
-          let s = stays-told a r (getD row k 0) (sym t ∙ e) in
-          (passed (s .0), λ z h. told .1 (sym q ∙ z) (here ∙ ap₂ (λ (c : ℕ) (cs : List ℕ). c ∷ cs) (sym (s .1)) h ∙ sym (ap (map next) here)))
-
-      pub part-becomes : (d : ℕ) (changes′ : Bool) → o ≡ Becomes d → changes′ ≡ true → PartAt row (k + 1) changes′
-      part-becomes d changes′ e q = (passed (becomes-told a r (getD row k 0) d (sym t ∙ e) .0), λ z h. absurd (true-not-false (sym q ∙ z)))
-
-      pub part-refused : (n : ℕ) → o ≡ Refused n → ToldPart (some a) r row (answer.Refused n)
-      part-refused n e =
-          let some = refused-some a r (getD row k 0) n (sym t ∙ e) in
-          (sym (refusal-here ∙ ap (λ (m : ℕ). m or firstRefusal refusal (drop (k + 1) row)) (refused-told a r (getD row k 0) n (sym t ∙ e)) ∙ or-positive n _ (omega (arith, some))) ∙ told .0, some)
-
-  -- a turn of the change, at the k-th code
-  module _ (now after : List ℕ) (k : ℕ) (o : Outcome) (t : o ≡ transitionCode a r (getD now k 0)) where
-    pub turn-stays : o ≡ Stays → after ≡ now → after ≡ set now k (next (getD now k 0))
-    turn-stays e s = s ∙ sym (ap (set now k) (stays-told a r (getD now k 0) (sym t ∙ e) .1) ∙ set-getD now k 0)
-
-    pub turn-becomes : (d : ℕ) → o ≡ Becomes d → after ≡ set now k d → after ≡ set now k (next (getD now k 0))
-    turn-becomes d e s = s ∙ ap (set now k) (sym (becomes-told a r (getD now k 0) d (sym t ∙ e) .1))
-
-    pub turn-refused : (n : ℕ) → o ≡ Refused n → after ≡ now → after ≡ set now k (next (getD now k 0))
-    turn-refused n e s = s ∙ sym (ap (set now k) (refused-next a r (getD now k 0) n (sym t ∙ e)) ∙ set-getD now k 0)
-
--- nothing is asked of a part without an access
-pub part-untouched : (r : NodeRelation) (row : List ℕ) → ToldPart none r row answer.Stays
-unfolding firstRefusal
-part-untouched r [] = (refl, refl)
-part-untouched r (c ∷ row) =
-    let rest = part-untouched r row in
-    (ap (λ (n : ℕ). n or firstRefusal (refusalCode none r) row) (no-refusal r c) ∙ rest .0, ap₂ (λ (d : ℕ) (cs : List ℕ). d ∷ cs) (sym (no-change r c)) (rest .1))
+pub at-refused : (x : Option AccessKind) (r : NodeRelation) (c n : ℕ) → outcomeAt x r c ≡ Refused n → (refusalCode x r c ≡ n) × (nextCode x r c ≡ c) × (n ≡ 0 → ⊥)
+at-refused none r c n e = absurd (true-not-false (ap isStays e))
+at-refused (some a) r c n e = (refused-told a r c n e, refused-next a r c n e, refused-some a r c n e)
 
 -- ---- the accesses of a visit
 pub planned-at : (what : Accesses) (n : ℕ) (starts : List ℕ) (k : ℕ) → k < n → getD (accessesAt what n starts) k none ≡ accessAt what starts k
@@ -116,7 +75,7 @@ planned-at (Each a) n starts k l = getD-replicate n k (some (accessKind a)) none
 planned-at AtEnd n starts k l = List·getD-map endAccessCode (take n starts) k 0 ∙ ap endAccessCode (getD-take n starts k 0 l)
 planned-at AtInit n starts k l = List·getD-map initAccessCode (take n starts) k 0 ∙ ap initAccessCode (getD-take n starts k 0 l)
 
-planned-length : (what : Accesses) (n : ℕ) (starts : List ℕ) → length (accessesAt what n starts) ≤ n
+pub planned-length : (what : Accesses) (n : ℕ) (starts : List ℕ) → length (accessesAt what n starts) ≤ n
 planned-length (Each a) n starts = omega (arith, length-replicate n (some (accessKind a)))
 planned-length AtEnd n starts = omega (arith, length-map (take n starts) endAccessCode, length-take n starts, min-le-left n (length starts))
 planned-length AtInit n starts = omega (arith, length-map (take n starts) initAccessCode, length-take n starts, min-le-left n (length starts))
@@ -129,11 +88,11 @@ same-each f z a (suc n) [] h = absurd (subst isNone (sym z ∙ h 0 (omega arith)
 same-each f z a (suc n) (c ∷ starts) h =
     ap₂ (λ (x : Option AccessKind) (xs : List (Option AccessKind)). x ∷ xs) (sym (h 0 (omega arith))) (same-each f z a n starts (λ i l. h (suc i) (omega arith)))
 
-pub all-alike : (what : Accesses) (n : ℕ) (starts : List ℕ) (kind : declared.AccessKind)
-    → ((i : ℕ) → i < n → accessAt what starts i ≡ some (accessKind kind)) → 0 < n → accessesAt (Each kind) n starts ≡ accessesAt what n starts
-all-alike (Each a) n starts kind h z = ap (replicate n) (sym (h 0 z))
-all-alike AtEnd n starts kind h z = same-each endAccessCode (end-access-code (Unprot Cell)) (accessKind kind) n starts h
-all-alike AtInit n starts kind h z = same-each initAccessCode (init-access-code (Unprot Cell)) (accessKind kind) n starts h
+pub all-alike : (what : Accesses) (n : ℕ) (starts : List ℕ) (kind : declared.AccessKind) → accessAt what starts 0 ≡ some (accessKind kind)
+    → ((i : ℕ) → i < n → getD starts i 0 ≡ getD starts 0 0) → accessesAt (Each kind) n starts ≡ accessesAt what n starts
+all-alike (Each a) n starts kind e h = ap (replicate n) (sym e)
+all-alike AtEnd n starts kind e h = same-each endAccessCode (end-access-code (Unprot Cell)) (accessKind kind) n starts (λ i l. ap endAccessCode (h i l) ∙ e)
+all-alike AtInit n starts kind e h = same-each initAccessCode (init-access-code (Unprot Cell)) (accessKind kind) n starts (λ i l. ap initAccessCode (h i l) ∙ e)
 
 -- ---- codes under accesses
 module _ (r : NodeRelation) where
@@ -170,188 +129,217 @@ module _ (r : NodeRelation) where
   after-first (x ∷ xs) zero c cs = refl
   after-first (x ∷ xs) (suc k) c cs = after-first xs k c cs
 
-  -- the first s codes, under one access: that of the k-th and the following
-  module _ (xs : List (Option AccessKind)) (x : Option AccessKind) where
-    abbrev pub Same : ℕ → ℕ → Type 0
-    Same k s = (i : ℕ) → k ≤ i → i < k + s → getD xs i none ≡ x
+  -- the k-th code, as the accesses leave it
+  pub after-at : (xs : List (Option AccessKind)) (cs : List ℕ) (k : ℕ) → k < length cs → getD (codesAfter r xs cs) k 0 ≡ nextCode (getD xs k none) r (getD cs k 0)
+  unfolding codesAfter
+  after-at xs [] k l = absurd (omega arith)
+  after-at [] (c ∷ cs) zero l = sym (no-change r c)
+  after-at [] (c ∷ cs) (suc k) l = sym (no-change r (getD cs k 0))
+  after-at (x ∷ xs) (c ∷ cs) zero l = refl
+  after-at (x ∷ xs) (c ∷ cs) (suc k) l = after-at xs cs k (omega arith)
 
-    later : (k s : ℕ) → Same k (suc s) → Same (suc k) s
-    later k s same i l h = same i (omega arith) (omega arith)
+  -- accesses of at most n codes
+  pub refusal-short : (xs : List (Option AccessKind)) (cs : List ℕ) (n : ℕ) → length xs ≤ n → codesRefusal r xs (take n cs) ≡ codesRefusal r xs cs
+  unfolding codesRefusal
+  refusal-short xs [] zero l = refl
+  refusal-short xs [] (suc n) l = refl
+  refusal-short [] (c ∷ cs) zero l = refl
+  refusal-short [] (c ∷ cs) (suc n) l = refl
+  refusal-short (x ∷ xs) (c ∷ cs) zero l = absurd (omega arith)
+  refusal-short (x ∷ xs) (c ∷ cs) (suc n) l = ap (λ (m : ℕ). refusalCode x r c or m) (refusal-short xs cs n (omega arith))
 
-    pub refusal-part : (s k : ℕ) → Same k s → (cs : List ℕ) → s ≤ length cs
-        → codesRefusal r (drop k xs) cs ≡ (firstRefusal (refusalCode x r) (take s cs) or codesRefusal r (drop (k + s) xs) (drop s cs))
-    unfolding firstRefusal
-    refusal-part zero k same cs l = rw (add-zero k)
-    refusal-part (suc s) k same [] l = absurd (omega arith)
-    refusal-part (suc s) k same (c ∷ cs) l =
-        let place : suc k + s ≡ k + suc s = omega arith in
-        refusal-first xs k c cs
-        ∙ ap₂ (λ (y : Option AccessKind) (n : ℕ). refusalCode y r c or n) (same k (omega arith) (omega arith)) (refusal-part s (suc k) (later k s same) cs (omega arith) ∙ ap (λ (i : ℕ). firstRefusal (refusalCode x r) (take s cs) or codesRefusal r (drop i xs) (drop s cs)) place)
-        ∙ sym (or-assoc (refusalCode x r c) (firstRefusal (refusalCode x r) (take s cs)) (codesRefusal r (drop (k + suc s) xs) (drop s cs)))
+  pub after-short : (xs : List (Option AccessKind)) (cs : List ℕ) (n : ℕ) → length xs ≤ n → codesAfter r xs cs ≡ codesAfter r xs (take n cs) ++ drop n cs
+  unfolding codesAfter
+  after-short xs [] zero l = refl
+  after-short xs [] (suc n) l = refl
+  after-short [] (c ∷ cs) zero l = refl
+  after-short [] (c ∷ cs) (suc n) l = ap (λ (ds : List ℕ). c ∷ ds) (sym (take-append-drop n cs))
+  after-short (x ∷ xs) (c ∷ cs) zero l = absurd (omega arith)
+  after-short (x ∷ xs) (c ∷ cs) (suc n) l = ap (λ (ds : List ℕ). nextCode x r c ∷ ds) (after-short xs cs n (omega arith))
 
-    pub after-part : (s k : ℕ) → Same k s → (cs : List ℕ) → s ≤ length cs
-        → codesAfter r (drop k xs) cs ≡ map (nextCode x r) (take s cs) ++ codesAfter r (drop (k + s) xs) (drop s cs)
-    after-part zero k same cs l = rw (add-zero k)
-    after-part (suc s) k same [] l = absurd (omega arith)
-    after-part (suc s) k same (c ∷ cs) l =
-        let place : suc k + s ≡ k + suc s = omega arith in
-        after-first xs k c cs
-        ∙ ap₂ (λ (y : Option AccessKind) (ds : List ℕ). nextCode y r c ∷ ds) (same k (omega arith) (omega arith)) (after-part s (suc k) (later k s same) cs (omega arith) ∙ ap (λ (i : ℕ). map (nextCode x r) (take s cs) ++ codesAfter r (drop i xs) (drop s cs)) place)
+  -- ---- a check, byte by byte
+  module _ (xs : List (Option AccessKind)) (cs : List ℕ) where
+    -- it is at the k-th
+    abbrev pub BytesAt : ℕ → Bool → Type 0
+    BytesAt k changes =
+        (codesRefusal r (drop k xs) (drop k cs) ≡ codesRefusal r xs cs) × (changes ≡ false → codesAfter r (drop k xs) (drop k cs) ≡ drop k cs → codesAfter r xs cs ≡ cs)
 
--- ---- a row, part by part
-module _ (what : Accesses) (from len : ℕ) (starts : List ℕ) (r : NodeRelation) where
-  abbrev plan : List (Option AccessKind)
-  plan = accessesAt what len starts
+    abbrev pub Bytes : Answer → Type 0
+    Bytes = Told (codesRefusal r xs cs) cs (codesAfter r xs cs)
 
-  abbrev refusalFrom : ℕ → List ℕ → ℕ
-  refusalFrom k cs = codesRefusal r (drop k plan) cs
+    pub bytes-start : BytesAt 0 false
+    bytes-start = (refl, λ z h. h)
 
-  abbrev afterFrom : ℕ → List ℕ → List ℕ
-  afterFrom k cs = codesAfter r (drop k plan) cs
-
-  no-plan : (k : ℕ) → len ≤ k → drop k plan ≡ []
-  no-plan k l = drop-of-length-le plan {i = k} (omega (arith, planned-length what len starts))
-
-  -- bytes from k up to e have one access
-  abbrev pub Alike : ℕ → ℕ → Type 0
-  Alike k e = (k < e) × (e ≤ len) × ((i : ℕ) → k ≤ i → i < e → accessAt what starts i ≡ accessAt what starts k)
-
-  same : (k e : ℕ) → Alike k e → Same r plan (accessAt what starts k) k (e - k)
-  same k e alike i l h =
-      planned-at what len starts i (omega (arith, alike .0, alike .1)) ∙ alike .2 i l (omega (arith, alike .0))
-
-  abbrev pub Row : List ℕ → Answer → Type 0
-  Row row = Told (codesRefusal r plan (drop from row)) row (take from row ++ codesAfter r plan (drop from row))
-
-  module _ (row : List ℕ) where
-    abbrev bytes : List ℕ
-    bytes = drop from row
-
-    -- the check is at the k-th byte
-    abbrev pub RowAt : ℕ → Bool → Type 0
-    RowAt k changes =
-        (refusalFrom k (drop k bytes) ≡ codesRefusal r plan bytes) × (changes ≡ false → afterFrom k (drop k bytes) ≡ drop k bytes → codesAfter r plan bytes ≡ bytes)
-
-    pub row-start : RowAt 0 false
-    row-start = (refl, λ z h. h)
-
-    pub row-done : (k : ℕ) (changes : Bool) → len ≤ k → RowAt k changes → Row row (unrefused changes)
-    row-done k true l told = sym (told .0) ∙ ap (λ (xs : List (Option AccessKind)). codesRefusal r xs (drop k bytes)) (no-plan k l) ∙ nothing-refused r (drop k bytes)
-    row-done k false l told = (
-      sym (told .0) ∙ ap (λ (xs : List (Option AccessKind)). codesRefusal r xs (drop k bytes)) (no-plan k l) ∙ nothing-refused r (drop k bytes),
-      sym
-          (ap (λ (cs : List ℕ). take from row ++ cs) (told .1 refl (ap (λ (xs : List (Option AccessKind)). codesAfter r xs (drop k bytes)) (no-plan k l) ∙ nothing-changed r (drop k bytes)))
-          ∙ take-append-drop from row),
+    pub bytes-done : (k : ℕ) (changes : Bool) → length cs ≤ k → BytesAt k changes → Bytes (unrefused changes)
+    unfolding codesRefusal codesAfter
+    bytes-done k true l told = sym (told .0) ∙ ap (codesRefusal r (drop k xs)) (drop-of-length-le cs l)
+    bytes-done k false l told = (
+      sym (told .0) ∙ ap (codesRefusal r (drop k xs)) (drop-of-length-le cs l),
+      sym (told .1 refl (ap (codesAfter r (drop k xs)) (drop-of-length-le cs l) ∙ sym (drop-of-length-le cs {i = k} l))),
     )
 
-    module _ (fits : from + len ≤ length row) (k e : ℕ) (alike : Alike k e) where
-      abbrev size : ℕ
-      size = from + e - (from + k)
-
-      -- the part that is lent
-      abbrev pub part : List ℕ
-      part = take size (drop (from + k) row)
-
-      size-is : size ≡ e - k
-      size-is = omega (arith, alike .0)
-
-      end-is : k + (e - k) ≡ e
-      end-is = omega (arith, alike .0)
-
-      part-is : part ≡ take (e - k) (drop k bytes)
-      part-is = ap₂ (λ (n : ℕ) (cs : List ℕ). take n cs) size-is (sym (drop-drop k from row))
-
-      rest-is : drop (e - k) (drop k bytes) ≡ drop e bytes
-      rest-is = drop-drop (e - k) k bytes ∙ ap (λ (i : ℕ). drop i bytes) end-is
-
-      long : e - k ≤ length (drop k bytes)
-      long = omega (arith, alike .0, alike .1, length-drop k bytes, length-drop from row)
-
+    module _ (k : ℕ) (l : k < length cs) (o : Outcome) (t : o ≡ outcomeAt (getD xs k none) r (getD cs k 0)) where
       abbrev x : Option AccessKind
-      x = accessAt what starts k
+      x = getD xs k none
 
-      refused-there : refusalFrom k (drop k bytes) ≡ (firstRefusal (refusalCode x r) part or refusalFrom e (drop e bytes))
-      refused-there =
-          refusal-part r plan x (e - k) k (same k e alike) (drop k bytes) long
-          ∙ ap₂ (λ (p : List ℕ) (n : ℕ). firstRefusal (refusalCode x r) p or n) (sym part-is) (ap₂ (λ (i : ℕ) (cs : List ℕ). refusalFrom i cs) end-is rest-is)
+      abbrev c : ℕ
+      c = getD cs k 0
 
-      changed-there : afterFrom k (drop k bytes) ≡ map (nextCode x r) part ++ afterFrom e (drop e bytes)
-      changed-there =
-          after-part r plan x (e - k) k (same k e alike) (drop k bytes) long
-          ∙ ap₂ (λ (p cs : List ℕ). map (nextCode x r) p ++ cs) (sym part-is) (ap₂ (λ (i : ℕ) (cs : List ℕ). afterFrom i cs) end-is rest-is)
+      -- the code and those behind it
+      here : drop k cs ≡ c ∷ drop (k + 1) cs
+      here = rw (add-one k) (drop-cons cs k 0 l)
 
-      split : drop k bytes ≡ part ++ drop e bytes
-      split = sym (ap₂ (λ (p cs : List ℕ). p ++ cs) part-is (sym rest-is) ∙ take-append-drop (e - k) (drop k bytes))
+      refusal-here : codesRefusal r (drop k xs) (drop k cs) ≡ (refusalCode x r c or codesRefusal r (drop (k + 1) xs) (drop (k + 1) cs))
+      refusal-here = ap (codesRefusal r (drop k xs)) here ∙ rw (add-one k) (refusal-first xs k c (drop (suc k) cs))
 
-      module _ (changes : Bool) (told : RowAt k changes) (given : Answer) (t : ToldPart x r part given) where
-        passed-part : firstRefusal (refusalCode x r) part ≡ 0 → refusalFrom e (drop e bytes) ≡ codesRefusal r plan bytes
-        passed-part z = sym (refused-there ∙ ap (λ (n : ℕ). n or refusalFrom e (drop e bytes)) z) ∙ told .0
+      after-here : codesAfter r (drop k xs) (drop k cs) ≡ nextCode x r c ∷ codesAfter r (drop (k + 1) xs) (drop (k + 1) cs)
+      after-here = ap (codesAfter r (drop k xs)) here ∙ rw (add-one k) (after-first xs k c (drop (suc k) cs))
 
-        pub row-stays : (changes′ : Bool) → given ≡ answer.Stays → changes′ ≡ changes → RowAt e changes′
-        row-stays changes′ g q =
-            let u = subst (ToldPart x r part) g t in
-            (passed-part (u .0), λ z h. told .1 (sym q ∙ z) (changed-there ∙ ap₂ (λ (p cs : List ℕ). p ++ cs) (sym (u .1)) h ∙ sym split))
+      module _ (changes : Bool) (told : BytesAt k changes) where
+        passed : refusalCode x r c ≡ 0 → codesRefusal r (drop (k + 1) xs) (drop (k + 1) cs) ≡ codesRefusal r xs cs
+        passed z = sym (refusal-here ∙ ap (λ (n : ℕ). n or codesRefusal r (drop (k + 1) xs) (drop (k + 1) cs)) z) ∙ told .0
 
-        pub row-changes : (changes′ : Bool) → given ≡ answer.Changes → changes′ ≡ true → RowAt e changes′
-        row-changes changes′ g q = (passed-part (subst (ToldPart x r part) g t), λ z h. absurd (true-not-false (sym q ∙ z)))
+        pub byte-stays : (changes′ : Bool) → o ≡ Stays → changes′ ≡ changes → BytesAt (k + 1) changes′
+        byte-stays changes′ e q =
+            let s = at-stays x r c (sym t ∙ e) in
+            (passed (s .0), λ z h. told .1 (sym q ∙ z) (after-here ∙ ap₂ (λ (d : ℕ) (ds : List ℕ). d ∷ ds) (s .1) h ∙ sym here))
 
-        pub row-refused : (n : ℕ) → given ≡ answer.Refused n → Row row (answer.Refused n)
-        row-refused n g =
-            let u = subst (ToldPart x r part) g t in
-            (sym (refused-there ∙ ap (λ (m : ℕ). m or refusalFrom e (drop e bytes)) (sym (u .0)) ∙ or-positive n _ (omega (arith, u .1))) ∙ told .0, u .1)
+        pub byte-becomes : (d : ℕ) (changes′ : Bool) → o ≡ Becomes d → changes′ ≡ true → BytesAt (k + 1) changes′
+        byte-becomes d changes′ e q = (passed (at-becomes x r c d (sym t ∙ e) .0), λ z h. absurd (true-not-false (sym q ∙ z)))
 
-  -- the change is at the k-th byte: what is left of it
-  abbrev pub leftAt : ℕ → List ℕ → List ℕ
-  leftAt k row = take (from + k) row ++ afterFrom k (drop (from + k) row)
+        pub byte-refused : (n : ℕ) → o ≡ Refused n → Bytes (answer.Refused n)
+        byte-refused n e =
+            let f = at-refused x r c n (sym t ∙ e) in
+            (sym (refusal-here ∙ ap (λ (m : ℕ). m or codesRefusal r (drop (k + 1) xs) (drop (k + 1) cs)) (f .0) ∙ or-positive n _ (omega (arith, f .2))) ∙ told .0, f .2)
 
-  pub left-start : (row : List ℕ) → leftAt 0 row ≡ take from row ++ codesAfter r plan (drop from row)
-  left-start row = rw (add-zero from)
+-- ---- a turn of the change, at the k-th code
+module _ (x : Option AccessKind) (r : NodeRelation) (now after : List ℕ) (k : ℕ) (o : Outcome) (t : o ≡ outcomeAt x r (getD now k 0)) where
+  pub turn-stays : o ≡ Stays → after ≡ now → after ≡ set now k (nextCode x r (getD now k 0))
+  turn-stays e s = s ∙ sym (ap (set now k) (at-stays x r (getD now k 0) (sym t ∙ e) .1) ∙ set-getD now k 0)
 
-  pub left-done : (k : ℕ) → len ≤ k → (row : List ℕ) → leftAt k row ≡ row
-  left-done k l row =
-      ap (λ (cs : List ℕ). take (from + k) row ++ cs)
-      (ap (λ (xs : List (Option AccessKind)). codesAfter r xs (drop (from + k) row)) (no-plan k l) ∙ nothing-changed r (drop (from + k) row))
-      ∙ take-append-drop (from + k) row
+  pub turn-becomes : (d : ℕ) → o ≡ Becomes d → after ≡ set now k d → after ≡ set now k (nextCode x r (getD now k 0))
+  turn-becomes d e s = s ∙ ap (set now k) (sym (at-becomes x r (getD now k 0) d (sym t ∙ e) .1))
 
-  -- the part from k up to e is given back changed
-  module _ (row : List ℕ) (fits : from + len ≤ length row) (k e : ℕ) (alike : Alike k e) (given : List ℕ) where
-    abbrev at : ℕ
-    at = from + k
+  pub turn-refused : (n : ℕ) → o ≡ Refused n → after ≡ now → after ≡ set now k (nextCode x r (getD now k 0))
+  turn-refused n e s = s ∙ sym (ap (set now k) (at-refused x r (getD now k 0) n (sym t ∙ e) .1) ∙ set-getD now k 0)
 
-    abbrev many : ℕ
-    many = from + e - (from + k)
+-- ---- the codes at the front that stay under one access
+module _ (a : AccessKind) (r : NodeRelation) where
+  module _ (cs : List ℕ) (k : ℕ) (l : k < length cs) where
+    front : drop k cs ≡ getD cs k 0 ∷ drop (k + 1) cs
+    front = rw (add-one k) (drop-cons cs k 0 l)
 
-    many-is : many ≡ e - k
-    many-is = omega (arith, alike .0)
+    pub one-more : not (isStays (transitionCode a r (getD cs k 0))) ≡ false → stayingUnder a r (drop k cs) ≡ suc (stayingUnder a r (drop (k + 1) cs))
+    unfolding stayingUnder
+    one-more e = ap (stayingUnder a r) front ∙ rw (is-so (isStays (transitionCode a r (getD cs k 0))) e)
 
-    abbrev cs : List ℕ
-    cs = drop at row
+    pub no-more : not (isStays (transitionCode a r (getD cs k 0))) ≡ true → stayingUnder a r (drop k cs) ≡ 0
+    unfolding stayingUnder
+    no-more e = ap (stayingUnder a r) front ∙ rw (is-not (isStays (transitionCode a r (getD cs k 0))) e)
 
-    enough : e - k ≤ length cs
-    enough = omega (arith, alike .0, alike .1, length-drop at row)
+  pub none-left : (cs : List ℕ) (k : ℕ) → length cs ≤ k → stayingUnder a r (drop k cs) ≡ 0
+  unfolding stayingUnder
+  none-left cs k l = ap (stayingUnder a r) (drop-of-length-le cs l)
 
-    front : length (take at row) ≡ at
-    front = length-take-le at row (omega (arith, alike .0, alike .1))
+  no-longer : (b : Bool) (k n : ℕ) → k ≤ n → (if b then suc k else 0) ≤ suc n
+  no-longer true k n l = omega arith
+  no-longer false k n l = omega arith
 
-    abbrev after : List ℕ
-    after = take at row ++ (given ++ drop many cs)
+  pub staying-within : (cs : List ℕ) → stayingUnder a r cs ≤ length cs
+  unfolding stayingUnder
+  staying-within [] = omega arith
+  staying-within (c ∷ cs) = no-longer (isStays (transitionCode a r c)) (stayingUnder a r cs) (length cs) (staying-within cs)
 
-    pub left-part : given ≡ map (nextCode (accessAt what starts k) r) (take many cs) → leftAt e after ≡ leftAt k row
-    left-part g =
-        let n : ℕ = e - k in
-        let x = accessAt what starts k in
-        let long : length given ≡ n = ap length g ∙ length-map (take many cs) (nextCode x r) ∙ ap (λ (i : ℕ). length (take i cs)) many-is ∙ length-take-le n cs enough in
-        let place : from + e ≡ length (take at row) + n = omega (arith, front, alike .0) in
-        let behind : drop many cs ≡ drop n cs = ap (λ (i : ℕ). drop i cs) many-is in
-        let taken : take (from + e) after ≡ take at row ++ given =
-        ap (λ (i : ℕ). take i after) place ∙ take-append-add (take at row) (given ++ drop many cs) n
-        ∙ ap (λ (l : List ℕ). take at row ++ l) (take-at given (drop many cs) n long) in
-        let dropped : drop (from + e) after ≡ drop n cs =
-        ap (λ (i : ℕ). drop i after) place ∙ drop-append-add (take at row) (given ++ drop many cs) n
-        ∙ drop-at given (drop many cs) n long ∙ behind in
-        let changed : given ≡ map (nextCode x r) (take n cs) = g ∙ ap (λ (i : ℕ). map (nextCode x r) (take i cs)) many-is in
-        let end : k + n ≡ e = omega (arith, alike .0) in
-        ap₂ (λ (a b : List ℕ). a ++ afterFrom e b) taken dropped
-        ∙ append-assoc (take at row) given (afterFrom e (drop n cs))
-        ∙ ap (λ (l : List ℕ). take at row ++ l)
-        (ap₂ (λ (p : List ℕ) (i : ℕ). p ++ afterFrom i (drop n cs)) changed (sym end) ∙ sym (after-part r plan x n k (same k e alike) cs enough))
+  abbrev each : List ℕ → List (Option AccessKind)
+  each cs = replicate (length cs) (some a)
+
+  -- what they come to is what those behind the front come to
+  refusal-by : (c : ℕ) (cs : List ℕ) (b : Bool) (k : ℕ) → isStays (transitionCode a r c) ≡ b
+      → codesRefusal r (each cs) cs ≡ codesRefusal r (each (drop k cs)) (drop k cs)
+      → codesRefusal r (each (c ∷ cs)) (c ∷ cs) ≡ codesRefusal r (each (drop (if b then suc k else 0) (c ∷ cs))) (drop (if b then suc k else 0) (c ∷ cs))
+  unfolding codesRefusal
+  refusal-by c cs true k e rest = ap (λ (n : ℕ). n or codesRefusal r (each cs) cs) (stays-told a r c (is-stays (transitionCode a r c) e) .0) ∙ rest
+  refusal-by c cs false k e rest = refl
+
+  front-refusal : (cs : List ℕ) → codesRefusal r (each cs) cs ≡ codesRefusal r (each (drop (stayingUnder a r cs) cs)) (drop (stayingUnder a r cs) cs)
+  unfolding stayingUnder
+  front-refusal [] = refl
+  front-refusal (c ∷ cs) = refusal-by c cs (isStays (transitionCode a r c)) (stayingUnder a r cs) refl (front-refusal cs)
+
+  after-by : (c : ℕ) (cs : List ℕ) (b : Bool) (k : ℕ) → isStays (transitionCode a r c) ≡ b
+      → codesAfter r (each cs) cs ≡ take k cs ++ codesAfter r (each (drop k cs)) (drop k cs)
+      → codesAfter r (each (c ∷ cs)) (c ∷ cs) ≡ take (if b then suc k else 0) (c ∷ cs) ++ codesAfter r (each (drop (if b then suc k else 0) (c ∷ cs))) (drop (if b then suc k else 0) (c ∷ cs))
+  unfolding codesAfter
+  after-by c cs true k e rest = ap₂ (λ (d : ℕ) (ds : List ℕ). d ∷ ds) (stays-told a r c (is-stays (transitionCode a r c) e) .1) rest
+  after-by c cs false k e rest = refl
+
+  front-after : (cs : List ℕ) → codesAfter r (each cs) cs ≡ take (stayingUnder a r cs) cs ++ codesAfter r (each (drop (stayingUnder a r cs) cs)) (drop (stayingUnder a r cs) cs)
+  unfolding stayingUnder
+  front-after [] = refl
+  front-after (c ∷ cs) = after-by c cs (isStays (transitionCode a r c)) (stayingUnder a r cs) refl (front-after cs)
+
+  pub front-told : (cs : List ℕ) (given : Answer)
+      → Bytes r (each (drop (stayingUnder a r cs) cs)) (drop (stayingUnder a r cs) cs) given → Bytes r (each cs) cs given
+  front-told cs answer.Stays t = (
+    front-refusal cs ∙ t .0,
+    sym (front-after cs ∙ ap (λ (ds : List ℕ). take (stayingUnder a r cs) cs ++ ds) (sym (t .1)) ∙ take-append-drop (stayingUnder a r cs) cs),
+  )
+  front-told cs answer.Changes t = front-refusal cs ∙ t
+  front-told cs (answer.Refused n) t = (t .0 ∙ sym (front-refusal cs), t .1)
+
+-- ---- the visited bytes of a row
+module _ (starts : List ℕ) (r : NodeRelation) where
+  no-bytes : (what : Accesses) → ToldBytes what starts r [] answer.Stays
+  unfolding codesRefusal codesAfter
+  no-bytes what = (refl, refl)
+
+  pub count-within : (what : Accesses) (cs : List ℕ) (k : ℕ) → k ≡ stayingCount what r cs → k ≤ length cs
+  count-within (Each a) cs k e = omega (arith, e, staying-within (accessKind a) r cs)
+  count-within AtEnd cs k e = omega (arith, e)
+  count-within AtInit cs k e = omega (arith, e)
+
+  -- behind those that stay
+  pub behind-told : (what : Accesses) (cs : List ℕ) (k : ℕ) (given : Answer) → k ≡ stayingCount what r cs → ToldBytes what starts r (drop k cs) given → ToldBytes what starts r cs given
+  behind-told (Each a) cs k given e t = front-told (accessKind a) r cs given (subst (λ (i : ℕ). ToldBytes (Each a) starts r (drop i cs) given) e t)
+  behind-told AtEnd cs k given e t = subst (λ (i : ℕ). ToldBytes AtEnd starts r (drop i cs) given) e t
+  behind-told AtInit cs k given e t = subst (λ (i : ℕ). ToldBytes AtInit starts r (drop i cs) given) e t
+
+  -- all of them stay
+  pub all-stay : (what : Accesses) (cs : List ℕ) (k : ℕ) → k ≡ stayingCount what r cs → k ≡ length cs → ToldBytes what starts r cs answer.Stays
+  all-stay what cs k e q =
+      behind-told what cs k answer.Stays e (subst (λ (ds : List ℕ). ToldBytes what starts r ds answer.Stays) (sym (drop-of-length-le cs {i = k} (omega arith))) (no-bytes what))
+
+-- they are a part of the row
+module _ (v : Reach) (starts : List ℕ) (r : NodeRelation) (row : List ℕ) (inside : v .from + v .len ≤ length row) where
+  abbrev bytes : List ℕ
+  bytes = drop (v .from) row
+
+  abbrev pub visited : List ℕ
+  visited = take (v .len) bytes
+
+  abbrev xs : List (Option AccessKind)
+  xs = accessesAt (v .what) (v .len) starts
+
+  long : length visited ≡ v .len
+  long = length-take-le (v .len) bytes (omega (arith, length-drop (v .from) row))
+
+  lent : accessesAt (v .what) (length visited) starts ≡ xs
+  lent = ap (λ (n : ℕ). accessesAt (v .what) n starts) long
+
+  visited-refusal : codesRefusal r (accessesAt (v .what) (length visited) starts) visited ≡ codesRefusal r xs bytes
+  visited-refusal = ap (λ (ys : List (Option AccessKind)). codesRefusal r ys visited) lent ∙ refusal-short r xs bytes (v .len) (planned-length (v .what) (v .len) starts)
+
+  pub visited-after : codesAfter r xs bytes ≡ codesAfter r (accessesAt (v .what) (length visited) starts) visited ++ drop (v .len) bytes
+  visited-after =
+      after-short r xs bytes (v .len) (planned-length (v .what) (v .len) starts)
+      ∙ ap (λ (ys : List (Option AccessKind)). codesAfter r ys visited ++ drop (v .len) bytes) (sym lent)
+
+  pub told-row : (given : Answer) → ToldBytes (v .what) starts r visited given → ToldRow v starts r row given
+  told-row answer.Stays t = (
+    sym visited-refusal ∙ t .0,
+    sym
+        (ap (λ (ds : List ℕ). take (v .from) row ++ ds) (visited-after ∙ ap (λ (ds : List ℕ). ds ++ drop (v .len) bytes) (sym (t .1)) ∙ take-append-drop (v .len) bytes)
+        ∙ take-append-drop (v .from) row),
+  )
+  told-row answer.Changes t = sym visited-refusal ∙ t
+  told-row (answer.Refused n) t = (t .0 ∙ visited-refusal, t .1)

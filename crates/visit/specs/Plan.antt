@@ -3,7 +3,7 @@ use Prim.Native.Nat.{ℕ, zero, suc, _+_, _*_, _≤_, _<_}
 use mathlib.Core.Path.{_≡_}
 use mathlib.Core.List.{List, [], _∷_}
 use lib.Dec.{eqb}
-use lib.ListN.{length, getD, drop}
+use lib.ListN.{length, getD, set, drop}
 use Rattle.definition.specs.Notation.{if_then_else_}
 use Rattle.definition.specs.Permission.{NodeRelation}
 use Rattle.definition.specs.Permission.NodeRelation.{Local, Foreign}
@@ -56,9 +56,8 @@ pub record VisitFrom (v : Reach) (ps plan codes : List ℕ) (first : ℕ) : Type
 abbrev pub Zeros : List ℕ → Type 0
 Zeros plan = (i : ℕ) → getD plan i 0 ≡ 0
 
-abbrev pub Unmarked : List ℕ → Type 0
-Unmarked plan = (k : ℕ) → getD plan (3 * k + 2) 0 ≡ 0
-
-pub record SameLinks (before after : List ℕ) : Type 0 where
-  pub first : (k : ℕ) → getD after (3 * k) 0 ≡ getD before (3 * k) 0
-  pub next : (k : ℕ) → getD after (3 * k + 1) 0 ≡ getD before (3 * k + 1) 0
+-- node m in front of the children of its parent p, but for s
+abbrev pub linkedIn : ℕ → ℕ → ℕ → List ℕ → List ℕ
+linkedIn s p m plan =
+    let followed = set plan (3 * m + 1) (getD plan (3 * p) 0) in
+    if eqb m s then followed else set followed (3 * p) m

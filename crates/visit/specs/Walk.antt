@@ -5,12 +5,14 @@ use mathlib.Core.Bool.{Bool, true, false}
 use mathlib.Core.Option.{Option, none, some}
 use mathlib.Core.List.{List, [], _∷_, _++_, map}
 use lib.ListN.{length, getD, take, drop, replicate}
-use Rattle.definition.specs.Notation.{_or_, firstRefusal}
+use Rattle.definition.specs.Notation.{if_then_else_, _or_, firstRefusal}
 use Rattle.definition.specs.Permission.{AccessKind, NodeRelation}
 use Rattle.definition.specs.Tree.{relation}
 use Rattle.definition.proofs.Trees.{Parents}
 use Rattle.definition.proofs.Order.{walk}
-use Rattle.permission.specs.Codes.{accessKind, refusalCode, nextCode, endAccessCode, initAccessCode}
+use Rattle.permission.specs.Codes.{accessKind, transitionCode, refusalCode, nextCode, endAccessCode, initAccessCode}
+use Rattle.permission.specs.declared.Outcome.{Outcome}
+use Rattle.permission.specs.declared.Outcome.the-variants as outcome
 use Rattle.visit.specs.declared.Accesses.{Accesses}
 use Rattle.visit.specs.declared.Accesses.the-variants.{Each, AtEnd, AtInit}
 use Rattle.visit.specs.declared.Answer.{Answer}
@@ -57,9 +59,27 @@ abbrev pub unrefused : Bool → Answer
 unrefused true = Changes
 unrefused false = Stays
 
--- ---- a part of a row, under one access at all its codes
-abbrev pub ToldPart : Option AccessKind → NodeRelation → List ℕ → Answer → Type 0
-ToldPart x r row = Told (firstRefusal (refusalCode x r) row) row (map (nextCode x r) row)
+-- ---- one code
+abbrev pub outcomeAt : Option AccessKind → NodeRelation → ℕ → Outcome
+outcomeAt none r c = outcome.Stays
+outcomeAt (some a) r c = transitionCode a r c
+
+abbrev pub isStays : Outcome → Bool
+isStays outcome.Stays = true
+isStays (outcome.Becomes d) = false
+isStays (outcome.Refused n) = false
+
+-- ---- codes under one access
+-- how many of them stay, from the front on
+unfoldable pub stayingUnder : AccessKind → NodeRelation → List ℕ → ℕ
+stayingUnder a r [] = 0
+stayingUnder a r (c ∷ cs) = if isStays (transitionCode a r c) then suc (stayingUnder a r cs) else 0
+
+-- none are counted where each byte has an access of its own
+abbrev pub stayingCount : Accesses → NodeRelation → List ℕ → ℕ
+stayingCount (Each a) r cs = stayingUnder (accessKind a) r cs
+stayingCount AtEnd r cs = 0
+stayingCount AtInit r cs = 0
 
 -- ---- a row
 -- the first refusal of codes under accesses
@@ -73,6 +93,16 @@ unfoldable pub codesAfter : NodeRelation → List (Option AccessKind) → List �
 codesAfter r xs [] = []
 codesAfter r [] (c ∷ cs) = c ∷ cs
 codesAfter r (x ∷ xs) (c ∷ cs) = nextCode x r c ∷ codesAfter r xs cs
+
+-- the same of the visited bytes of a row, by themselves
+abbrev pub bytesRefusal : Accesses → List ℕ → NodeRelation → List ℕ → ℕ
+bytesRefusal what starts r cs = codesRefusal r (accessesAt what (length cs) starts) cs
+
+abbrev pub bytesAfter : Accesses → List ℕ → NodeRelation → List ℕ → List ℕ
+bytesAfter what starts r cs = codesAfter r (accessesAt what (length cs) starts) cs
+
+abbrev pub ToldBytes : Accesses → List ℕ → NodeRelation → List ℕ → Answer → Type 0
+ToldBytes what starts r cs = Told (bytesRefusal what starts r cs) cs (bytesAfter what starts r cs)
 
 abbrev pub rowRefusal : Reach → List ℕ → NodeRelation → List ℕ → ℕ
 rowRefusal v starts r row = codesRefusal r (planned v starts) (drop (v .from) row)

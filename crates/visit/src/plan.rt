@@ -7,7 +7,7 @@ ghost use Prim.Native.Nat.{_+_, _*_, _≤_, _<_};
 ghost use lib.ListN.{length, getD};
 ghost use Rattle.definition.proofs.Trees.{Parents};
 ghost use Rattle.permission.specs.Codes.{nodeRelation};
-ghost use Rattle.visit.specs.Plan.{marked, Linked, Marked, Planned, Zeros, Roomy, Unmarked, SameLinks};
+ghost use Rattle.visit.specs.Plan.{marked, linkedIn, Planned, Zeros, Roomy};
 
 fn wide(x: u16) -> usize
     ensures { λ r. ⌜ r ≡ x ⌝ }
@@ -40,43 +40,35 @@ pub fn relation(plan: &[u16], n: usize) -> NodeRelation
     NodeRelation::Local
 }
 
-// Each node linked as the first child of its parent, in front of the one made after it.
-fn link_children(parents: &[u16], plan: &mut [u16], spared: usize)
-    requires { ⌜ Parents (now parents) ⌝ }
-    requires { ⌜ Roomy (now parents) (now plan) × Zeros (now plan) ⌝ }
-    ensures { λ _. ⌜ Linked spared (now (parents .entry)) (now (plan .exit)) × Unmarked (now (plan .exit)) ⌝ }
+// Node m in front of the children of its parent that are linked; the spared one is passed by.
+fn link(plan: &mut [u16], parent: usize, m: usize, spared: usize)
+    requires { ⌜ (parent < m) × (3 * m + 2 < length (now plan)) × (length (now plan) ≤ 3072) ⌝ }
+    ensures { λ _. ⌜ now (plan .exit) ≡ linkedIn spared parent m (now (plan .entry)) ⌝ }
 {
-    let mut m = parents.len();
-    while 1 < m {
-        m -= 1;
-        let parent = wide(parents[m]);
-        plan[3 * m + 1] = plan[3 * parent];
-        if m != spared {
-            plan[3 * parent] = m as u16;
-        }
+    plan[3 * m + 1] = plan[3 * parent];
+    if m != spared {
+        plan[3 * parent] = m as u16;
     }
 }
 
-// The path from the accessed node to the root marked.
-fn mark_path(parents: &[u16], plan: &mut [u16], accessed: usize)
-    requires { ⌜ Parents (now parents) ⌝ }
-    requires { ⌜ (accessed < length (now parents)) × Roomy (now parents) (now plan) × Unmarked (now plan) ⌝ }
-    ensures { λ _. ⌜ Marked accessed (now (parents .entry)) (now (plan .exit)) × SameLinks (now (plan .entry)) (now (plan .exit)) ⌝ }
-{
-    let mut n = accessed;
-    while 0 < n {
-        plan[3 * n + 2] = 1;
-        n = wide(parents[n]);
-    }
-    plan[2] = 1;
-}
-
-// The plan, in a part of zeros that has three numbers for each node.
+// The plan, in a part of zeros that has three numbers for each node: made from the last node down, each linked in front of those made after it. The
+// path is met on the way: from the accessed node on, the next node of it is a parent, and so further down.
 pub fn make_plan(parents: &[u16], plan: &mut [u16], v: Reach)
     requires { ⌜ Parents (now parents) × (v .node < length (now parents)) ⌝ }
     requires { ⌜ Roomy (now parents) (now plan) × Zeros (now plan) ⌝ }
     ensures { λ _. ⌜ Planned v (now (parents .entry)) (now (plan .exit)) ⌝ }
 {
-    link_children(parents, plan, v.spared);
-    mark_path(parents, plan, v.node);
+    let spared = v.spared;
+    let mut on = v.node;
+    let mut m = parents.len();
+    while 1 < m {
+        m -= 1;
+        let parent = wide(parents[m]);
+        link(plan, parent, m, spared);
+        if m == on {
+            plan[3 * m + 2] = 1;
+            on = parent;
+        }
+    }
+    plan[2] = 1;
 }

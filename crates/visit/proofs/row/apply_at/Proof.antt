@@ -1,46 +1,64 @@
--- The part that is lent is the row, and it is given back changed.
-use borrow.Author.Needs.{needs}
+-- The part that is lent is the visited bytes of the row, and it is given back changed.
+use Prim.Native.Nat.{ℕ, _+_, _≤_}
+use mathlib.Core.List.{List, _++_}
+use mathlib.Core.Path.{_≡_, sym, ap, _∙_}
+use lib.ListN.{length, take, drop}
 use Rattle.permission.specs.Codes.{nodeRelation}
-use Rattle.visit.specs.Walk.{rowAfter}
-use Rattle.visit.proofs.Places.{put-back}
+use Rattle.visit.specs.Walk.{bytesAfter, rowAt, withRowAt}
+use Rattle.visit.proofs.Places.{part-bytes, put-bytes, row-length}
+use Rattle.visit.proofs.Rows.{visited-after}
+use borrow.Author.Needs.{needs}
+use native.Mathlib.Omega.{arith}
 use Rattle.visit.proofs.row.apply_at.Statement.{statement}
 use Rattle.visit.proofs.row.apply_at.Tie as tie
 
 mul-start : tie.Need-mul-start
 mul-start c = search needs
 
+add-start : tie.Need-add-start
+add-start c = search needs
+
 add-end : tie.Need-add-end
 add-end c = search needs
 
-sub-apply-row : tie.Need-sub-apply-row
-sub-apply-row c = search needs
+sub-apply-bytes : tie.Need-sub-apply-bytes
+sub-apply-bytes c = search needs
 
-part-apply-row-start : tie.Need-part-apply-row-start
-part-apply-row-start c = search needs
+part-apply-bytes-start : tie.Need-part-apply-bytes-start
+part-apply-bytes-start c = search needs
 
-part-apply-row-end : tie.Need-part-apply-row-end
-part-apply-row-end c = search needs
+part-apply-bytes-end : tie.Need-part-apply-bytes-end
+part-apply-bytes-end c = search needs
 
-apply-row-requires : tie.Need-apply-row-requires
-apply-row-requires c κs = search needs
+apply-bytes-requires : tie.Need-apply-bytes-requires
+apply-bytes-requires c κs = search needs
 
 same-length : tie.Need-same-length
 same-length c = search needs
 
 returns : tie.Need-returns
-returns c =
-    let s = c .before .before .before .before .before .before in
-    put-back (rowAfter (s .args .v) (s .args .starts .now) (nodeRelation (s .args .relation))) (s .args .v .width) (s .args .n) (s .args .codes .now) _ (c .before .before .apply-row .ensures)
+returns c = let s = c .before .before .before .before .before .before .before .before .before in
+    let v = s .args .v in
+    let codes = s .args .codes .now in
+    let r = nodeRelation (s .args .relation) in
+    let row = rowAt (v .width) (s .args .n) codes in
+    let given = c .before .before .apply-bytes in
+    let inside : v .from + v .len ≤ length row = omega (arith, row-length (v .width) (s .args .n) codes (s .pre .0), s .pre .1) in
+    let changed = given .ensures ∙ ap (bytesAfter (v .what) (s .args .starts .now) r) (part-bytes (v .width) (s .args .n) (v .from) (v .len) codes (s .pre .0) (s .pre .1)) in
+    put-bytes (v .width) (s .args .n) (v .from) (v .len) codes (s .pre .0) (s .pre .1) (given .last .0)
+    ∙ ap (λ (cs : List ℕ). withRowAt (v .width) (s .args .n) (take (v .from) row ++ cs) codes)
+    (ap (λ (cs : List ℕ). cs ++ drop (v .len) (drop (v .from) row)) changed ∙ sym (visited-after v (s .args .starts .now) r row inside))
 
 pub apply-at-spec : {M : Type 1} → statement M
 apply-at-spec =
     tie.close
     (tie.spec
     mul-start
+    add-start
     add-end
-    sub-apply-row
-    part-apply-row-start
-    part-apply-row-end
-    apply-row-requires
+    sub-apply-bytes
+    part-apply-bytes-start
+    part-apply-bytes-end
+    apply-bytes-requires
     same-length
     returns)

@@ -1,16 +1,21 @@
--- The part that is lent is the row.
+-- The part that is lent is the visited bytes of the row.
 use Prim.Native.Nat.{ℕ}
-use mathlib.Core.Path.{subst}
 use mathlib.Core.List.{List}
-use borrow.Author.Needs.{needs}
+use mathlib.Core.Path.{subst}
 use Rattle.permission.specs.Codes.{nodeRelation}
-use Rattle.visit.specs.Walk.{ToldRow}
-use Rattle.visit.proofs.Places.{part-row}
+use Rattle.visit.specs.Walk.{ToldBytes, rowAt}
+use Rattle.visit.proofs.Places.{part-bytes, row-length}
+use Rattle.visit.proofs.Rows.{told-row}
+use borrow.Author.Needs.{needs}
+use native.Mathlib.Omega.{arith}
 use Rattle.visit.proofs.row.check_at.Statement.{statement}
 use Rattle.visit.proofs.row.check_at.Tie as tie
 
 mul-start : tie.Need-mul-start
 mul-start c = search needs
+
+add-start : tie.Need-add-start
+add-start c = search needs
 
 add-end : tie.Need-add-end
 add-end c = search needs
@@ -28,15 +33,18 @@ check-row-requires : tie.Need-check-row-requires
 check-row-requires c κs = search needs
 
 returns : tie.Need-returns
-returns c =
-    let s = c .before .before .before .before in
-    subst (λ (row : List ℕ). ToldRow (s .args .v) (s .args .starts .now) (nodeRelation (s .args .relation)) row (c .check-row .result)) (part-row (s .args .v .width) (s .args .n) (s .args .codes .now)) (c .check-row .ensures)
+returns c = let s = c .before .before .before .before .before .before .before in
+    let v = s .args .v in
+    let codes = s .args .codes .now in
+    told-row v (s .args .starts .now) (nodeRelation (s .args .relation)) (rowAt (v .width) (s .args .n) codes) (omega (arith, row-length (v .width) (s .args .n) codes (s .pre .0), s .pre .1)) (c .check-row .result)
+    (subst (λ (row : List ℕ). ToldBytes (v .what) (s .args .starts .now) (nodeRelation (s .args .relation)) row (c .check-row .result)) (part-bytes (v .width) (s .args .n) (v .from) (v .len) codes (s .pre .0) (s .pre .1)) (c .check-row .ensures))
 
 pub check-at-spec : {M : Type 1} → statement M
 check-at-spec =
     tie.close
     (tie.spec
     mul-start
+    add-start
     add-end
     sub-check-row
     part-check-row-start
