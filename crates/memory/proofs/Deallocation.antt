@@ -28,7 +28,7 @@ use Rattle.tables.specs.Held.{startOf, Records}
 use Rattle.tables.proofs.Focus.{focus-set}
 use Rattle.tables.proofs.Lookup.{record-start, state-at, live-state, kind-at, exponent-at, address-at, size-at}
 use Rattle.tables.specs.declared.Allocation as record-of
-use Rattle.bounds.proofs.Points.{recordAt}
+use Rattle.tables.proofs.Lookup.{recordAt}
 use Rattle.tree.specs.Requests as tree
 use Rattle.parts.specs.Trees.{HoldsMarked, afterVisit, TreeVisited}
 use Rattle.memory.specs.Deallocate.{recordRefusal, refusalThrough, NodeIn, WrittenAll, Deallocated}

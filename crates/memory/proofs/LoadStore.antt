@@ -33,7 +33,8 @@ use Rattle.tables.proofs.Parts.{write-paste}
 use Rattle.tables.proofs.Focus.{focus-used, focus-paste}
 use Rattle.tables.proofs.Sizes.{words-fit}
 use Rattle.tables.specs.declared.Allocation as record-of
-use Rattle.bounds.proofs.Points.{recordAt, read-address}
+use Rattle.tables.proofs.Lookup.{recordAt}
+use Rattle.bounds.proofs.Points.{read-address}
 use Rattle.parts.specs.Trees.{HoldsTrees, afterVisit, TreeVisited}
 use Rattle.memory.specs.Buffers.{HoldsWords}
 use Rattle.memory.specs.Access.{accessOf, loadOf, storeOf, boundsRefusal, Checked, Reached, visitAt, wordsStart, Accessed, wordsGiven, Loaded, Stored}

@@ -161,16 +161,18 @@ module _ {m : Memory} {A : List ℕ} (h : Records m A) {i w n c : ℕ} (made : i
   codes-within = omega (arith, s .codes, row-codes, focus-used 32768 codesOf m i made, codes-fit m (h .valid))
 
 -- ---- what is read of a record: where the parts of the next one start
-module _ {m : Memory} {A : List ℕ} (h : Records m A) {i : ℕ} (made : i < length m) {x : code.Allocation}
-    (read : x ≡ record {
-      state = getD A (i * 9) 0;
-      kind = getD A (i * 9 + 1) 0;
-      exponent = getD A (i * 9 + 2) 0;
-      address = getD A (i * 9 + 3) 0;
-      size = getD A (i * 9 + 4) 0;
-      nodes = getD A (i * 9 + 5) 0;
-      starts = record { words = getD A (i * 9 + 6) 0; nodes = getD A (i * 9 + 7) 0; codes = getD A (i * 9 + 8) 0 };
-    }) where
+abbrev pub recordAt : List ℕ → ℕ → code.Allocation
+recordAt A a = record {
+  state = getD A (a * 9) 0;
+  kind = getD A (a * 9 + 1) 0;
+  exponent = getD A (a * 9 + 2) 0;
+  address = getD A (a * 9 + 3) 0;
+  size = getD A (a * 9 + 4) 0;
+  nodes = getD A (a * 9 + 5) 0;
+  starts = record { words = getD A (a * 9 + 6) 0; nodes = getD A (a * 9 + 7) 0; codes = getD A (a * 9 + 8) 0 };
+}
+
+module _ {m : Memory} {A : List ℕ} (h : Records m A) {i : ℕ} (made : i < length m) {x : code.Allocation} (read : x ≡ recordAt A i) where
   pub read-starts : StartsAt m i (x .starts .words) (x .starts .nodes) (x .starts .codes)
   read-starts = rw read (starts-in-record h i made)
 
