@@ -35,11 +35,11 @@ part c m h =
     (known, c .parts-at .ensures m r (points-made (t .args .p) (c .before .before .before .before .before .before .provenance .given .1) (record { records = r; made = known })))
 
 -- and how much is used
-located : (c : tie.After-used-from) → let t = c .before .before .before .before .before .before .before .before .before .before .before .before .before .before .before in (m : Memory) → HoldsMarked m (now (t .args .allocs)) (now (t .args .parents)) (now (t .args .protectors)) (now (t .args .codes))
-    → Located m (provenanceOf (t .args .p .provenance)) (c .before .before .before .before .before .before .before .before .provenance .given .0 .0) (c .used-from .result) (c .before .before .parts-at .result)
+located : (c : tie.After-used-behind) → let t = c .before .before .before .before .before .before .before .before .before .before .before .before .before .before .before in (m : Memory) → HoldsMarked m (now (t .args .allocs)) (now (t .args .parents)) (now (t .args .protectors)) (now (t .args .codes))
+    → Located m (provenanceOf (t .args .p .provenance)) (c .before .before .before .before .before .before .before .before .provenance .given .0 .0) (c .used-behind .result) (c .before .before .parts-at .result)
 located c m h =
     let (known, lies) = part (c .before .before) m h in
-    let u = c .used-from .ensures m (trees-of h .records) (lies .starts) in
+    let u = c .used-behind .ensures m (trees-of h .records) in
     record { made = known; used = record { words = refl; nodes = u .nodes; codes = u .codes }; part = lies }
 
 -- where nothing is refused: there is a place for the child, and the buffers hold the memory in which the reads are made
@@ -94,8 +94,8 @@ parts-at-requires c κs =
     let known = ap (λ (q : Provenance). namesNeverMade (t .pre .0 .0) (provenanceOf q)) (c .before .before .before .before .before .provenance .given .1) ∙ sym (c .before .before .never-made .ensures (t .pre .0 .0) r) ∙ c .before .if2 .left in
     (t .pre .0 .0, (r, points-made (t .args .p) (c .before .before .before .before .before .provenance .given .1) (record { records = r; made = known })))
 
-used-from-requires : tie.Need-used-from-requires
-used-from-requires c κs = let (m, h) = c .before .before .before .before .before .before .before .before .before .before .before .before .before .before .pre .0 in let lies = part (c .before) m h .1 in (m, (trees-of h .records, omega (arith, lies .made), lies .starts))
+used-behind-requires : tie.Need-used-behind-requires
+used-behind-requires c κs = let (m, h) = c .before .before .before .before .before .before .before .before .before .before .before .before .before .before .pre .0 in (m, (trees-of h .records, part (c .before) m h .1 .made))
 
 retag-refusal-requires : tie.Need-retag-refusal-requires
 retag-refusal-requires c κs = let (m, h) = c .before .before .before .before .before .before .before .before .before .before .before .before .before .before .before .before .before .before .pre .0 in ((m, (trees-of h, located (c .before .before .before) m h)), c .before .before .before .before .before .before .before .before .before .before .before .provenance .given .1)
@@ -125,8 +125,8 @@ returns-3 c = λ s frame mask h a.
 add-child-requires : tie.Need-add-child-requires
 add-child-requires c κs = let t = c .before .before .before .before .before .before .before .before .before .before .before .before .before .before .before .before .before .before .before .before .before .before .before .before .before .before in let (m, h) = t .pre .0 in ((m, (located (c .before .before .before .before .before .before .before .before .before .before .before) m h, passed (c .before .before .before .before) m h, h .valid, read (c .before .before .before .before) m h)), (c .before .before .before .before .before .before .before .before .before .before .before .before .before .before .before .before .before .before .before .provenance .given .1, t .pre .1))
 
-cast-t45 : tie.Need-cast-t45
-cast-t45 c =
+cast-t44 : tie.Need-cast-t44
+cast-t44 c =
     let t = c .before .before .before .before .before .before .before .before .before .before .before .before .before .before .before .before .before .before .before .before .before .before .before .before .before .before .before .before .before .before .before .before .before .before .before in
     let (m, h) = t .pre .0 in
     let k = passed (c .before .before .before .before .before .before .before .before .before .before .before .before .before) m h in
@@ -173,14 +173,14 @@ reborrow-inside-spec =
     same-length
     returns-2
     parts-at-requires
-    used-from-requires
+    used-behind-requires
     retag-refusal-requires
     same-length-2
     same-length-3
     same-length-4
     returns-3
     add-child-requires
-    cast-t45
+    cast-t44
     returns-4
     same-length-5
     same-length-6
