@@ -28,11 +28,11 @@ loop-holds c =
     let some : 0 < length numbers = omega (arith, c .before .before .if1 .left) in
     (omega arith, omega (arith, some), omega (arith, c .shared-slice-known3 .given 0), ranged-first numbers some)
 
-mul-word : tie.Need-mul-word Inv-loop μ-loop
-mul-word c = search needs
+mul-number : tie.Need-mul-number Inv-loop μ-loop
+mul-number c = search needs
 
-shared-slice-read-word : tie.Need-shared-slice-read-word Inv-loop μ-loop
-shared-slice-read-word c = search needs
+shared-slice-read-number : tie.Need-shared-slice-read-number Inv-loop μ-loop
+shared-slice-read-number c = search needs
 
 lesser-requires : tie.Need-lesser-requires Inv-loop μ-loop
 lesser-requires c κs = search needs
@@ -81,8 +81,8 @@ span-of-spec =
     shared-slice-read-least
     shared-slice-read-greatest
     loop-holds
-    mul-word
-    shared-slice-read-word
+    mul-number
+    shared-slice-read-number
     lesser-requires
     greater-requires
     add-i
