@@ -34,7 +34,7 @@ extern "C" {
 /* ---- lengths: any other length is refused with 1 */
 
 enum {
-    TREE_BORROWS_ALLOCS = 768,     /* 128 allocations of six numbers */
+    TREE_BORROWS_ALLOCS = 1152,    /* 128 allocations of nine numbers */
     TREE_BORROWS_NODES = 1024,     /* parents, protectors */
     TREE_BORROWS_WORDS = 4096,
     TREE_BORROWS_CODES = 32768,

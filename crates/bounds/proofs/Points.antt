@@ -16,18 +16,18 @@ use Rattle.pointer.specs.declared.ThinPointer as pointer
 use Rattle.pointer.specs.declared.Provenance.the-variants.{None, Of}
 use Rattle.tables.specs.declared.Allocation as code
 use Rattle.tables.specs.Held.{Records}
-use Rattle.tables.proofs.Lookup.{state-at, live-state, kind-at, address-at, size-at, nodes-at, zero-behind}
+use Rattle.tables.proofs.Lookup.{state-at, live-state, kind-at, address-at, size-at, nodes-at, zero-behind, recordAt}
 use Rattle.bounds.specs.Bounds.{Points}
 use Rattle.bounds.proofs.Tests.{leb-ltb}
 
 -- ---- 4: behind the last allocation the records have no nodes
 module _ {m : Memory} {A : List ℕ} (h : Records m A) where
-  never-test : (a n : ℕ) → leb (getD A (a * 6 + 5) 0) n ≡ not (wasMade m (record { allocation = a; node = n }))
+  never-test : (a n : ℕ) → leb (getD A (a * 9 + 5) 0) n ≡ not (wasMade m (record { allocation = a; node = n }))
   never-test a n = go (ltb a (length m)) refl
     where
-      go : (t : Bool) → ltb a (length m) ≡ t → leb (getD A (a * 6 + 5) 0) n ≡ not (t && ltb n (nodeCount (allocationAt m a)))
+      go : (t : Bool) → ltb a (length m) ≡ t → leb (getD A (a * 9 + 5) 0) n ≡ not (t && ltb n (nodeCount (allocationAt m a)))
       go true e = ap (λ (k : ℕ). leb k n) (nodes-at h a (ltb-true a (length m) e)) ∙ leb-ltb (nodeCount (allocationAt m a)) n
-      go false e = ap (λ (k : ℕ). leb k n) (zero-behind h (a * 6 + 5) (omega (arith, ltb-false a (length m) e))) ∙ le-leb 0 n (omega arith)
+      go false e = ap (λ (k : ℕ). leb k n) (zero-behind h (a * 9 + 5) (omega (arith, ltb-false a (length m) e))) ∙ le-leb 0 n (omega arith)
 
   pub never-past : (a n : ℕ) → 128 ≤ a → not (wasMade m (record { allocation = a; node = n })) ≡ true
   never-past a n l = rw (le-ltb a (length m) (omega (arith, h .valid .bounded .allocations)))
@@ -52,17 +52,6 @@ module _ (x : Allocation) (p : ThinPointer) (back ahead : ℕ) where
     check-live e d = rw (ne-eqb (back + ahead) 0 long, e, d)
 
 -- ---- what is read of an allocation
--- the record of allocation a
-abbrev pub recordAt : List ℕ → ℕ → code.Allocation
-recordAt A a = record {
-  state = getD A (a * 6) 0;
-  kind = getD A (a * 6 + 1) 0;
-  exponent = getD A (a * 6 + 2) 0;
-  address = getD A (a * 6 + 3) 0;
-  size = getD A (a * 6 + 4) 0;
-  nodes = getD A (a * 6 + 5) 0;
-}
-
 pub read-never : {m : Memory} {A : List ℕ} → Records m A → (a n : ℕ) {r : code.Allocation} → r ≡ recordAt A a
     → leb (r .nodes) n ≡ not (wasMade m (record { allocation = a; node = n }))
 read-never h a n q = ap (λ (x : code.Allocation). leb (x .nodes) n) q ∙ never-test h a n

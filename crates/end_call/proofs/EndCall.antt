@@ -7,7 +7,7 @@ use native.Mathlib.Omega.{arith}
 use borrow.Author.Tests.{ne-eqb}
 use lib.Dec.{eqb}
 use lib.ListN.{length, getD, take, drop, set, replicate}
-use Rattle.definition.specs.Notation.{if_then_else_, _when_, _or_, any}
+use Rattle.definition.specs.Notation.{if_then_else_, _when_, _or_, any, mutateAt}
 use Rattle.definition.specs.Refusal.{neverMade}
 use Rattle.definition.specs.Memory as definition
 use Rattle.definition.specs.Memory.{Allocation, Memory, Provenance, refusedWith, wasMade}
@@ -21,7 +21,7 @@ use Rattle.definition.proofs.Parts.{fill-all}
 use Rattle.answer.specs.Answer.{answerOf}
 use Rattle.answer.specs.declared.Answer.{Answer}
 use Rattle.answer.proofs.Replies.{plain-answers}
-use Rattle.tables.specs.Encoding.{recordOf, parentsOf, wordsOf, held, encode}
+use Rattle.tables.specs.Encoding.{parentsOf, wordsOf, heldRecords, held, encode}
 use Rattle.tables.specs.Held.{buffers, Holds}
 use Rattle.tables.proofs.ReadBack.{holds-allocs, holds-parents, holds-words, encode-of}
 use Rattle.frames.specs.Buffer.{entriesIn, FitsEntry, HoldsFrames}
@@ -30,7 +30,7 @@ use Rattle.frames.specs.declared.Entries.{Entries}
 use Rattle.frames.proofs.FromValid.{made-fits}
 use Rattle.parts.specs.Trees.{HoldsMarked}
 use Rattle.end_call.specs.Release.{HoldsNodes, AllMade, unlessRefused, ReleasedAll, afterEndCall, Checked, Ended}
-use Rattle.end_call.proofs.Releases.{all-kept, same-record, same-parents, same-words, rest-at}
+use Rattle.end_call.proofs.Releases.{all-kept, same-records, same-parents, same-words, rest-at}
 
 -- ---- 4
 abbrev pub isUnmade : Memory → Provenance → Bool
@@ -92,14 +92,14 @@ all-zero n new old l e = e ∙ fill-all n 0 old (omega arith)
 -- ---- the five buffers
 module _ {m : Memory} {A P R W C : List ℕ} (h : Holds m (buffers A P R W C)) where
   module _ (es : List Provenance) where
-    end-kept : (total : ℕ) (f : Allocation → List ℕ) → ((n : ℕ) (a : Allocation) → f (afterReleaseIn n a) ≡ f a) → held total f m ≡ held total f (afterEndCall m es)
-    end-kept total f same =
-        if-holds (λ l. held total f m ≡ held total f l) (eqb (endCallRefusal m es) 0) (afterReleaseAll m es) m (λ t. sym (all-kept total f same es m)) (λ t. refl)
+    end-kept : (buffer : Memory → List ℕ) → ((node n : ℕ) (m : Memory) → buffer (mutateAt n (afterReleaseIn node) m) ≡ buffer m) → buffer m ≡ buffer (afterEndCall m es)
+    end-kept buffer same =
+        if-holds (λ l. buffer m ≡ buffer l) (eqb (endCallRefusal m es) 0) (afterReleaseAll m es) m (λ t. sym (all-kept buffer same es m)) (λ t. refl)
 
     pub end-call-encode : {R′ C′ : List ℕ} → HoldsNodes (afterEndCall m es) R′ C′ → buffers A P R′ W C′ ≡ encode (afterEndCall m es)
     end-call-encode k =
-        encode-of (afterEndCall m es) (holds-allocs h ∙ end-kept 768 recordOf same-record) (holds-parents h ∙ end-kept 1024 parentsOf same-parents) (k .protectors)
-        (holds-words h ∙ end-kept 4096 wordsOf same-words) (k .codes)
+        encode-of (afterEndCall m es) (holds-allocs h ∙ end-kept heldRecords same-records) (holds-parents h ∙ end-kept (held 1024 parentsOf) same-parents) (k .protectors)
+        (holds-words h ∙ end-kept (held 4096 wordsOf) same-words) (k .codes)
 
     pub end-call-holds : {R′ C′ : List ℕ} → HoldsNodes (afterEndCall m es) R′ C′ → Holds (afterEndCall m es) (buffers A P R′ W C′)
     end-call-holds k = record {

@@ -12,7 +12,8 @@ use Rattle.definition.specs.Frame.{releaseRefusalIn, releaseRefusal, afterRelea
 use Rattle.definition.proofs.Places.{valid-at}
 use Rattle.definition.proofs.ValidTrees.{released-length}
 use Rattle.tables.specs.declared.Allocation as code
-use Rattle.bounds.proofs.Points.{recordAt, read-live, read-dead}
+use Rattle.tables.proofs.Lookup.{recordAt}
+use Rattle.bounds.proofs.Points.{read-live, read-dead}
 use Rattle.tree.specs.Requests as tree
 use Rattle.parts.specs.declared.Parts.{Parts}
 use Rattle.parts.specs.Trees.{HoldsMarked, PartsOf, TreeAt}

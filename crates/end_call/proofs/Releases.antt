@@ -20,48 +20,59 @@ use Rattle.definition.proofs.Visits.{visited-parents}
 use Rattle.definition.proofs.ValidTrees.{released-length}
 use Rattle.definition.proofs.ValidMemory.{release-kept}
 use Rattle.definition.proofs.Parts.{drop-next}
-use Rattle.tables.specs.Encoding.{stateNumber, recordOf, parentsOf, wordsOf, held}
+use Rattle.tables.specs.Encoding.{Place, stateNumber, recordOf, parentsOf, wordsOf, heldRecords, held}
 use Rattle.tables.specs.Held.{Records}
 use Rattle.tables.proofs.Focus.{held-kept}
+use Rattle.tables.proofs.Records.{held-records-kept}
 use Rattle.parts.specs.Trees.{HoldsMarked}
 use Rattle.end_call.specs.Release.{HoldsNodes, AllMade, unlessRefused, Released, untilRefused, ReleasedUntil, ReleasedAll}
 
 -- ---- what no release changes
--- a field of the allocations that is the same after every release
-module _ (total : ℕ) (f : Allocation → List ℕ) (same : (n : ℕ) (a : Allocation) → f (afterReleaseIn n a) ≡ f a) where
-  one-kept : (m : Memory) (e : Provenance) → held total f (afterRelease m e) ≡ held total f m
+-- a buffer that is the same after every release
+module _ (buffer : Memory → List ℕ) (same : (node n : ℕ) (m : Memory) → buffer (mutateAt n (afterReleaseIn node) m) ≡ buffer m) where
+  one-kept : (m : Memory) (e : Provenance) → buffer (afterRelease m e) ≡ buffer m
   unfolding afterRelease
-  one-kept m e = held-kept total f (afterReleaseIn (e .node)) (same (e .node)) (e .allocation) m
+  one-kept m e = same (e .node) (e .allocation) m
 
-  pub all-kept : (es : List Provenance) (m : Memory) → held total f (afterReleaseAll m es) ≡ held total f m
+  pub all-kept : (es : List Provenance) (m : Memory) → buffer (afterReleaseAll m es) ≡ buffer m
   unfolding afterReleaseAll
   all-kept [] m = refl
   all-kept (e ∷ es) m = all-kept es (afterRelease m e) ∙ one-kept m e
 
-  until-kept : (es : List Provenance) (m : Memory) → held total f (untilRefused m es) ≡ held total f m
+  until-kept : (es : List Provenance) (m : Memory) → buffer (untilRefused m es) ≡ buffer m
   unfolding untilRefused
   until-kept [] m = refl
   until-kept (e ∷ es) m =
-      if-holds (λ l. held total f l ≡ held total f m) (eqb (releaseRefusal m e) 0) (untilRefused (afterRelease m e) es) m
+      if-holds (λ l. buffer l ≡ buffer m) (eqb (releaseRefusal m e) 0) (untilRefused (afterRelease m e) es) m
       (λ t. until-kept es (afterRelease m e) ∙ one-kept m e) (λ t. refl)
 
-pub same-record : (n : ℕ) (a : Allocation) → recordOf (afterReleaseIn n a) ≡ recordOf a
+same-record : (n : ℕ) (p : Place) (a : Allocation) → recordOf p (afterReleaseIn n a) ≡ recordOf p a
 unfolding afterReleaseIn
-same-record n a =
-    ap (λ (k : ℕ). stateNumber (a .state) ∷ kindNumber (a .kind) ∷ a .exponent ∷ a .address ∷ size a ∷ k ∷ []) (released-length n (a .state) (a .nodes))
+same-record n p a =
+    ap (λ (k : ℕ). stateNumber (a .state) ∷ kindNumber (a .kind) ∷ a .exponent ∷ a .address ∷ size a ∷ k ∷ p .words ∷ p .nodes ∷ p .codes ∷ [])
+    (released-length n (a .state) (a .nodes))
+
+pub same-records : (node n : ℕ) (m : Memory) → heldRecords (mutateAt n (afterReleaseIn node) m) ≡ heldRecords m
+same-records node = held-records-kept (afterReleaseIn node) (same-record node)
 
 released-parents : (state : Liveness) (n : ℕ) (nodes : List Node) → parents (releasedNodes state n nodes) ≡ parents nodes
 released-parents Live n nodes =
     visited-parents (releaseVisit n nodes) (mutateAt n (unprotectNode Live) nodes) ∙ mutate-map (λ (x : Node). x .parent) (unprotectNode Live) (λ x. refl) n nodes
 released-parents Dead n nodes = mutate-map (λ (x : Node). x .parent) (unprotectNode Dead) (λ x. refl) n nodes
 
-pub same-parents : (n : ℕ) (a : Allocation) → parentsOf (afterReleaseIn n a) ≡ parentsOf a
+its-parents : (n : ℕ) (a : Allocation) → parentsOf (afterReleaseIn n a) ≡ parentsOf a
 unfolding afterReleaseIn parentsOf
-same-parents n a = released-parents (a .state) n (a .nodes)
+its-parents n a = released-parents (a .state) n (a .nodes)
 
-pub same-words : (n : ℕ) (a : Allocation) → wordsOf (afterReleaseIn n a) ≡ wordsOf a
+pub same-parents : (node n : ℕ) (m : Memory) → held 1024 parentsOf (mutateAt n (afterReleaseIn node) m) ≡ held 1024 parentsOf m
+same-parents node = held-kept 1024 parentsOf (afterReleaseIn node) (its-parents node)
+
+its-words : (n : ℕ) (a : Allocation) → wordsOf (afterReleaseIn n a) ≡ wordsOf a
 unfolding afterReleaseIn
-same-words n a = refl
+its-words n a = refl
+
+pub same-words : (node n : ℕ) (m : Memory) → held 4096 wordsOf (mutateAt n (afterReleaseIn node) m) ≡ held 4096 wordsOf m
+same-words node = held-kept 4096 wordsOf (afterReleaseIn node) (its-words node)
 
 valid-until : (es : List Provenance) (m : Memory) → Valid m → Valid (untilRefused m es)
 unfolding untilRefused
@@ -70,7 +81,7 @@ valid-until (e ∷ es) m v =
     if-holds Valid (eqb (releaseRefusal m e) 0) (untilRefused (afterRelease m e) es) m (λ t. valid-until es (afterRelease m e) (release-kept m e v .valid)) (λ t. v)
 
 pub records-until : {m : Memory} {A P R C : List ℕ} → HoldsMarked m A P R C → (es : List Provenance) → Records (untilRefused m es) A
-records-until {m} h es = record { valid = valid-until es m (h .valid); allocs = h .trees .allocs ∙ sym (until-kept 768 recordOf same-record es m) }
+records-until {m} h es = record { valid = valid-until es m (h .valid); allocs = h .trees .allocs ∙ sym (until-kept heldRecords same-records es m) }
 
 -- ---- a list from place i on
 pub rest-at : {A : Type 0} (l : List A) (i : ℕ) (x d : A) → i < length l → x ≡ getD l i d → drop i l ≡ x ∷ drop (i + 1) l
@@ -107,8 +118,8 @@ module _ {m : Memory} {es rest : List Provenance} {e : Provenance} {A P R C R′
         holds = record {
           valid = kept .valid;
           trees = record {
-            allocs = t .holds .trees .allocs ∙ sym (one-kept 768 recordOf same-record l e);
-            parents = t .holds .trees .parents ∙ sym (one-kept 1024 parentsOf same-parents l e);
+            allocs = t .holds .trees .allocs ∙ sym (one-kept heldRecords same-records l e);
+            parents = t .holds .trees .parents ∙ sym (one-kept (held 1024 parentsOf) same-parents l e);
             protectors = now .protectors;
             codes = now .codes;
           };

@@ -14,9 +14,10 @@ use Rattle.definition.proofs.Visits.{visited-length}
 use Rattle.definition.proofs.ValidMemory.{valid-load-store, valid-deallocate}
 use Rattle.definition.specs.Memory as definition
 use Rattle.answer.specs.declared.Answer.{Answer}
-use Rattle.tables.specs.Encoding.{recordOf, parentsOf, protectorsOf, wordsOf, held, encode}
+use Rattle.tables.specs.Encoding.{Place, recordOf, parentsOf, protectorsOf, wordsOf, heldRecords, held, encode}
 use Rattle.tables.specs.Held.{buffers, Holds}
 use Rattle.tables.proofs.Focus.{held-kept}
+use Rattle.tables.proofs.Records.{held-records-kept}
 use Rattle.tables.proofs.ReadBack.{holds-allocs, holds-parents, holds-protectors, holds-words, encode-of}
 use Rattle.parts.proofs.Trees.{visited-parentsOf, visited-protectorsOf}
 use Rattle.parts.proofs.Lent.{holds-trees}
@@ -30,9 +31,9 @@ holds-bytes h = record { trees = holds-trees h; words = holds-words h }
 
 -- ---- load and store
 module _ (x : MemoryAccess) where
-  same-record : (a : Allocation) → recordOf (afterAccessIn x a) ≡ recordOf a
+  same-record : (p : Place) (a : Allocation) → recordOf p (afterAccessIn x a) ≡ recordOf p a
   unfolding afterAccessIn
-  same-record a = rw (write-length (offset a (x .pointer)) (x .bytes) (a .words), visited-length (visitOf x a) (a .nodes))
+  same-record p a = rw (write-length (offset a (x .pointer)) (x .bytes) (a .words), visited-length (visitOf x a) (a .nodes))
 
   same-parents : (a : Allocation) → parentsOf (afterAccessIn x a) ≡ parentsOf a
   unfolding afterAccessIn
@@ -46,13 +47,21 @@ module _ (x : MemoryAccess) where
   unfolding afterAccessIn
   same-words e a = rw e (write-none (offset a (x .pointer)) (a .words))
 
-  access-kept : (total : ℕ) (f : Allocation → List ℕ) → ((a : Allocation) → f (afterAccessIn x a) ≡ f a) → (m : Memory)
-      → held total f (performAccess x m .1) ≡ held total f m
+  -- a buffer that it leaves in each allocation
+  access-kept : (buffer : Memory → List ℕ) → ((n : ℕ) (m : Memory) → buffer (mutateAt n (afterAccessIn x) m) ≡ buffer m) → (m : Memory)
+      → buffer (performAccess x m .1) ≡ buffer m
   unfolding performAccess acceptAccess afterAccess
-  access-kept total f e m =
-      outcome-holds (λ k. held total f k ≡ held total f m) (accessRefusal x m) m (acceptAccess x m) refl
-      (λ z. if-holds (λ k. held total f k ≡ held total f m) (eqb (x .len) 0) m (mutateAt (allocationOf (x .pointer .provenance)) (afterAccessIn x) m) (λ q. refl)
-      (λ q. held-kept total f (afterAccessIn x) e (allocationOf (x .pointer .provenance)) m))
+  access-kept buffer e m =
+      outcome-holds (λ k. buffer k ≡ buffer m) (accessRefusal x m) m (acceptAccess x m) refl
+      (λ z. if-holds (λ k. buffer k ≡ buffer m) (eqb (x .len) 0) m (mutateAt (allocationOf (x .pointer .provenance)) (afterAccessIn x) m) (λ q. refl)
+      (λ q. e (allocationOf (x .pointer .provenance)) m))
+
+  part-kept : (total : ℕ) (f : Allocation → List ℕ) → ((a : Allocation) → f (afterAccessIn x a) ≡ f a) → (m : Memory)
+      → held total f (performAccess x m .1) ≡ held total f m
+  part-kept total f e = access-kept (held total f) (held-kept total f (afterAccessIn x) e)
+
+  records-kept : (m : Memory) → heldRecords (performAccess x m .1) ≡ heldRecords m
+  records-kept = access-kept heldRecords (held-records-kept (afterAccessIn x) same-record)
 
 module _ {m : Memory} {A P R W C : List ℕ} (h : Holds m (buffers A P R W C)) (p : ThinPointer) where
   pub load-encode : (len exponent : ℕ) {answer : Answer} {C′ : List ℕ} → Loaded (loadOf p len exponent) m answer C′
@@ -60,10 +69,10 @@ module _ {m : Memory} {A P R W C : List ℕ} (h : Holds m (buffers A P R W C)) (
   load-encode len exponent k =
       let x : MemoryAccess = loadOf p len exponent in
       encode-of (performAccess x m .1)
-      (holds-allocs h ∙ sym (access-kept x 768 recordOf (same-record x) m))
-      (holds-parents h ∙ sym (access-kept x 1024 parentsOf (same-parents x) m))
-      (holds-protectors h ∙ sym (access-kept x 1024 protectorsOf (same-protectors x) m))
-      (holds-words h ∙ sym (access-kept x 4096 wordsOf (same-words x refl) m))
+      (holds-allocs h ∙ sym (records-kept x m))
+      (holds-parents h ∙ sym (part-kept x 1024 parentsOf (same-parents x) m))
+      (holds-protectors h ∙ sym (part-kept x 1024 protectorsOf (same-protectors x) m))
+      (holds-words h ∙ sym (part-kept x 4096 wordsOf (same-words x refl) m))
       (k .codes)
 
   pub load-holds : (len exponent : ℕ) {answer : Answer} {C′ : List ℕ} → Loaded (loadOf p len exponent) m answer C′
@@ -75,9 +84,9 @@ module _ {m : Memory} {A P R W C : List ℕ} (h : Holds m (buffers A P R W C)) (
   store-encode bytes exponent k =
       let x : MemoryAccess = storeOf p bytes exponent in
       encode-of (performAccess x m .1)
-      (holds-allocs h ∙ sym (access-kept x 768 recordOf (same-record x) m))
-      (holds-parents h ∙ sym (access-kept x 1024 parentsOf (same-parents x) m))
-      (holds-protectors h ∙ sym (access-kept x 1024 protectorsOf (same-protectors x) m))
+      (holds-allocs h ∙ sym (records-kept x m))
+      (holds-parents h ∙ sym (part-kept x 1024 parentsOf (same-parents x) m))
+      (holds-protectors h ∙ sym (part-kept x 1024 protectorsOf (same-protectors x) m))
       (k .words)
       (k .codes)
 

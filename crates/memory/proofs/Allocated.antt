@@ -16,7 +16,7 @@ use Rattle.answer.specs.declared.Answer.{Answer}
 use Rattle.answer.specs.declared.Answer.the-variants.{Refused, Pointer}
 use Rattle.answer.proofs.Replies.{refused-reply}
 use Rattle.pointer.specs.declared.Provenance.the-variants.{Of}
-use Rattle.tables.specs.Encoding.{recordOf, codesOf, held, encode}
+use Rattle.tables.specs.Encoding.{codesOf, heldRecords, held, encode}
 use Rattle.tables.specs.Held.{buffers, Holds, AllocationFits, Appended}
 use Rattle.tables.proofs.Grown.{append-encode}
 use Rattle.tables.proofs.ReadBack.{holds-parents, holds-protectors, holds-words, holds-codes, holds-records, encode-of}
@@ -95,8 +95,8 @@ module _ (m : Memory) (k : AllocationKind) (len exponent address : ℕ) where
 
     module _ {r : Answer} {A′ C′ : List ℕ} (a : Allocated outcome r A′ C′) where
       -- the two buffers, where the outcome is known
-      allocs-after : {o : definition.Answer × Memory} → outcome ≡ o → A′ ≡ held 768 recordOf (o .1)
-      allocs-after e = a .allocs ∙ ap (λ (o : definition.Answer × Memory). held 768 recordOf (o .1)) e
+      allocs-after : {o : definition.Answer × Memory} → outcome ≡ o → A′ ≡ heldRecords (o .1)
+      allocs-after e = a .allocs ∙ ap (λ (o : definition.Answer × Memory). heldRecords (o .1)) e
 
       codes-after : {o : definition.Answer × Memory} → outcome ≡ o → C′ ≡ held 32768 codesOf (o .1)
       codes-after e = a .codes ∙ ap (λ (o : definition.Answer × Memory). held 32768 codesOf (o .1)) e

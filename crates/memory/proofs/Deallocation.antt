@@ -1,10 +1,9 @@
 -- Deallocation: the refusals of the record and those of the tree are the definition's, and so are the record and the codes afterwards.
 use Prim.Native.Nat.{ℕ, zero, suc, _+_, _*_, _<_}
-use mathlib.Core.Path.{_≡_, refl, sym, ap, ap₂, _∙_}
+use mathlib.Core.Path.{_≡_, refl, sym, ap, _∙_}
 use mathlib.Core.Bool.{true, false, not}
 use mathlib.Core.Option.{none, some}
 use mathlib.Core.List.{List, [], _∷_}
-use native.Mathlib.Nat.{add-zero}
 use native.Mathlib.Omega.{arith}
 use borrow.Author.Tests.{eq-eqb, ne-eqb}
 use lib.Dec.{eqb}
@@ -23,12 +22,11 @@ use Rattle.pointer.specs.declared.ThinPointer as code
 use Rattle.answer.specs.Answer.{replyTo}
 use Rattle.answer.specs.Answer.Gives.{Nothing}
 use Rattle.answer.specs.declared.Answer.the-variants.{Refused, Accepted}
-use Rattle.tables.specs.Encoding.{stateNumber, recordOf, codesOf, held}
-use Rattle.tables.specs.Held.{startOf, Records}
-use Rattle.tables.proofs.Focus.{focus-set}
-use Rattle.tables.proofs.Lookup.{record-start, state-at, live-state, kind-at, exponent-at, address-at, size-at}
+use Rattle.tables.specs.Encoding.{Place, stateNumber, recordOf, codesOf, heldRecords, held}
+use Rattle.tables.specs.Held.{Records}
+use Rattle.tables.proofs.Lookup.{state-at, live-state, kind-at, exponent-at, address-at, size-at, recordAt}
+use Rattle.tables.proofs.Records.{record-state}
 use Rattle.tables.specs.declared.Allocation as record-of
-use Rattle.bounds.proofs.Points.{recordAt}
 use Rattle.tree.specs.Requests as tree
 use Rattle.parts.specs.Trees.{HoldsMarked, afterVisit, TreeVisited}
 use Rattle.memory.specs.Deallocate.{recordRefusal, refusalThrough, NodeIn, WrittenAll, Deallocated}
@@ -77,7 +75,7 @@ module _ (p : ThinPointer) (k : AllocationKind) (len exponent : ℕ) (m : Memory
       record {
         reply = ap (λ o. replyTo Nothing (o .0)) (sym o);
         answers = λ words. ap (λ o. o .0) (sym o);
-        allocs = h .trees .allocs ∙ ap (λ o. held 768 recordOf (o .1)) (sym o);
+        allocs = h .trees .allocs ∙ ap (λ o. heldRecords (o .1)) (sym o);
         codes = c ∙ ap (λ o. held 32768 codesOf (o .1)) (sym o);
       }
 
@@ -121,16 +119,14 @@ module _ (p : ThinPointer) {m : Memory} {A P R C : List ℕ} (h : HoldsMarked m 
   abbrev n : ℕ
   n = allocationOf (p .provenance)
 
-  dead-record : recordOf (afterDeallocateIn p (allocationAt m n)) ≡ set (recordOf (allocationAt m n)) 0 2
+  dead-record : (q : Place) → recordOf q (afterDeallocateIn p (allocationAt m n)) ≡ set (recordOf q (allocationAt m n)) 0 2
   unfolding afterDeallocateIn
-  dead-record =
+  dead-record q =
       let a : Allocation = allocationAt m n in
-      ap (λ (c : ℕ). 2 ∷ kindNumber (a .kind) ∷ a .exponent ∷ a .address ∷ size a ∷ c ∷ []) (visited-length (writeAll p a) (a .nodes))
+      ap (λ (c : ℕ). 2 ∷ kindNumber (a .kind) ∷ a .exponent ∷ a .address ∷ size a ∷ c ∷ q .words ∷ q .nodes ∷ q .codes ∷ []) (visited-length (writeAll p a) (a .nodes))
 
-  dead-records : set A (n * 6) 2 ≡ held 768 recordOf (mutateAt n (afterDeallocateIn p) m)
-  dead-records =
-      let e : n * 6 ≡ startOf recordOf m n + 0 = sym (record-start m n (omega arith)) ∙ sym (add-zero (startOf recordOf m n)) in
-      ap₂ (λ (l : List ℕ) (i : ℕ). set l i 2) (h .trees .allocs) e ∙ focus-set 768 recordOf m n made (afterDeallocateIn p) 0 2 (omega arith) dead-record
+  dead-records : set A (n * 9) 2 ≡ heldRecords (mutateAt n (afterDeallocateIn p) m)
+  dead-records = ap (λ (l : List ℕ). set l (n * 9) 2) (h .trees .allocs) ∙ record-state m n made (afterDeallocateIn p) 2 dead-record
 
   dead-codes : held 32768 codesOf (mutateAt n (afterVisit (writeAll p (allocationAt m n))) m) ≡ held 32768 codesOf (mutateAt n (afterDeallocateIn p) m)
   unfolding afterDeallocateIn codesOf
@@ -139,14 +135,14 @@ module _ (p : ThinPointer) {m : Memory} {A P R C : List ℕ} (h : HoldsMarked m 
       same-parts 32768 codesOf m n made (afterVisit v) (afterDeallocateIn p) (visited-part m n (h .valid) made v) refl
 
   pub deallocate-accepted : (k : AllocationKind) (len exponent : ℕ) {C′ : List ℕ} → C′ ≡ held 32768 codesOf (mutateAt n (afterVisit (writeAll p (allocationAt m n))) m)
-      → definition.deallocateRefusal m p k len exponent ≡ 0 → Deallocated p k len exponent m Accepted (set A (n * 6) 2) C′
+      → definition.deallocateRefusal m p k len exponent ≡ 0 → Deallocated p k len exponent m Accepted (set A (n * 9) 2) C′
   unfolding acceptDeallocate
   deallocate-accepted k len exponent c e =
       let o = performed p k len exponent m 0 e in
       record {
         reply = ap (λ o. replyTo Nothing (o .0)) (sym o);
         answers = λ words. ap (λ o. o .0) (sym o);
-        allocs = dead-records ∙ ap (λ o. held 768 recordOf (o .1)) (sym o);
+        allocs = dead-records ∙ ap (λ o. heldRecords (o .1)) (sym o);
         codes = c ∙ dead-codes ∙ ap (λ o. held 32768 codesOf (o .1)) (sym o);
       }
 
@@ -158,7 +154,7 @@ module _ (p : ThinPointer) {m : Memory} {A P R C : List ℕ} (h : HoldsMarked m 
         let f : eqb refused 0 ≡ false = ne-eqb refused 0 (λ q. z (w .refusal ∙ q)) in
         deallocate-refused p k len exponent m r z h (w .codes ∙ rw f) (e ∙ sym (w .refusal))
 
-    pub tree-accepted : r ≡ 0 → Deallocated p k len exponent m Accepted (set A (n * 6) 2) C′
+    pub tree-accepted : r ≡ 0 → Deallocated p k len exponent m Accepted (set A (n * 9) 2) C′
     tree-accepted z =
         let q : refused ≡ 0 = sym (w .refusal) ∙ z in
         let f : eqb refused 0 ≡ true = eq-eqb refused 0 q in
@@ -182,7 +178,7 @@ module _ (p : code.ThinPointer) {n node : ℕ} (e : p .provenance ≡ Of n node)
         (tree-refused (through (p .addr) t) h (node-made t (p .addr) kind len exponent m passed f g .made) k len exponent r _ w
         (refused-in-tree (p .addr) t k len exponent m (sym (rw q at f) ∙ g)) z)
 
-    pub accepted-through : r ≡ 0 → Deallocated (thinPointerOf p) k len exponent m Accepted (set A (n * 6) 2) C′
+    pub accepted-through : r ≡ 0 → Deallocated (thinPointerOf p) k len exponent m Accepted (set A (n * 9) 2) C′
     accepted-through z =
         let t : Provenance = record { allocation = n; node = node } in
         rw e

@@ -28,12 +28,13 @@ use Rattle.answer.specs.declared.Answer.{Answer}
 use Rattle.answer.specs.declared.Answer.the-variants.{Refused, Accepted, Words}
 use Rattle.answer.proofs.Replies.{refused-reply}
 use Rattle.tables.specs.Encoding.{wordsOf, codesOf, held}
-use Rattle.tables.specs.Held.{startOf, Records, StartsAt}
+use Rattle.tables.specs.Held.{startOf, Records}
 use Rattle.tables.proofs.Parts.{write-paste}
 use Rattle.tables.proofs.Focus.{focus-used, focus-paste}
 use Rattle.tables.proofs.Sizes.{words-fit}
 use Rattle.tables.specs.declared.Allocation as record-of
-use Rattle.bounds.proofs.Points.{recordAt, read-address}
+use Rattle.tables.proofs.Lookup.{recordAt, read-starts}
+use Rattle.bounds.proofs.Points.{read-address}
 use Rattle.parts.specs.Trees.{HoldsTrees, afterVisit, TreeVisited}
 use Rattle.memory.specs.Buffers.{HoldsWords}
 use Rattle.memory.specs.Access.{accessOf, loadOf, storeOf, boundsRefusal, Checked, Reached, visitAt, wordsStart, Accessed, wordsGiven, Loaded, Stored}
@@ -231,10 +232,10 @@ module _ (p : code.ThinPointer) {n node : ℕ} (e : p .provenance ≡ Of n node)
       → Accessed (accessOf kind (thinPointerOf p) len exponent bytes) m r C′
   accessed-through kind exponent bytes h passed q f t = visited-accessed (accessOf kind (thinPointerOf p) len exponent bytes) h (sym q ∙ f) z (rw e t)
 
-  pub start-through : {A : List ℕ} → Records m A → Checked m (thinPointerOf p) len → {r : record-of.Allocation} → r ≡ recordAt A n → {w b c : ℕ} → StartsAt m n w b c
-      → w + (p .addr - r .address) ≡ wordsStart (thinPointerOf p) len m
-  start-through h k q s =
-      rw (e, s .words, read-address h (reached-through k .made) q)
+  pub start-through : {A : List ℕ} → Records m A → Checked m (thinPointerOf p) len → {r : record-of.Allocation} → r ≡ recordAt A n
+      → r .starts .words + (p .addr - r .address) ≡ wordsStart (thinPointerOf p) len m
+  start-through h k q =
+      rw (e, read-starts h (reached-through k .made) q .words, read-address h (reached-through k .made) q)
       (sym (start-some (record { address = p .addr; provenance = some (record { allocation = n; node = node }) }) len m z))
 
 -- ---- a load's answer

@@ -7,7 +7,7 @@ use Rattle.definition.specs.Memory as definition
 use Rattle.answer.specs.Answer.{answerOf, replyTo}
 use Rattle.answer.specs.Answer.Gives.{ThePointer}
 use Rattle.answer.specs.declared.Answer.{Answer}
-use Rattle.tables.specs.Encoding.{recordOf, codesOf, held}
+use Rattle.tables.specs.Encoding.{codesOf, heldRecords, held}
 use Rattle.tables.specs.Held.{Records}
 
 -- records and codes are those of m, and 2 was passed
@@ -21,5 +21,5 @@ pub record CanAllocate (m : Memory) (k : AllocationKind) (A C : List ℕ) (kind 
 pub record Allocated (outcome : definition.Answer × Memory) (r : Answer) (A C : List ℕ) : Type 0 where
   pub reply : r ≡ replyTo ThePointer (outcome .0)
   pub answer : (words : List ℕ) → answerOf r words ≡ outcome .0
-  pub allocs : A ≡ held 768 recordOf (outcome .1)
+  pub allocs : A ≡ heldRecords (outcome .1)
   pub codes : C ≡ held 32768 codesOf (outcome .1)

@@ -14,7 +14,7 @@ use Rattle.definition.specs.Memory.{Provenance, ThinPointer, Memory, Allocation
 use Rattle.answer.specs.Answer.{answerOf, replyTo}
 use Rattle.answer.specs.Answer.Gives.{Nothing}
 use Rattle.answer.specs.declared.Answer.{Answer}
-use Rattle.tables.specs.Encoding.{stateNumber, recordOf, codesOf, held}
+use Rattle.tables.specs.Encoding.{stateNumber, codesOf, heldRecords, held}
 use Rattle.tree.specs.Requests.{deallocateRefusal}
 use Rattle.parts.specs.Trees.{TreeVisited}
 
@@ -50,5 +50,5 @@ WrittenAll m n node answer C =
 pub record Deallocated (p : ThinPointer) (k : AllocationKind) (len exponent : ℕ) (m : Memory) (answer : Answer) (A C : List ℕ) : Type 0 where
   pub reply : answer ≡ replyTo Nothing (deallocate p k len exponent m .0)
   pub answers : (words : List ℕ) → answerOf answer words ≡ deallocate p k len exponent m .0
-  pub allocs : A ≡ held 768 recordOf (deallocate p k len exponent m .1)
+  pub allocs : A ≡ heldRecords (deallocate p k len exponent m .1)
   pub codes : C ≡ held 32768 codesOf (deallocate p k len exponent m .1)

@@ -129,10 +129,9 @@ fn words_start(allocs: &[u64], p: ThinPointer, len: u64) -> usize
             }
             let n = allocation as usize;
             let a = tables::allocation_at(allocs, n);
-            let s = tables::starts_at(allocs, n);
+            let s = a.starts;
             let address = a.address;
-            let start = s.words;
-            start + (addr - address) as usize
+            s.words + (addr - address) as usize
         }
     }
 }

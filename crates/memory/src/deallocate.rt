@@ -110,7 +110,7 @@ pub fn deallocate(
             if prevented != 0 {
                 return Answer::Refused(prevented);
             }
-            let state = n * 6;
+            let state = n * 9;
             allocs[state] = 2;
             Answer::Accepted
         }

@@ -15,9 +15,10 @@ use Rattle.definition.proofs.Places.{mutate-here}
 use Rattle.definition.proofs.Visits.{visited-length}
 use Rattle.definition.proofs.ValidTrees.{visited-valid}
 use Rattle.definition.proofs.ValidMemory.{Succeeds, changed-valid, same-nodes-kept}
-use Rattle.tables.specs.Encoding.{stateNumber, recordOf, parentsOf, protectorsOf, wordsOf, codesOf, concatMap, held}
+use Rattle.tables.specs.Encoding.{Place, stateNumber, recordOf, parentsOf, protectorsOf, wordsOf, codesOf, concatMap, held}
 use Rattle.tables.specs.Held.{startOf, Records, Used}
 use Rattle.tables.proofs.Focus.{focus-same}
+use Rattle.tables.proofs.Records.{held-records-kept}
 use Rattle.parts.specs.declared.Parts.{Parts}
 use Rattle.parts.specs.Trees.{HoldsMarked, PartsOf, afterVisit}
 use Rattle.parts.proofs.Trees.{visited-parentsOf, visited-protectorsOf}
@@ -29,8 +30,9 @@ module _ (v : Visit) where
   codes-kept : (a : Allocation) → codeCount (afterVisit v a) ≡ codeCount a
   codes-kept a = ap (λ (k : ℕ). k * size a) (nodes-kept a)
 
-  record-kept : (a : Allocation) → recordOf (afterVisit v a) ≡ recordOf a
-  record-kept a = ap (λ (k : ℕ). stateNumber (a .state) ∷ kindNumber (a .kind) ∷ a .exponent ∷ a .address ∷ size a ∷ k ∷ []) (nodes-kept a)
+  record-kept : (p : Place) (a : Allocation) → recordOf p (afterVisit v a) ≡ recordOf p a
+  record-kept p a =
+      ap (λ (k : ℕ). stateNumber (a .state) ∷ kindNumber (a .kind) ∷ a .exponent ∷ a .address ∷ size a ∷ k ∷ p .words ∷ p .nodes ∷ p .codes ∷ []) (nodes-kept a)
 
   succeeds : (a : Allocation) → Succeeds 0 a (afterVisit v a)
   succeeds a = record { address = refl; bytes = refl; live = λ l. l; nodes = nodes-kept a ∙ sym (add-zero (nodeCount a)) }
@@ -54,7 +56,7 @@ module _ (v : Visit) where
         record {
           valid = same-nodes-kept (afterVisit v) succeeds allocation-valid n m (h .valid) .valid;
           trees = record {
-            allocs = h .trees .allocs ∙ sym (focus-same 768 recordOf m n made (afterVisit v) (record-kept a));
+            allocs = h .trees .allocs ∙ sym (held-records-kept (afterVisit v) record-kept n m);
             parents = h .trees .parents ∙ sym (focus-same 1024 parentsOf m n made (afterVisit v) (visited-parentsOf v a (a .state) (a .words)));
             protectors = h .trees .protectors ∙ sym (focus-same 1024 protectorsOf m n made (afterVisit v) (visited-protectorsOf v a (a .state) (a .words)));
             codes = e;
@@ -63,7 +65,7 @@ module _ (v : Visit) where
 
     -- the records are the same
     pub records-before : Valid m → {A P R C : List ℕ} → HoldsMarked after A P R C → Records m A
-    records-before w h = record { valid = w; allocs = h .trees .allocs ∙ focus-same 768 recordOf m n made (afterVisit v) (record-kept (allocationAt m n)) }
+    records-before w h = record { valid = w; allocs = h .trees .allocs ∙ held-records-kept (afterVisit v) record-kept n m }
 
     start-same : (f : Allocation → List ℕ) → startOf f after n ≡ startOf f m n
     start-same f = ap (λ (l : Memory). length (concatMap f l)) (take-mutate n n (afterVisit v) m (omega arith))

@@ -12,7 +12,7 @@ use Rattle.definition.specs.Tree.{Visit, visited}
 use Rattle.definition.specs.Memory.{Allocation, Memory, allocationAt, size, nodeCount, codeCount}
 use Rattle.definition.specs.Valid.{ValidAllocation, Valid}
 use Rattle.definition.proofs.Places.{valid-at}
-use Rattle.tables.specs.Encoding.{Buffers, recordOf, parentsOf, protectorsOf, wordsOf, codesOf, held}
+use Rattle.tables.specs.Encoding.{Buffers, heldRecords, parentsOf, protectorsOf, wordsOf, codesOf, held}
 use Rattle.tables.specs.Held as tables
 use Rattle.tables.specs.Held.{buffers, Records, StartsAt}
 use Rattle.tables.proofs.Focus.{length-held, focus-same}
@@ -72,7 +72,7 @@ module _ {m : Memory} {n : ℕ} {P C : List ℕ} {r : Parts} (h : TreeAt m n P C
   valid = valid-at m n (h .valid) made
 
   -- the other buffers may be those of m
-  whole : {R : List ℕ} → R ≡ held 1024 protectorsOf m → tables.Holds m (buffers (held 768 recordOf m) P R (held 4096 wordsOf m) C)
+  whole : {R : List ℕ} → R ≡ held 1024 protectorsOf m → tables.Holds m (buffers (heldRecords m) P R (held 4096 wordsOf m) C)
   whole marked = record { valid = h .valid; equal = encode-of m refl (h .parents) marked refl (h .codes) }
 
   node-span : r .behind - r .first ≡ nodeCount x

@@ -16,7 +16,7 @@ pub struct Parts {
     pub width: usize,
 }
 
-// In one pass over the records before it.
+// As its record says.
 pub fn parts_at(allocs: &[u64], n: usize) -> Parts
     requires { ⌜ ((m : Memory) × (Records m (now allocs) × (n < length m))) ⌝ }
     ensures { λ r. ⌜ ((m : Memory) → Records m (now (allocs .entry)) → n < length m → PartsOf m n r) ⌝ }
@@ -24,7 +24,7 @@ pub fn parts_at(allocs: &[u64], n: usize) -> Parts
     let a = tables::allocation_at(allocs, n);
     let nodes = a.nodes;
     let width = a.size;
-    let s = tables::starts_at(allocs, n);
+    let s = a.starts;
     let first = s.nodes;
     let start = s.codes;
     Parts {

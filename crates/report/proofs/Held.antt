@@ -3,7 +3,7 @@ use Prim.Native.Nat.{ℕ, _+_, _-_, _*_, _≤_, _<_}
 use mathlib.Core.List.{List, [], _∷_, append-nil}
 use mathlib.Core.Path.{_≡_, sym, ap, _∙_}
 use native.Mathlib.Omega.{arith}
-use lib.ListN.{length, take, drop, getD}
+use lib.ListN.{length, take, drop}
 use Rattle.definition.proofs.Alls.{all-append, all-map}
 use Rattle.definition.proofs.Permissions.{code-small}
 use Rattle.definition.specs.Memory as definition
@@ -12,10 +12,10 @@ use Rattle.definition.specs.Permission.{code}
 use Rattle.definition.specs.Tree.{Node}
 use Rattle.definition.specs.Valid.{All, ValidAllocation}
 use Rattle.definition.proofs.Places.{valid-at}
-use Rattle.tables.proofs.Focus.{focus-part, focus-room}
-use Rattle.tables.proofs.Lookup.{state-at, kind-at, exponent-at, address-at, size-at, start-more}
+use Rattle.tables.proofs.Focus.{length-held, focus-part, focus-room}
+use Rattle.tables.proofs.Lookup.{state-at, kind-at, exponent-at, address-at, size-at, start-more, recordAt}
 use Rattle.tables.proofs.ReadBack.{liveness-back, kind-back, nodes-back, holds-parents, holds-protectors, holds-words, holds-codes, holds-records}
-use Rattle.tables.proofs.Sizes.{length-parents, length-protectors, length-codes}
+use Rattle.tables.proofs.Sizes.{length-parents, length-protectors, length-codes, words-fit}
 use Rattle.tables.specs.Decoding.{liveness, allocationKind, nodesIn}
 use Rattle.tables.specs.Encoding.{parentsOf, protectorsOf, wordsOf, rowOf, codesOf, concatMap, held}
 use Rattle.tables.specs.Held.{buffers, startOf, Records, StartsAt, Holds}
@@ -74,14 +74,7 @@ module _ {m : Memory} {A : List ℕ} (h : Records m A) (a : ℕ) (made : a < len
       (nodes-back (size y) (isLive (y .state)) 0 (y .nodes) [] [] [] (its-valid .nodes))
 
   -- its record, as `allocation_at` reads it
-  module _ {x : Allocation} (read : x ≡ record {
-    state = getD A (a * 6) 0;
-    kind = getD A (a * 6 + 1) 0;
-    exponent = getD A (a * 6 + 2) 0;
-    address = getD A (a * 6 + 3) 0;
-    size = getD A (a * 6 + 4) 0;
-    nodes = getD A (a * 6 + 5) 0;
-  }) where
+  module _ {x : Allocation} (read : x ≡ recordAt A a) where
     pub its-size : length (wordsOf (allocationAt m a)) ≡ x .size
     its-size = sym (ap (λ (r : Allocation). r .size) read ∙ size-at h a made)
 
@@ -116,6 +109,9 @@ module _ {m : Memory} {A P R W C : List ℕ} (h : Holds m (buffers A P R W C)) (
   words-within =
       (part-ordered 4096 wordsOf m a made W (holds-words h) w w′ (s .words) (e .words), part-within 4096 wordsOf m a made W (holds-words h) w w′ (s .words) (e .words))
 
+  pub words-small : w′ ≤ 4096
+  words-small = omega (arith, words-within .1, ap length (holds-words h), length-held 4096 wordsOf m (words-fit m (h .valid)))
+
   pub parents-within : (n ≤ n′) × (n′ ≤ length P)
   parents-within =
       (part-ordered 1024 parentsOf m a made P (holds-parents h) n n′ (s .parents) (e .parents), part-within 1024 parentsOf m a made P (holds-parents h) n n′ (s .parents) (e .parents))
@@ -131,14 +127,7 @@ module _ {m : Memory} {A P R W C : List ℕ} (h : Holds m (buffers A P R W C)) (
   pub found-nodes : Nodes (length (take (w′ - w) (drop w W))) (take (n′ - n) (drop n P)) (take (n′ - n) (drop n R)) (take (c′ - c) (drop c C))
   found-nodes = rw (words-are, parents-are, protectors-are, codes-are) (its-nodes (holds-records h) a made)
 
-  module _ {x : Allocation} (read : x ≡ record {
-    state = getD A (a * 6) 0;
-    kind = getD A (a * 6 + 1) 0;
-    exponent = getD A (a * 6 + 2) 0;
-    address = getD A (a * 6 + 3) 0;
-    size = getD A (a * 6 + 4) 0;
-    nodes = getD A (a * 6 + 5) 0;
-  }) where
+  module _ {x : Allocation} (read : x ≡ recordAt A a) where
     pub found-size : length (take (w′ - w) (drop w W)) ≡ x .size
     found-size = ap length words-are ∙ its-size (holds-records h) a made read
 

@@ -12,8 +12,7 @@ use Rattle.tables.specs.declared.Allocation as record-read
 use Rattle.tables.specs.Held.{Records, Used, PlaceFor}
 use Rattle.tables.proofs.Focus.{focus-used}
 use Rattle.tables.proofs.Sizes.{length-parents, length-protectors, parents-fit, codes-at}
-use Rattle.tables.proofs.Lookup.{nodes-at, start-more}
-use Rattle.bounds.proofs.Points.{recordAt}
+use Rattle.tables.proofs.Lookup.{nodes-at, start-more, recordAt}
 use Rattle.parts.specs.declared.Parts.{Parts}
 use Rattle.parts.specs.Trees.{PartsOf}
 

@@ -22,7 +22,8 @@ use Rattle.pointer.specs.declared.ThinPointer as pointer
 use Rattle.pointer.specs.declared.Provenance.the-variants.{Of}
 use Rattle.tables.specs.declared.Allocation as code
 use Rattle.tables.specs.Held.{Records}
-use Rattle.bounds.proofs.Points.{recordAt, read-address, read-size, points-made}
+use Rattle.tables.proofs.Lookup.{recordAt}
+use Rattle.bounds.proofs.Points.{read-address, read-size, points-made}
 use Rattle.retag.specs.Settings.{placeIn}
 use Rattle.retag.specs.Retag.{boundsRefusal, Fits, Passed}
 

@@ -368,12 +368,7 @@ fn reborrow_inside(
                 return Answer::Refused(4);
             }
             let t = parts::parts_at(allocs, n);
-            let starts = Starts {
-                words: t.word,
-                nodes: t.first,
-                codes: t.start,
-            };
-            let used = tables::used_from(allocs, n, starts);
+            let used = tables::used_behind(allocs, n);
             let refused = retag_refusal(
                 allocs,
                 parents,

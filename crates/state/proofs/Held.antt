@@ -7,10 +7,11 @@ use lib.ListN.{length}
 use Rattle.definition.specs.Memory.{Memory}
 use Rattle.definition.specs.Frame.{State}
 use Rattle.definition.specs.Valid.{Valid}
-use Rattle.tables.specs.Encoding.{Buffers, recordOf, parentsOf, protectorsOf, wordsOf, codesOf}
+use Rattle.tables.specs.Encoding.{Buffers, parentsOf, protectorsOf, wordsOf, codesOf}
 use Rattle.tables.specs.Held.{buffers, Holds, Records}
 use Rattle.tables.proofs.Focus.{length-held}
-use Rattle.tables.proofs.Sizes.{records-fit, parents-fit, protectors-fit, words-fit, codes-fit}
+use Rattle.tables.proofs.Records.{length-held-records}
+use Rattle.tables.proofs.Sizes.{parents-fit, protectors-fit, words-fit, codes-fit}
 use Rattle.tables.proofs.ReadBack.{holds-records, holds-allocs, holds-parents, holds-protectors, holds-words, holds-codes}
 use Rattle.frames.proofs.FromValid.{valid-holds}
 use Rattle.frames.proofs.Frames.{buffer-length}
@@ -35,7 +36,7 @@ state-lengths {s} {A} {P} {R} {W} {C} {F} h =
     let v : Valid m = h .valid .memory in
     let k : Holds m (buffers A P R W C) = record { valid = v; equal = h .memory } in
     record {
-      allocs = ap length (holds-allocs k) ∙ length-held 768 recordOf m (records-fit m v);
+      allocs = ap length (holds-allocs k) ∙ length-held-records m (v .bounded .allocations);
       parents = ap length (holds-parents k) ∙ length-held 1024 parentsOf m (parents-fit m v);
       protectors = ap length (holds-protectors k) ∙ length-held 1024 protectorsOf m (protectors-fit m v);
       words = ap length (holds-words k) ∙ length-held 4096 wordsOf m (words-fit m v);

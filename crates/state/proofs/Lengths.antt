@@ -20,14 +20,14 @@ use Rattle.state.specs.State.{HoldsState}
 
 -- ---- the lengths
 pub record MemoryLengths (b : Buffers) : Type 0 where
-  pub allocs : length (b .allocs) ≡ 768
+  pub allocs : length (b .allocs) ≡ 1152
   pub parents : length (b .parents) ≡ 1024
   pub protectors : length (b .protectors) ≡ 1024
   pub words : length (b .words) ≡ 4096
   pub codes : length (b .codes) ≡ 32768
 
 pub record Lengths (b : Buffers) (F : List ℕ) : Type 0 where
-  pub allocs : length (b .allocs) ≡ 768
+  pub allocs : length (b .allocs) ≡ 1152
   pub parents : length (b .parents) ≡ 1024
   pub protectors : length (b .protectors) ≡ 1024
   pub words : length (b .words) ≡ 4096
@@ -44,11 +44,11 @@ module _ (n k : ℕ) (rest : Bool) (e : eqb n k && rest ≡ true) where
 
 pub memory-lengths : (b : Buffers) → haveMemoryLengths b ≡ true → MemoryLengths b
 memory-lengths b e =
-    let p = tail (length (b .allocs)) 768 _ e in
+    let p = tail (length (b .allocs)) 1152 _ e in
     let r = tail (length (b .parents)) 1024 _ p in
     let w = tail (length (b .protectors)) 1024 _ r in
     record {
-      allocs = head (length (b .allocs)) 768 _ e;
+      allocs = head (length (b .allocs)) 1152 _ e;
       parents = head (length (b .parents)) 1024 _ p;
       protectors = head (length (b .protectors)) 1024 _ r;
       words = head (length (b .words)) 4096 _ w;
@@ -67,10 +67,10 @@ module _ (b : Buffers) (F : List ℕ) (e : haveLengths b F ≡ true) where
       let m = memory-lengths b of-memory in
       record { allocs = m .allocs; parents = m .parents; protectors = m .protectors; words = m .words; codes = m .codes; frames = of-frames }
 
-pub have-lengths : (A P R W C F : List ℕ) → length A ≡ 768 → length P ≡ 1024 → length R ≡ 1024 → length W ≡ 4096 → length C ≡ 32768 → length F ≡ 2080
+pub have-lengths : (A P R W C F : List ℕ) → length A ≡ 1152 → length P ≡ 1024 → length R ≡ 1024 → length W ≡ 4096 → length C ≡ 32768 → length F ≡ 2080
     → haveLengths (buffers A P R W C) F ≡ true
 have-lengths A P R W C F a p r w c f =
-    rw (eq-eqb (length A) 768 a, eq-eqb (length P) 1024 p, eq-eqb (length R) 1024 r, eq-eqb (length W) 4096 w, eq-eqb (length C) 32768 c, eq-eqb (length F) 2080 f)
+    rw (eq-eqb (length A) 1152 a, eq-eqb (length P) 1024 p, eq-eqb (length R) 1024 r, eq-eqb (length W) 4096 w, eq-eqb (length C) 32768 c, eq-eqb (length F) 2080 f)
 
 -- ---- zeros: each buffer filled by its length, or by a number
 pub all-zero : (b : Buffers) → haveMemoryLengths b ≡ true → {A P R W C : List ℕ} → A ≡ replicate (length (b .allocs)) 0 → P ≡ replicate (length (b .parents)) 0

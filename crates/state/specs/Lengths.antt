@@ -10,7 +10,7 @@ use Rattle.tables.specs.Encoding.{Buffers}
 -- those of a memory
 abbrev pub haveMemoryLengths : Buffers → Bool
 haveMemoryLengths b =
-    eqb (length (b .allocs)) 768
+    eqb (length (b .allocs)) 1152
     && (eqb (length (b .parents)) 1024
     && (eqb (length (b .protectors)) 1024 && (eqb (length (b .words)) 4096 && eqb (length (b .codes)) 32768)))
 

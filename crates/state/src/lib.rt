@@ -19,7 +19,7 @@ pub fn have_memory_lengths(
 ) -> bool
     ensures { λ r. ⌜ r ≡ haveMemoryLengths (buffers (now (allocs .entry)) (now (parents .entry)) (now (protectors .entry)) (now (words .entry)) (now (codes .entry))) ⌝ }
 {
-    (allocs.len() == 768)
+    (allocs.len() == 1152)
         & ((parents.len() == 1024)
             & ((protectors.len() == 1024) & ((words.len() == 4096) & (codes.len() == 32768))))
 }

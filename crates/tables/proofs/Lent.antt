@@ -1,22 +1,20 @@
 -- An allocation's parts of the five buffers, as they are lent on and come back: reading one gives the field, and what is written
 -- into one is the memory with that field changed.
-use Prim.Native.Nat.{ℕ, _+_, _*_, _≤_, _<_}
+use Prim.Native.Nat.{ℕ, _+_, _≤_, _<_}
 use mathlib.Core.Path.{_≡_, refl, sym, ap, _∙_}
 use mathlib.Core.List.{List}
-use native.Mathlib.Nat.{add-zero}
 use native.Mathlib.Omega.{arith}
 use borrow.Rule.Slice.PartMut.{putMid}
-use lib.ListN.{length, take, drop, set}
+use lib.ListN.{length, take, drop}
 use lib.Seq.{paste}
 use Rattle.definition.specs.Notation.{mutateAt, writeAt}
 use Rattle.definition.specs.Memory.{Allocation, Memory, size, nodeCount, codeCount, allocationAt}
-use Rattle.tables.specs.Encoding.{Buffers, recordOf, parentsOf, protectorsOf, wordsOf, codesOf, held}
+use Rattle.tables.specs.Encoding.{Buffers, parentsOf, protectorsOf, wordsOf, codesOf, held}
 use Rattle.tables.specs.Held.{startOf, Holds, StartsAt}
 use Rattle.tables.proofs.Parts.{write-paste}
-use Rattle.tables.proofs.Focus.{focus-room, focus-part, focus-same, focus-mutate, focus-paste, focus-set}
+use Rattle.tables.proofs.Focus.{focus-room, focus-part, focus-same, focus-mutate, focus-paste}
 use Rattle.tables.proofs.Sizes.{length-parents, length-protectors, codes-at}
-use Rattle.tables.proofs.Lookup.{record-start}
-use Rattle.tables.proofs.ReadBack.{holds-allocs, holds-parents, holds-protectors, holds-words, holds-codes}
+use Rattle.tables.proofs.ReadBack.{holds-parents, holds-protectors, holds-words, holds-codes}
 
 -- one buffer b that holds the parts f; allocation a's starts at p and has k numbers
 module _ (total : ℕ) (f : Allocation → List ℕ) (m : Memory) (a : ℕ) (made : a < length m) (b : List ℕ) (h : b ≡ held total f m)
@@ -33,20 +31,7 @@ module _ (total : ℕ) (f : Allocation → List ℕ) (m : Memory) (a : ℕ) (mad
 
 -- each of the five
 module _ {m : Memory} {b : Buffers} (h : Holds m b) {a : ℕ} (made : a < length m) where
-  -- ---- the record: g changes number j of it
-  pub given-number : (g : Allocation → Allocation) (j v : ℕ) → j < 6 → recordOf (g (allocationAt m a)) ≡ set (recordOf (allocationAt m a)) j v
-      → set (b .allocs) (a * 6 + j) v ≡ held 768 recordOf (mutateAt a g m)
-  given-number g j v l e =
-      rw (holds-allocs h, ← record-start m a (omega arith)) (focus-set 768 recordOf m a made g j v l e)
-
-  pub given-state : (g : Allocation → Allocation) (v : ℕ) → recordOf (g (allocationAt m a)) ≡ set (recordOf (allocationAt m a)) 0 v
-      → set (b .allocs) (a * 6) v ≡ held 768 recordOf (mutateAt a g m)
-  given-state g v e = ap (λ (k : ℕ). set (b .allocs) k v) (sym (add-zero (a * 6))) ∙ given-number g 0 v (omega arith) e
-
   -- ---- a buffer whose part stays
-  pub same-allocs : (g : Allocation → Allocation) → recordOf (g (allocationAt m a)) ≡ recordOf (allocationAt m a) → b .allocs ≡ held 768 recordOf (mutateAt a g m)
-  same-allocs g e = holds-allocs h ∙ sym (focus-same 768 recordOf m a made g e)
-
   pub same-parents : (g : Allocation → Allocation) → parentsOf (g (allocationAt m a)) ≡ parentsOf (allocationAt m a) → b .parents ≡ held 1024 parentsOf (mutateAt a g m)
   same-parents g e = holds-parents h ∙ sym (focus-same 1024 parentsOf m a made g e)
 

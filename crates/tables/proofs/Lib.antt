@@ -3,8 +3,10 @@ pub mod Moves
 pub mod Ranges
 pub mod Focus
 pub mod Sizes
+pub mod Records
 pub mod Lookup
 pub mod ReadBack
 pub mod Inserts
+pub mod Moving
 pub mod Grown
 pub mod Lent

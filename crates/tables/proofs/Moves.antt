@@ -54,7 +54,12 @@ pub copy-more : (s d : List ℕ) (i : ℕ) → i < length s → i < length d
     → set (take i s ++ drop i d) i (getD s i 0) ≡ take (i + 1) s ++ drop (i + 1) d
 copy-more s d i hs hd = rw add-one (copy-set s d 0 i hs hd)
 
--- six numbers set one after the other
-pub six-sets : (l : List ℕ) (p a b c d e f : ℕ) → p + 6 ≤ length l
-    → set (set (set (set (set (set l p a) (p + 1) b) (p + 2) c) (p + 3) d) (p + 4) e) (p + 5) f ≡ paste l p (a ∷ b ∷ c ∷ d ∷ e ∷ f ∷ []) 6
-six-sets l p a b c d e f h = rw (add-one, add-two, add-three, add-four, add-five) (sets-eq (a ∷ b ∷ c ∷ d ∷ e ∷ f ∷ []) l p h)
+-- nine numbers set one after the other
+pub nine-sets : (l : List ℕ) (p a b c d e f g h i : ℕ) → p + 9 ≤ length l
+    → set (set (set (set (set (set (set (set (set l p a) (p + 1) b) (p + 2) c) (p + 3) d) (p + 4) e) (p + 5) f) (p + 6) g) (p + 7) h) (p + 8) i
+    ≡ paste l p (a ∷ b ∷ c ∷ d ∷ e ∷ f ∷ g ∷ h ∷ i ∷ []) 9
+nine-sets l p a b c d e f g h i room =
+    let six : p + 6 ≡ suc (p + 5) = omega arith in
+    let seven : p + 7 ≡ suc (suc (p + 5)) = omega arith in
+    let eight : p + 8 ≡ suc (suc (suc (p + 5))) = omega arith in
+    rw (six, seven, eight, add-one, add-two, add-three, add-four, add-five) (sets-eq (a ∷ b ∷ c ∷ d ∷ e ∷ f ∷ g ∷ h ∷ i ∷ []) l p room)

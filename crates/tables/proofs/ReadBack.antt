@@ -15,7 +15,7 @@ use Rattle.definition.specs.Memory.Liveness.{Live, Dead}
 use Rattle.definition.specs.Memory.AllocationKind.{Stack, Heap, Global, Function, VTable}
 use Rattle.definition.specs.Valid.{All, AllFrom, ValidNode, ValidAllocation, Valid}
 use Rattle.definition.proofs.Permissions.{permission-code}
-use Rattle.tables.specs.Encoding.{Buffers, stateNumber, protectorNumber, recordOf, parentsOf, protectorsOf, wordsOf, rowOf, codesOf, concatMap, pad, held, encode}
+use Rattle.tables.specs.Encoding.{Buffers, Place, firstPlace, nextPlace, stateNumber, protectorNumber, parentsOf, protectorsOf, wordsOf, rowOf, codesOf, concatMap, pad, recordsFrom, heldRecords, held, encode}
 use Rattle.tables.specs.Decoding.{liveness, allocationKind, protector, nodesIn, allocationsIn, view}
 use Rattle.tables.specs.Held.{buffers, Records, Holds}
 use Rattle.tables.proofs.Sizes.{length-parents, length-protectors, length-codes}
@@ -60,12 +60,12 @@ nodes-back bytes live n (x ∷ nodes) P R C v =
     (ap (λ (t : List Node). x ∷ t) (nodes-back bytes live (suc n) nodes P R C (v .1)))
 
 -- ---- all allocations
-allocations-back : (m : Memory) (A P R W C : List ℕ) → All ValidAllocation m
-    → allocationsIn (length m) (concatMap recordOf m ++ A) (concatMap parentsOf m ++ P) (concatMap protectorsOf m ++ R)
+allocations-back : (p : Place) (m : Memory) (A P R W C : List ℕ) → All ValidAllocation m
+    → allocationsIn (length m) (recordsFrom p m ++ A) (concatMap parentsOf m ++ P) (concatMap protectorsOf m ++ R)
     (concatMap wordsOf m ++ W) (concatMap codesOf m ++ C) ≡ m
-unfolding allocationsIn concatMap parentsOf protectorsOf codesOf
-allocations-back [] A P R W C v = refl
-allocations-back (a ∷ m) A P R W C v =
+unfolding allocationsIn recordsFrom concatMap parentsOf protectorsOf codesOf
+allocations-back p [] A P R W C v = refl
+allocations-back p (a ∷ m) A P R W C v =
     rw (
       append-assoc (parentsOf a) (concatMap parentsOf m) P,
       append-assoc (protectorsOf a) (concatMap protectorsOf m) R,
@@ -78,17 +78,17 @@ allocations-back (a ∷ m) A P R W C v =
       drop-at (codesOf a) (concatMap codesOf m ++ C) (codeCount a) (length-codes a (v .0)),
       liveness-back (a .state),
       kind-back (a .kind),
-      allocations-back m A P R W C (v .1),
+      allocations-back (nextPlace p a) m A P R W C (v .1),
     )
     (ap (λ (ns : List Node). record { state = a .state; kind = a .kind; exponent = a .exponent; address = a .address; words = a .words; nodes = ns } ∷ m)
     (nodes-back (size a) _ 0 (a .nodes) (concatMap parentsOf m ++ P) (concatMap protectorsOf m ++ R) (concatMap codesOf m ++ C) (v .0 .nodes)))
 
 pub view-encode : (m : Memory) → Valid m → view (encode m) ≡ m
-unfolding view encode held pad
+unfolding view encode heldRecords held pad
 view-encode m v =
-    let h : Records m (held 768 recordOf m) = record { valid = v; allocs = refl } in
+    let h : Records m (heldRecords m) = record { valid = v; allocs = refl } in
     rw (made-count h)
-    (allocations-back m (replicate (768 - length (concatMap recordOf m)) 0) (replicate (1024 - length (concatMap parentsOf m)) 0)
+    (allocations-back firstPlace m (replicate (1152 - length (recordsFrom firstPlace m)) 0) (replicate (1024 - length (concatMap parentsOf m)) 0)
     (replicate (1024 - length (concatMap protectorsOf m)) 0) (replicate (4096 - length (concatMap wordsOf m)) 0)
     (replicate (32768 - length (concatMap codesOf m)) 0) (v .each))
 
@@ -105,7 +105,7 @@ encode-injective m m′ v v′ e = holds-one m m′ (encode m) (record { valid =
 
 -- ---- the parts of `Holds`
 module _ {m : Memory} {b : Buffers} (h : Holds m b) where
-  pub holds-allocs : b .allocs ≡ held 768 recordOf m
+  pub holds-allocs : b .allocs ≡ heldRecords m
   unfolding encode
   holds-allocs = ap (λ (t : Buffers). t .allocs) (h .equal)
 
@@ -129,15 +129,15 @@ module _ {m : Memory} {b : Buffers} (h : Holds m b) where
   holds-records = record { valid = h .valid; allocs = holds-allocs }
 
 -- and `encode`'s, put together
-pub encode-of : (m : Memory) {A P R W C : List ℕ} → A ≡ held 768 recordOf m → P ≡ held 1024 parentsOf m → R ≡ held 1024 protectorsOf m
+pub encode-of : (m : Memory) {A P R W C : List ℕ} → A ≡ heldRecords m → P ≡ held 1024 parentsOf m → R ≡ held 1024 protectorsOf m
     → W ≡ held 4096 wordsOf m → C ≡ held 32768 codesOf m → buffers A P R W C ≡ encode m
 unfolding encode
 encode-of m a p r w c = λ i. record { allocs = a i; parents = p i; protectors = r i; words = w i; codes = c i }
 
 -- ---- the empty memory is all zeros
 pub zeros-hold : Holds []
-    (buffers (replicate 768 0) (replicate 1024 0) (replicate 1024 0) (replicate 4096 0) (replicate 32768 0))
-unfolding held pad concatMap sumOf
+    (buffers (replicate 1152 0) (replicate 1024 0) (replicate 1024 0) (replicate 4096 0) (replicate 32768 0))
+unfolding heldRecords recordsFrom held pad concatMap sumOf
 zeros-hold = record {
   valid = record {
     each = tt;

@@ -14,7 +14,7 @@ use Rattle.definition.specs.Memory.{Allocation, Memory, size, nodeCount, codeCo
 use Rattle.definition.specs.Valid.{All, AllFrom, ValidNode, ValidAllocation, Valid}
 use Rattle.definition.proofs.Alls.{all-imp}
 use Rattle.definition.proofs.Places.{valid-at}
-use Rattle.tables.specs.Encoding.{recordOf, parentsOf, protectorsOf, wordsOf, rowOf, codesOf, concatMap}
+use Rattle.tables.specs.Encoding.{parentsOf, protectorsOf, wordsOf, rowOf, codesOf, concatMap}
 
 -- ---- one allocation
 pub length-parents : (a : Allocation) → length (parentsOf a) ≡ nodeCount a
@@ -71,16 +71,8 @@ protectors-used m = length-concat protectorsOf nodeCount m (every (λ a. length 
 pub codes-used : (m : Memory) → All ValidAllocation m → length (concatMap codesOf m) ≡ sumOf codeCount m
 codes-used m v = length-concat codesOf codeCount m (all-imp ValidAllocation (λ a. length (codesOf a) ≡ codeCount a) length-codes m v)
 
-pub records-used : (m : Memory) → length (concatMap recordOf m) ≡ length m * 6
-unfolding concatMap
-records-used [] = refl
-records-used (a ∷ m) = omega (arith, records-used m)
-
 -- ---- a valid memory fits the buffers
 module _ (m : Memory) (v : Valid m) where
-  pub records-fit : length (concatMap recordOf m) ≤ 768
-  records-fit = omega (arith, records-used m, v .bounded .allocations)
-
   pub words-fit : length (concatMap wordsOf m) ≤ 4096
   words-fit = omega (arith, words-used m, v .bounded .words)
 

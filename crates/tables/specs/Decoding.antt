@@ -52,12 +52,12 @@ allocationsIn (suc k) A P R W C =
     let bytes = getD A 4 0 in
     let count = getD A 5 0 in
     allocationIn A P R W C
-    ∷ allocationsIn k (drop 6 A) (drop count P) (drop count R) (drop bytes W) (drop (count * bytes) C)
+    ∷ allocationsIn k (drop 9 A) (drop count P) (drop count R) (drop bytes W) (drop (count * bytes) C)
 
 -- how many of at most k records were made: those before the first whose state is 0
 unfoldable pub madeIn : ℕ → List ℕ → ℕ
 madeIn zero A = 0
-madeIn (suc k) A = let rest = madeIn k (drop 6 A) in if eqb (getD A 0 0) 0 then 0 else suc rest
+madeIn (suc k) A = let rest = madeIn k (drop 9 A) in if eqb (getD A 0 0) 0 then 0 else suc rest
 
 -- the memory
 unfoldable pub view : Buffers → Memory

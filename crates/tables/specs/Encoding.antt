@@ -1,12 +1,12 @@
 -- How five lent buffers hold a memory: each is a list of numbers, one allocation's behind the other's (decision 55), and zeros behind
 -- the last (decision 48). So memories that are equal have equal buffers.
-use Prim.Native.Nat.{ℕ, _-_}
+use Prim.Native.Nat.{ℕ, _+_, _-_}
 use mathlib.Core.List.{List, [], _∷_, _++_, map}
 use lib.ListN.{length, replicate}
 use Rattle.definition.specs.Permission.{Protected, code}
 use Rattle.definition.specs.Permission.Protected.{No, Weak, Strong}
 use Rattle.definition.specs.Tree.{Node, parents}
-use Rattle.definition.specs.Memory.{Liveness, Allocation, Memory, kindNumber, size, nodeCount}
+use Rattle.definition.specs.Memory.{Liveness, Allocation, Memory, kindNumber, size, nodeCount, codeCount}
 use Rattle.definition.specs.Memory.Liveness.{Live, Dead}
 
 -- the five lists
@@ -28,10 +28,33 @@ protectorNumber No = 0
 protectorNumber Weak = 1
 protectorNumber Strong = 2
 
+-- ---- where an allocation's parts start
+pub record Place : Type 0 where
+  pub words : ℕ
+  pub nodes : ℕ
+  pub codes : ℕ
+
+abbrev pub firstPlace : Place
+firstPlace = record { words = 0; nodes = 0; codes = 0 }
+
+-- "ranges consecutive": those of the next start where its own end
+abbrev pub nextPlace : Place → Allocation → Place
+nextPlace p a = record { words = p .words + size a; nodes = p .nodes + nodeCount a; codes = p .codes + codeCount a }
+
 -- ---- an allocation's part in each buffer
--- six numbers
-abbrev pub recordOf : Allocation → List ℕ
-recordOf a = stateNumber (a .state) ∷ kindNumber (a .kind) ∷ a .exponent ∷ a .address ∷ size a ∷ nodeCount a ∷ []
+-- nine numbers
+abbrev pub recordOf : Place → Allocation → List ℕ
+recordOf p a =
+    stateNumber (a .state)
+    ∷ kindNumber (a .kind)
+    ∷ a .exponent
+    ∷ a .address
+    ∷ size a
+    ∷ nodeCount a
+    ∷ p .words
+    ∷ p .nodes
+    ∷ p .codes
+    ∷ []
 
 -- one for each node
 unfoldable pub parentsOf : Allocation → List ℕ
@@ -62,15 +85,24 @@ codesOf a = concatMap rowOf (a .nodes)
 unfoldable pub pad : ℕ → List ℕ → List ℕ
 pad n xs = xs ++ replicate (n - length xs) 0
 
+-- the records of allocations of which the first one's parts start at p
+unfoldable pub recordsFrom : Place → Memory → List ℕ
+recordsFrom p [] = []
+recordsFrom p (a ∷ m) = recordOf p a ++ recordsFrom (nextPlace p a) m
+
+-- the buffer of 128 records of 9 numbers
+unfoldable pub heldRecords : Memory → List ℕ
+heldRecords m = pad 1152 (recordsFrom firstPlace m)
+
 -- a buffer of n numbers that holds the part f of each allocation
 unfoldable pub held : ℕ → (Allocation → List ℕ) → Memory → List ℕ
 held n f m = pad n (concatMap f m)
 
--- 128 records of 6 numbers; 1,024 nodes; 4,096 words; 32,768 codes
+-- 128 records; 1,024 nodes; 4,096 words; 32,768 codes
 unfoldable pub encode : Memory → Buffers
 encode m =
     record {
-      allocs = held 768 recordOf m;
+      allocs = heldRecords m;
       parents = held 1024 parentsOf m;
       protectors = held 1024 protectorsOf m;
       words = held 4096 wordsOf m;

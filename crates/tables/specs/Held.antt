@@ -1,5 +1,5 @@
 -- What the contracts say of buffers that hold a memory.
-use Prim.Native.Nat.{ℕ, _+_, _-_, _<_}
+use Prim.Native.Nat.{ℕ, _+_, _-_, _*_, _≤_, _<_}
 use mathlib.Core.Path.{_≡_}
 use mathlib.Core.Bool.{false}
 use mathlib.Core.List.{List, [], _∷_, _++_}
@@ -9,7 +9,7 @@ use Rattle.definition.specs.Tree.{Node}
 use Rattle.definition.specs.Memory.{Allocation, Memory, allocationAt, changed, size, nodeCount, codeCount, exceedsBounds, ofAllocation}
 use Rattle.definition.specs.Retag.{ofNode}
 use Rattle.definition.specs.Valid.{Valid}
-use Rattle.tables.specs.Encoding.{Buffers, protectorNumber, recordOf, rowOf, parentsOf, protectorsOf, wordsOf, codesOf, concatMap, held, encode}
+use Rattle.tables.specs.Encoding.{Buffers, Place, protectorNumber, rowOf, parentsOf, protectorsOf, wordsOf, codesOf, concatMap, recordsFrom, heldRecords, held, encode}
 
 abbrev pub buffers : List ℕ → List ℕ → List ℕ → List ℕ → List ℕ → Buffers
 buffers A P R W C = record { allocs = A; parents = P; protectors = R; words = W; codes = C }
@@ -26,7 +26,7 @@ WellFormed b = (m : Memory) × Holds m b
 -- the records alone are those of m
 pub record Records (m : Memory) (A : List ℕ) : Type 0 where
   pub valid : Valid m
-  pub allocs : A ≡ held 768 recordOf m
+  pub allocs : A ≡ heldRecords m
 
 -- where allocation a's part of the buffer of f starts
 abbrev pub startOf : (Allocation → List ℕ) → Memory → ℕ → ℕ
@@ -55,7 +55,7 @@ pub record AllocationFits (m : Memory) (A C : List ℕ) (bytes : ℕ) : Type 0 w
 -- x is number n, and what changes of the buffers
 pub record Appended (m : Memory) (x : Allocation) (n : ℕ) (A C : List ℕ) : Type 0 where
   pub number : n ≡ length m
-  pub allocs : A ≡ held 768 recordOf (m ++ (x ∷ []))
+  pub allocs : A ≡ heldRecords (m ++ (x ∷ []))
   pub codes : C ≡ held 32768 codesOf (m ++ (x ∷ []))
 
 -- ---- a node more
@@ -70,9 +70,22 @@ ZerosFrom u c = drop u c ≡ replicate (length c - u) 0
 abbrev pub withNode : Node → Allocation → Allocation
 withNode x a = changed a (a .state) (a .words) (a .nodes ++ (x ∷ []))
 
+-- one node and so many codes further on
+abbrev pub movedPlace : ℕ → Place → Place
+movedPlace width p = record { words = p .words; nodes = p .nodes + 1; codes = p .codes + width }
+
+-- from record k on stand those of m, of which the first one's parts start at p: l stands before them, z zeros behind, and what is
+-- further on by a node of so many codes is no larger than a buffer
+pub record RecordsBehind (k : ℕ) (l : List ℕ) (p : Place) (m : Memory) (z width : ℕ) (A : List ℕ) : Type 0 where
+  pub before : length l ≡ k * 9
+  pub allocs : A ≡ l ++ (recordsFrom p m ++ replicate z 0)
+  pub whole : (k + length m) * 9 + z ≡ 1152
+  pub nodes : p .nodes + sumOf nodeCount m + 1 ≤ 1024
+  pub codes : p .codes + sumOf codeCount m + width ≤ 32768
+
 -- the buffers that a new node changes hold m's trees
 pub record Trees (m : Memory) (A P R C : List ℕ) : Type 0 where
-  pub allocs : A ≡ held 768 recordOf m
+  pub allocs : A ≡ heldRecords m
   pub parents : P ≡ held 1024 parentsOf m
   pub protectors : R ≡ held 1024 protectorsOf m
   pub codes : C ≡ held 32768 codesOf m

@@ -1,18 +1,26 @@
 // How five lent buffers hold a memory: looking an allocation up, making one, giving it a node.
 //
-// `allocs` has six numbers for each allocation: state (0 never made, 1 live, 2 dead), kind, alignment exponent, address,
-// size, number of nodes. `parents` and `protectors` have a number for each node, `words` one for each byte, `codes` a row of
-// `size` codes for each node. Each is contiguous by allocation, and zero behind the last.
+// `allocs` has nine numbers for each allocation: state (0 never made, 1 live, 2 dead), kind, alignment exponent, address,
+// size, number of nodes, first word, first node, first code. `parents` and `protectors` have a number for each node, `words` one
+// for each byte, `codes` a row of `size` codes for each node. Each is contiguous by allocation, and zero behind the last.
 ghost use mathlib.Core.Path.{_≡_};
-ghost use mathlib.Core.List.{_∷_, [], _++_};
-ghost use Prim.Native.Nat.{_+_, _-_, _*_, _<_, _≤_};
+ghost use mathlib.Core.List.{List, _∷_, [], _++_};
+ghost use Prim.Native.Nat.{ℕ, _+_, _-_, _*_, _<_, _≤_};
 ghost use lib.ListN.{length, getD, take, drop, replicate};
 ghost use lib.Seq.{paste};
 ghost use Rattle.definition.specs.Notation.{mutateAt, writeAt};
 ghost use Rattle.definition.specs.Tree.{Node};
 ghost use Rattle.definition.specs.Memory.{Memory, AllocationKind, kindNumber, isMisaligned, rangesOverlap, newAllocation};
+ghost use Rattle.tables.specs.Encoding.{Place, recordsFrom};
 ghost use Rattle.tables.specs.Decoding.{madeIn};
-ghost use Rattle.tables.specs.Held.{inserted, ZerosFrom, withNode, Records, StartsAt, Used, AllocationFits, Appended, NodeFits, PlaceFor, Trees};
+ghost use Rattle.tables.specs.Held.{inserted, ZerosFrom, withNode, Records, StartsAt, Used, AllocationFits, Appended, movedPlace, RecordsBehind, NodeFits, PlaceFor, Trees};
+
+// Where the parts of an allocation start: in `words`, in `parents` and `protectors`, in `codes`.
+pub struct Starts {
+    pub words: usize,
+    pub nodes: usize,
+    pub codes: usize,
+}
 
 // An allocation's record.
 pub struct Allocation {
@@ -22,20 +30,26 @@ pub struct Allocation {
     pub address: u64,
     pub size: usize,
     pub nodes: usize,
+    pub starts: Starts,
 }
 
 pub fn allocation_at(allocs: &[u64], a: usize) -> Allocation
-    requires { ⌜ a * 6 + 6 ≤ length (now allocs) ⌝ }
+    requires { ⌜ a * 9 + 9 ≤ length (now allocs) ⌝ }
     ensures { λ r. ⌜ r ≡ record {
-      state = getD (now (allocs .entry)) (a * 6) 0;
-      kind = getD (now (allocs .entry)) (a * 6 + 1) 0;
-      exponent = getD (now (allocs .entry)) (a * 6 + 2) 0;
-      address = getD (now (allocs .entry)) (a * 6 + 3) 0;
-      size = getD (now (allocs .entry)) (a * 6 + 4) 0;
-      nodes = getD (now (allocs .entry)) (a * 6 + 5) 0;
+      state = getD (now (allocs .entry)) (a * 9) 0;
+      kind = getD (now (allocs .entry)) (a * 9 + 1) 0;
+      exponent = getD (now (allocs .entry)) (a * 9 + 2) 0;
+      address = getD (now (allocs .entry)) (a * 9 + 3) 0;
+      size = getD (now (allocs .entry)) (a * 9 + 4) 0;
+      nodes = getD (now (allocs .entry)) (a * 9 + 5) 0;
+      starts = record {
+        words = getD (now (allocs .entry)) (a * 9 + 6) 0;
+        nodes = getD (now (allocs .entry)) (a * 9 + 7) 0;
+        codes = getD (now (allocs .entry)) (a * 9 + 8) 0;
+      };
     } ⌝ }
 {
-    let p = a * 6;
+    let p = a * 9;
     Allocation {
         state: allocs[p],
         kind: allocs[p + 1],
@@ -43,17 +57,22 @@ pub fn allocation_at(allocs: &[u64], a: usize) -> Allocation
         address: allocs[p + 3],
         size: allocs[p + 4] as usize,
         nodes: allocs[p + 5] as usize,
+        starts: Starts {
+            words: allocs[p + 6] as usize,
+            nodes: allocs[p + 7] as usize,
+            codes: allocs[p + 8] as usize,
+        },
     }
 }
 
 // How many allocations were made.
 pub fn made_count(allocs: &[u64]) -> usize
-    requires { ⌜ length (now allocs) ≡ 768 ⌝ }
+    requires { ⌜ length (now allocs) ≡ 1152 ⌝ }
     ensures { λ r. ⌜ r ≡ madeIn 128 (now (allocs .entry)) ⌝ }
 {
     let mut i: usize = 0;
     while i < 128 {
-        if allocs[i * 6] == 0 {
+        if allocs[i * 9] == 0 {
             return i;
         }
         i += 1;
@@ -61,66 +80,42 @@ pub fn made_count(allocs: &[u64]) -> usize
     i
 }
 
-// Where the parts of an allocation start: in `words`, in `parents` and `protectors`, in `codes`.
-pub struct Starts {
-    pub words: usize,
-    pub nodes: usize,
-    pub codes: usize,
-}
-
-// One pass over the records before allocation a, which may be the next one to be made.
+// Of allocation a, which may be the next one to be made: where those of the one before it end.
 pub fn starts_at(allocs: &[u64], a: usize) -> Starts
     requires { ⌜ ((m : Memory) × (Records m (now allocs) × (a ≤ length m))) ⌝ }
     ensures { λ r. ⌜ ((m : Memory) → Records m (now (allocs .entry)) → StartsAt m a (r .words) (r .nodes) (r .codes)) ⌝ }
 {
-    let mut words: usize = 0;
-    let mut nodes: usize = 0;
-    let mut codes: usize = 0;
-    let mut i: usize = 0;
-    while i < a {
-        let size = allocs[i * 6 + 4] as usize;
-        let count = allocs[i * 6 + 5] as usize;
-        words += size;
-        nodes += count;
-        codes += count * size;
-        i += 1;
+    if a == 0 {
+        return Starts {
+            words: 0,
+            nodes: 0,
+            codes: 0,
+        };
     }
+    let x = allocation_at(allocs, a - 1);
+    let size = x.size;
+    let nodes = x.nodes;
+    let starts = x.starts;
     Starts {
-        words,
-        nodes,
-        codes,
+        words: starts.words + size,
+        nodes: starts.nodes + nodes,
+        codes: starts.codes + nodes * size,
     }
 }
 
-// How much of the buffers is used, by the living and the dead: from where allocation a's parts start, on over it and those behind it.
-pub fn used_from(allocs: &[u64], a: usize, starts: Starts) -> Starts
-    requires { ⌜ ((m : Memory) × (Records m (now allocs) × (a ≤ length m) × StartsAt m a (starts .words) (starts .nodes) (starts .codes))) ⌝ }
-    ensures { λ r. ⌜ ((m : Memory) → Records m (now (allocs .entry)) → StartsAt m a (starts .words) (starts .nodes) (starts .codes) → Used m (r .words) (r .nodes) (r .codes)) ⌝ }
+// How much of the buffers is used, by the living and the dead: where the parts of the first allocation behind a that was never made start.
+pub fn used_behind(allocs: &[u64], a: usize) -> Starts
+    requires { ⌜ ((m : Memory) × (Records m (now allocs) × (a < length m))) ⌝ }
+    ensures { λ r. ⌜ ((m : Memory) → Records m (now (allocs .entry)) → Used m (r .words) (r .nodes) (r .codes)) ⌝ }
 {
-    let mut words = starts.words;
-    let mut nodes = starts.nodes;
-    let mut codes = starts.codes;
-    let mut k = a;
+    let mut k = a + 1;
     while k < 128 {
-        if allocs[k * 6] == 0 {
-            return Starts {
-                words,
-                nodes,
-                codes,
-            };
+        if allocs[k * 9] == 0 {
+            return starts_at(allocs, k);
         }
-        let size = allocs[k * 6 + 4] as usize;
-        let count = allocs[k * 6 + 5] as usize;
-        words += size;
-        nodes += count;
-        codes += count * size;
         k += 1;
     }
-    Starts {
-        words,
-        nodes,
-        codes,
-    }
+    starts_at(allocs, k)
 }
 
 // ---- addresses
@@ -282,9 +277,18 @@ pub fn insert_made_row_in_used(
 }
 
 // Writes the record of a live allocation with one node at p.
-pub fn put_record(allocs: &mut [u64], p: usize, kind: u64, exponent: u64, address: u64, size: usize)
-    requires { ⌜ p + 6 ≤ length (now allocs) ⌝ }
-    ensures { λ _. ⌜ now (allocs .exit) ≡ paste (now (allocs .entry)) p (1 ∷ kind ∷ exponent ∷ address ∷ size ∷ 1 ∷ []) 6 ⌝ }
+pub fn put_record(
+    allocs: &mut [u64],
+    p: usize,
+    kind: u64,
+    exponent: u64,
+    address: u64,
+    size: usize,
+    starts: Starts,
+)
+    requires { ⌜ p + 9 ≤ length (now allocs) ⌝ }
+    ensures { λ _. ⌜ now (allocs .exit)
+        ≡ paste (now (allocs .entry)) p (1 ∷ kind ∷ exponent ∷ address ∷ size ∷ 1 ∷ starts .words ∷ starts .nodes ∷ starts .codes ∷ []) 9 ⌝ }
 {
     allocs[p] = 1;
     allocs[p + 1] = kind;
@@ -292,6 +296,9 @@ pub fn put_record(allocs: &mut [u64], p: usize, kind: u64, exponent: u64, addres
     allocs[p + 3] = address;
     allocs[p + 4] = size as u64;
     allocs[p + 5] = 1;
+    allocs[p + 6] = starts.words as u64;
+    allocs[p + 7] = starts.nodes as u64;
+    allocs[p + 8] = starts.codes as u64;
 }
 
 // Makes an allocation behind the others, and returns its number. Its words are uninitialised, its root has parent 0 and no
@@ -309,12 +316,30 @@ pub fn append_allocation(
         → Appended m (newAllocation k size exponent address) r (now (allocs .exit)) (now (codes .exit))) ⌝ }
 {
     let n = made_count(allocs);
-    let s = starts_at(allocs, n);
-    let start = s.codes;
-    let p = n * 6;
-    put_record(allocs, p, kind, exponent, address, size);
+    let starts = starts_at(allocs, n);
+    let start = starts.codes;
+    let p = n * 9;
+    put_record(allocs, p, kind, exponent, address, size, starts);
     fill(&mut codes[start..], size, 3);
     n
+}
+
+// The nodes of allocation k and of those behind it start one later, and their codes `width` later: a node was put in before them.
+pub fn move_starts(allocs: &mut [u64], k: usize, width: usize)
+    requires { ⌜ ((l : List ℕ) × ((p : Place) × ((m : Memory) × ((z : ℕ) × RecordsBehind k l p m z width (now allocs))))) ⌝ }
+    ensures { λ _. ⌜ ((l : List ℕ) (p : Place) (m : Memory) (z : ℕ) → RecordsBehind k l p m z width (now (allocs .entry))
+        → now (allocs .exit) ≡ l ++ (recordsFrom (movedPlace width p) m ++ replicate z 0)) ⌝ }
+{
+    let mut i = k;
+    while i < 128 {
+        let p = i * 9;
+        if allocs[p] == 0 {
+            return;
+        }
+        allocs[p + 7] += 1;
+        allocs[p + 8] += width as u64;
+        i += 1;
+    }
 }
 
 // How many nodes and codes are used, and where among them a node goes, and its row.
@@ -357,6 +382,7 @@ pub fn insert_node_at(
     let mark = [protector; 1];
     insert_row_in_used(protectors, nodes, node, &mark);
     insert_made_row_in_used(codes, place.codes, place.code, width, inside, outside, from);
-    let p = a * 6 + 5;
+    let p = a * 9 + 5;
     allocs[p] += 1;
+    move_starts(allocs, a + 1, width);
 }

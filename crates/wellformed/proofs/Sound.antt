@@ -9,23 +9,23 @@ use native.Mathlib.Omega.{arith}
 use borrow.Author.Tests.{eqb-true, eqb-false, ltb-false, leb-false, not-true, not-false, ne-eqb}
 use lib.Dec.{eqb, leb, ltb}
 use lib.ListN.{length, getD, take, drop, replicate, length-append, length-drop, length-replicate, length-map, take-append-drop}
-use lib.Seq.{length-take-le, take-add}
+use lib.Seq.{length-take-le, take-add, take-suc}
 use Rattle.definition.specs.Notation.{if_then_else_, any}
 use Rattle.definition.specs.Permission.{Permission, isProtected, isYes, code, permission}
 use Rattle.definition.specs.Tree.{Node}
-use Rattle.definition.specs.Memory.{Allocation, Memory, size, isLive, isMisaligned, rangesOverlap, overlaps}
+use Rattle.definition.specs.Memory.{Allocation, Memory, size, nodeCount, isLive, isMisaligned, rangesOverlap, overlaps}
 use Rattle.definition.specs.Request.{nonzero, badByte}
 use Rattle.definition.specs.Valid.{All, AllFrom, Placed, ValidNode, ValidByte, ValidAllocation, Separate}
 use Rattle.definition.proofs.Alls.{none-pass}
 use Rattle.definition.proofs.Booleans.{or-neither, and-left, and-right}
 use Rattle.definition.proofs.Permissions.{code-permission}
 use Rattle.definition.proofs.Parts.{take-one}
-use Rattle.tables.specs.Encoding.{Buffers, stateNumber, protectorNumber, recordOf, parentsOf, protectorsOf, wordsOf, rowOf, codesOf, concatMap, pad, held, encode}
+use Rattle.tables.specs.Encoding.{Buffers, Place, firstPlace, nextPlace, stateNumber, protectorNumber, recordOf, parentsOf, protectorsOf, wordsOf, rowOf, codesOf, concatMap, pad, recordsFrom, heldRecords, held, encode}
 use Rattle.tables.specs.Decoding.{protector, nodesIn, allocationIn, allocationsIn, madeIn, view}
 use Rattle.tables.specs.Held.{Holds}
 use Rattle.tables.proofs.Sizes.{words-used, parents-used, codes-used}
 use Rattle.tables.proofs.Lookup.{live-state}
-use Rattle.wellformed.specs.WellFormed.{badRecord, badWord, badPlace, badCode, badNodes, badAllocation, badRest, badAllocations, clashes, clashesLater, clashesFirst, anyClash, wellFormed}
+use Rattle.wellformed.specs.WellFormed.{badRecord, badWord, badPlace, badCode, badNodes, badAllocation, badStarts, badAllocationAt, badRest, badAllocations, clashes, clashesLater, clashesFirst, anyClash, wellFormed}
 use Rattle.wellformed.proofs.Tests.{zeros-only}
 use Rattle.wellformed.proofs.Numbers.{state-number, live-number, kind-number, protector-number, code-good, mark-good}
 
@@ -177,27 +177,63 @@ tested A P R W C h =
       nodes = h7 .1;
     }
 
+-- what the test of its starts says
+pub record StartsRead (p : Place) (A : List ℕ) : Type 0 where
+  words : getD A 6 0 ≡ p .words
+  nodes : getD A 7 0 ≡ p .nodes
+  codes : getD A 8 0 ≡ p .codes
+
+starts-read : (w n c : ℕ) (A : List ℕ) → badStarts w n c A ≡ false → StartsRead (record { words = w; nodes = n; codes = c }) A
+unfolding badStarts
+starts-read w n c A h =
+    let e1 = eqb (getD A 6 0) w in
+    let e2 = eqb (getD A 7 0) n in
+    let e3 = eqb (getD A 8 0) c in
+    let h3 : (not e1 || not e2 ≡ false) × (not e3 ≡ false) = or-neither (not e1 || not e2) (not e3) h in
+    let h2 : (not e1 ≡ false) × (not e2 ≡ false) = or-neither (not e1) (not e2) (h3 .0) in
+    record {
+      words = eqb-true _ _ (not-false e1 (h2 .0));
+      nodes = eqb-true _ _ (not-false e2 (h2 .1));
+      codes = eqb-true _ _ (not-false e3 (h3 .1));
+    }
+
+pub tested-at : (w n c : ℕ) (A P R W C : List ℕ) → badAllocationAt w n c A P R W C ≡ false
+    → StartsRead (record { words = w; nodes = n; codes = c }) A × Tested A P R W C
+unfolding badAllocationAt
+tested-at w n c A P R W C h =
+    let e : (badStarts w n c A ≡ false) × (badAllocation A P R W C ≡ false) = or-neither (badStarts w n c A) (badAllocation A P R W C) h in
+    (starts-read w n c A (e .0), tested A P R W C (e .1))
+
 -- the allocation that is read at the front, and the parts that it is read from
-record FrontRead (A P R W C : List ℕ) (a : Allocation) : Type 0 where
+record FrontRead (p : Place) (A P R W C : List ℕ) (a : Allocation) : Type 0 where
   valid : ValidAllocation a
-  allocs : recordOf a ≡ take 6 A
+  long : size a ≡ getD A 4 0
+  count : nodeCount a ≡ getD A 5 0
+  allocs : recordOf p a ≡ take 9 A
   parents : parentsOf a ≡ take (getD A 5 0) P
   protectors : protectorsOf a ≡ take (getD A 5 0) R
   words : wordsOf a ≡ take (getD A 4 0) W
   codes : codesOf a ≡ take (getD A 5 0 * getD A 4 0) C
 
-take-six : (A : List ℕ) → 6 ≤ length A → take 6 A ≡ getD A 0 0 ∷ getD A 1 0 ∷ getD A 2 0 ∷ getD A 3 0 ∷ getD A 4 0 ∷ getD A 5 0 ∷ []
-take-six [] h = absurd (omega arith)
-take-six (a ∷ []) h = absurd (omega arith)
-take-six (a ∷ b ∷ []) h = absurd (omega arith)
-take-six (a ∷ b ∷ c ∷ []) h = absurd (omega arith)
-take-six (a ∷ b ∷ c ∷ d ∷ []) h = absurd (omega arith)
-take-six (a ∷ b ∷ c ∷ d ∷ e ∷ []) h = absurd (omega arith)
-take-six (a ∷ b ∷ c ∷ d ∷ e ∷ f ∷ A) h = refl
+-- one number after the other
+take-nine : (A : List ℕ) → 9 ≤ length A
+    → take 9 A ≡ getD A 0 0 ∷ getD A 1 0 ∷ getD A 2 0 ∷ getD A 3 0 ∷ getD A 4 0 ∷ getD A 5 0 ∷ getD A 6 0 ∷ getD A 7 0 ∷ getD A 8 0 ∷ []
+take-nine A h =
+    rw (
+      take-suc A 8 0 (omega arith),
+      take-suc A 7 0 (omega arith),
+      take-suc A 6 0 (omega arith),
+      take-suc A 5 0 (omega arith),
+      take-suc A 4 0 (omega arith),
+      take-suc A 3 0 (omega arith),
+      take-suc A 2 0 (omega arith),
+      take-suc A 1 0 (omega arith),
+      take-suc A 0 0 (omega arith),
+    )
 
-front-read : (A P R W C : List ℕ) → Tested A P R W C → 6 ≤ length A → FrontRead A P R W C (allocationIn A P R W C)
+front-read : (p : Place) (A P R W C : List ℕ) → StartsRead p A → Tested A P R W C → 9 ≤ length A → FrontRead p A P R W C (allocationIn A P R W C)
 unfolding parentsOf protectorsOf codesOf
-front-read A P R W C t six =
+front-read p A P R W C s t nine =
     let z = getD A 4 0 in
     let k = getD A 5 0 in
     let live = eqb (getD A 0 0) 1 in
@@ -214,8 +250,19 @@ front-read A P R W C t six =
         root = rw (ns .count) (f .root);
         nodes = rw (lz, live-number (getD A 0 0)) (ns .valid);
       };
+      long = lz;
+      count = ns .count;
       allocs =
-          rw (take-six A six, state-number (getD A 0 0) (f .made) (f .state), kind-number (getD A 1 0) (f .kind), lz, ns .count);
+          rw (
+            take-nine A nine,
+            state-number (getD A 0 0) (f .made) (f .state),
+            kind-number (getD A 1 0) (f .kind),
+            lz,
+            ns .count,
+            s .words,
+            s .nodes,
+            s .codes,
+          );
       parents = ns .parents;
       protectors = ns .protectors;
       words = refl;
@@ -234,17 +281,18 @@ padded-more : (b x rest : List ℕ) (n : ℕ) → x ≡ take n b → Padded (dro
 padded-more b x rest n e (z, p) =
     (z, sym (take-append-drop n b) ∙ ap₂ _++_ (sym e) p ∙ sym (append-assoc x rest (replicate z 0)))
 
-record Whole (A P R W C : List ℕ) (m : Memory) : Type 0 where
+-- the buffers hold the parts of m, of which the first one's start at p
+record Whole (p : Place) (A P R W C : List ℕ) (m : Memory) : Type 0 where
   each : All ValidAllocation m
-  allocs : Padded A (concatMap recordOf m)
+  allocs : Padded A (recordsFrom p m)
   parents : Padded P (concatMap parentsOf m)
   protectors : Padded R (concatMap protectorsOf m)
   words : Padded W (concatMap wordsOf m)
   codes : Padded C (concatMap codesOf m)
 
-whole-none : (A P R W C : List ℕ) → badRest A P R W C ≡ false → Whole A P R W C []
-unfolding badRest concatMap
-whole-none A P R W C h =
+whole-none : (q : Place) (A P R W C : List ℕ) → badRest A P R W C ≡ false → Whole q A P R W C []
+unfolding badRest recordsFrom concatMap
+whole-none q A P R W C h =
     let a = any nonzero A in
     let p = any nonzero P in
     let r = any nonzero R in
@@ -263,25 +311,31 @@ whole-none A P R W C h =
       codes = padded-none C (h5 .1);
     }
 
-whole-read : (k : ℕ) (A P R W C : List ℕ) → badAllocations k A P R W C ≡ false → k * 6 ≤ length A → Whole A P R W C (allocationsIn k A P R W C)
-unfolding badAllocations allocationsIn concatMap
-whole-read zero A P R W C h l = whole-none A P R W C h
-whole-read (suc k) A P R W C h l =
+whole-read : (k w b c : ℕ) (A P R W C : List ℕ) → badAllocations k w b c A P R W C ≡ false → k * 9 ≤ length A
+    → Whole (record { words = w; nodes = b; codes = c }) A P R W C (allocationsIn k A P R W C)
+unfolding badAllocations allocationsIn recordsFrom concatMap
+whole-read zero w b c A P R W C h l = whole-none (record { words = w; nodes = b; codes = c }) A P R W C h
+whole-read (suc k) w b c A P R W C h l =
     let n = getD A 5 0 in
     let z = getD A 4 0 in
-    let e : (badAllocation A P R W C ≡ false) × (badAllocations k (drop 6 A) (drop n P) (drop n R) (drop z W) (drop (n * z) C) ≡ false) =
-    or-neither (badAllocation A P R W C) (badAllocations k (drop 6 A) (drop n P) (drop n R) (drop z W) (drop (n * z) C)) h in
-    let f : FrontRead A P R W C (allocationIn A P R W C) = front-read A P R W C (tested A P R W C (e .0)) (omega arith) in
-    let m = allocationsIn k (drop 6 A) (drop n P) (drop n R) (drop z W) (drop (n * z) C) in
-    let s : Whole (drop 6 A) (drop n P) (drop n R) (drop z W) (drop (n * z) C) m =
-    whole-read k (drop 6 A) (drop n P) (drop n R) (drop z W) (drop (n * z) C) (e .1) (simp length-drop (omega arith)) in
+    let p : Place = record { words = w; nodes = b; codes = c } in
+    let x = allocationIn A P R W C in
+    let rest = badAllocations k (w + z) (b + n) (c + n * z) (drop 9 A) (drop n P) (drop n R) (drop z W) (drop (n * z) C) in
+    let e : (badAllocationAt w b c A P R W C ≡ false) × (rest ≡ false) = or-neither (badAllocationAt w b c A P R W C) rest h in
+    let t : StartsRead p A × Tested A P R W C = tested-at w b c A P R W C (e .0) in
+    let f : FrontRead p A P R W C x = front-read p A P R W C (t .0) (t .1) (omega arith) in
+    let m = allocationsIn k (drop 9 A) (drop n P) (drop n R) (drop z W) (drop (n * z) C) in
+    let q : Place = record { words = w + z; nodes = b + n; codes = c + n * z } in
+    let next : q ≡ nextPlace p x = sym (λ i. record { words = w + f .long i; nodes = b + f .count i; codes = c + f .count i * f .long i }) in
+    let s : Whole q (drop 9 A) (drop n P) (drop n R) (drop z W) (drop (n * z) C) m =
+    whole-read k (w + z) (b + n) (c + n * z) (drop 9 A) (drop n P) (drop n R) (drop z W) (drop (n * z) C) (e .1) (simp length-drop (omega arith)) in
     record {
       each = (f .valid, s .each);
-      allocs = padded-more A (recordOf (allocationIn A P R W C)) (concatMap recordOf m) 6 (f .allocs) (s .allocs);
-      parents = padded-more P (parentsOf (allocationIn A P R W C)) (concatMap parentsOf m) n (f .parents) (s .parents);
-      protectors = padded-more R (protectorsOf (allocationIn A P R W C)) (concatMap protectorsOf m) n (f .protectors) (s .protectors);
-      words = padded-more W (wordsOf (allocationIn A P R W C)) (concatMap wordsOf m) z (f .words) (s .words);
-      codes = padded-more C (codesOf (allocationIn A P R W C)) (concatMap codesOf m) (n * z) (f .codes) (s .codes);
+      allocs = padded-more A (recordOf p x) (recordsFrom (nextPlace p x) m) 9 (f .allocs) (subst (λ (t : Place). Padded (drop 9 A) (recordsFrom t m)) next (s .allocs));
+      parents = padded-more P (parentsOf x) (concatMap parentsOf m) n (f .parents) (s .parents);
+      protectors = padded-more R (protectorsOf x) (concatMap protectorsOf m) n (f .protectors) (s .protectors);
+      words = padded-more W (wordsOf x) (concatMap wordsOf m) z (f .words) (s .words);
+      codes = padded-more C (codesOf x) (concatMap codesOf m) (n * z) (f .codes) (s .codes);
     }
 
 -- ---- live ones not overlapping
@@ -292,32 +346,32 @@ apart-dead : (a : Allocation) → isLive (a .state) ≡ false → (m : Memory) �
 apart-dead a e [] = tt
 apart-dead a e (b ∷ m) = ((λ l. rw e), apart-dead a e m)
 
-apart-live : (a : Allocation) → (m : Memory) (Z : List ℕ) → clashesLater (length m) (a .address) (size a) (concatMap recordOf m ++ Z) ≡ false → All (Apart a) m
-unfolding clashesLater clashes concatMap
-apart-live a [] Z h = tt
-apart-live a (b ∷ m) Z h =
+apart-live : (a : Allocation) → (p : Place) (m : Memory) (Z : List ℕ) → clashesLater (length m) (a .address) (size a) (recordsFrom p m ++ Z) ≡ false → All (Apart a) m
+unfolding clashesLater clashes recordsFrom
+apart-live a p [] Z h = tt
+apart-live a p (b ∷ m) Z h =
     let o = rangesOverlap (a .address) (size a) (b .address) (size b) in
     let t = eqb (stateNumber (b .state)) 1 in
-    let rest = clashesLater (length m) (a .address) (size a) (concatMap recordOf m ++ Z) in
+    let rest = clashesLater (length m) (a .address) (size a) (recordsFrom (nextPlace p b) m ++ Z) in
     let e : (t && o ≡ false) × (rest ≡ false) = or-neither (t && o) rest h in
-    ((λ l. and-later (isLive (a .state)) o (rw (live-state (b .state) ∙ l) at (e .0))), apart-live a m Z (e .1))
+    ((λ l. and-later (isLive (a .state)) o (rw (live-state (b .state) ∙ l) at (e .0))), apart-live a (nextPlace p b) m Z (e .1))
   where
     and-later : (t o : Bool) → o ≡ false → t && o ≡ false
     and-later true o e = e
     and-later false o e = refl
 
-separate : (m : Memory) (Z : List ℕ) → anyClash (length m) (concatMap recordOf m ++ Z) ≡ false → Separate m
-unfolding anyClash clashesFirst concatMap
-separate [] Z h = tt
-separate (a ∷ m) Z h =
+separate : (p : Place) (m : Memory) (Z : List ℕ) → anyClash (length m) (recordsFrom p m ++ Z) ≡ false → Separate m
+unfolding anyClash clashesFirst recordsFrom
+separate p [] Z h = tt
+separate p (a ∷ m) Z h =
     let t = eqb (stateNumber (a .state)) 1 in
-    let later = clashesLater (length m) (a .address) (size a) (concatMap recordOf m ++ Z) in
-    let rest = anyClash (length m) (concatMap recordOf m ++ Z) in
+    let later = clashesLater (length m) (a .address) (size a) (recordsFrom (nextPlace p a) m ++ Z) in
+    let rest = anyClash (length m) (recordsFrom (nextPlace p a) m ++ Z) in
     let e : (t && later ≡ false) × (rest ≡ false) = or-neither (t && later) rest h in
-    (go (isLive (a .state)) refl (rw (live-state (a .state)) at (e .0)), separate m Z (e .1))
+    (go (isLive (a .state)) refl (rw (live-state (a .state)) at (e .0)), separate (nextPlace p a) m Z (e .1))
   where
-    go : (t : Bool) → isLive (a .state) ≡ t → t && clashesLater (length m) (a .address) (size a) (concatMap recordOf m ++ Z) ≡ false → All (Apart a) m
-    go true l q = apart-live a m Z q
+    go : (t : Bool) → isLive (a .state) ≡ t → t && clashesLater (length m) (a .address) (size a) (recordsFrom (nextPlace p a) m ++ Z) ≡ false → All (Apart a) m
+    go true l q = apart-live a (nextPlace p a) m Z q
     go false l q = apart-dead a l m
 
 -- ---- the five buffers
@@ -325,14 +379,14 @@ count-read : (k : ℕ) (A P R W C : List ℕ) → length (allocationsIn k A P R 
 unfolding allocationsIn
 count-read zero A P R W C = refl
 count-read (suc k) A P R W C =
-    ap suc (count-read k (drop 6 A) (drop (getD A 5 0) P) (drop (getD A 5 0) R) (drop (getD A 4 0) W) (drop (getD A 5 0 * getD A 4 0) C))
+    ap suc (count-read k (drop 9 A) (drop (getD A 5 0) P) (drop (getD A 5 0) R) (drop (getD A 4 0) W) (drop (getD A 5 0 * getD A 4 0) C))
 
 pub made-small : (k : ℕ) (A : List ℕ) → madeIn k A ≤ k
 unfolding madeIn
 made-small zero A = omega arith
-made-small (suc k) A = go (eqb (getD A 0 0) 0) (made-small k (drop 6 A))
+made-small (suc k) A = go (eqb (getD A 0 0) 0) (made-small k (drop 9 A))
   where
-    go : (t : Bool) → madeIn k (drop 6 A) ≤ k → (if t then 0 else suc (madeIn k (drop 6 A))) ≤ suc k
+    go : (t : Bool) → madeIn k (drop 9 A) ≤ k → (if t then 0 else suc (madeIn k (drop 9 A))) ≤ suc k
     go true l = omega arith
     go false l = omega arith
 
@@ -346,12 +400,12 @@ padded-pad b x n l (z, e) =
     e ∙ ap (λ (k : ℕ). x ++ replicate k 0) q
 
 pub sound : (b : Buffers) → wellFormed b ≡ true → Holds (view b) b
-unfolding wellFormed view encode held
+unfolding wellFormed view encode heldRecords held
 sound b h =
     let k = madeIn 128 (b .allocs) in
     let clash = anyClash k (b .allocs) in
-    let bad = badAllocations k (b .allocs) (b .parents) (b .protectors) (b .words) (b .codes) in
-    let t1 = eqb (length (b .allocs)) 768 in
+    let bad = badAllocations k 0 0 0 (b .allocs) (b .parents) (b .protectors) (b .words) (b .codes) in
+    let t1 = eqb (length (b .allocs)) 1152 in
     let t2 = t1 && eqb (length (b .parents)) 1024 in
     let t3 = t2 && eqb (length (b .protectors)) 1024 in
     let t4 = t3 && eqb (length (b .words)) 4096 in
@@ -363,21 +417,21 @@ sound b h =
     let h3 : t3 ≡ true = and-left t3 (eqb (length (b .words)) 4096) h4 in
     let h2 : t2 ≡ true = and-left t2 (eqb (length (b .protectors)) 1024) h3 in
     let h1 : t1 ≡ true = and-left t1 (eqb (length (b .parents)) 1024) h2 in
-    let la : length (b .allocs) ≡ 768 = eqb-true _ _ h1 in
+    let la : length (b .allocs) ≡ 1152 = eqb-true _ _ h1 in
     let lp : length (b .parents) ≡ 1024 = eqb-true _ _ (and-right t1 (eqb (length (b .parents)) 1024) h2) in
     let lr : length (b .protectors) ≡ 1024 = eqb-true _ _ (and-right t2 (eqb (length (b .protectors)) 1024) h3) in
     let lw : length (b .words) ≡ 4096 = eqb-true _ _ (and-right t3 (eqb (length (b .words)) 4096) h4) in
     let lc : length (b .codes) ≡ 32768 = eqb-true _ _ (and-right t4 (eqb (length (b .codes)) 32768) h5) in
     let m = allocationsIn k (b .allocs) (b .parents) (b .protectors) (b .words) (b .codes) in
-    let s : Whole (b .allocs) (b .parents) (b .protectors) (b .words) (b .codes) m =
-    whole-read k (b .allocs) (b .parents) (b .protectors) (b .words) (b .codes) (not-true bad (and-right t6 (not bad) h)) (omega (arith, made-small 128 (b .allocs))) in
+    let s : Whole firstPlace (b .allocs) (b .parents) (b .protectors) (b .words) (b .codes) m =
+    whole-read k 0 0 0 (b .allocs) (b .parents) (b .protectors) (b .words) (b .codes) (not-true bad (and-right t6 (not bad) h)) (omega (arith, made-small 128 (b .allocs))) in
     let n : length m ≡ k = count-read k (b .allocs) (b .parents) (b .protectors) (b .words) (b .codes) in
-    let apart : anyClash (length m) (concatMap recordOf m ++ replicate (s .allocs .0) 0) ≡ false =
+    let apart : anyClash (length m) (recordsFrom firstPlace m ++ replicate (s .allocs .0) 0) ≡ false =
     ap₂ anyClash n (sym (s .allocs .1)) ∙ not-true clash (and-right t5 (not clash) h6) in
     record {
       valid = record {
         each = s .each;
-        separate = separate m (replicate (s .allocs .0) 0) apart;
+        separate = separate firstPlace m (replicate (s .allocs .0) 0) apart;
         bounded = record {
           allocations = omega (arith, n, made-small 128 (b .allocs));
           words = omega (arith, words-used m, padded-length (b .words) (concatMap wordsOf m) 4096 lw (s .words));
@@ -386,7 +440,7 @@ sound b h =
         };
       };
       equal = λ i. record {
-        allocs = padded-pad (b .allocs) (concatMap recordOf m) 768 la (s .allocs) i;
+        allocs = padded-pad (b .allocs) (recordsFrom firstPlace m) 1152 la (s .allocs) i;
         parents = padded-pad (b .parents) (concatMap parentsOf m) 1024 lp (s .parents) i;
         protectors = padded-pad (b .protectors) (concatMap protectorsOf m) 1024 lr (s .protectors) i;
         words = padded-pad (b .words) (concatMap wordsOf m) 4096 lw (s .words) i;

@@ -13,7 +13,7 @@ use Rattle.definition.specs.Notation.{any}
 use Rattle.definition.specs.Memory.{rangesOverlap}
 use Rattle.definition.proofs.Parts.{getD-first}
 use Rattle.tables.proofs.Lookup.{front-at, front-state, next-record}
-use Rattle.wellformed.specs.WellFormed.{badPlace, badCode, badNodes, badAllocation, badRest, badAllocations, clashes, clashesLater, clashesFirst, anyClash}
+use Rattle.wellformed.specs.WellFormed.{badPlace, badCode, badNodes, badAllocationAt, badRest, badAllocations, clashes, clashesLater, clashesFirst, anyClash}
 
 -- ---- nodes
 pub nodes-turn : (live : Bool) (size count n row : ℕ) (P R C : List ℕ) → n < count
@@ -31,10 +31,10 @@ nodes-end live size count n P R C h = let k : count - n ≡ 0 = omega arith in r
 
 -- ---- allocations
 pub allocations-turn : (count i node word code : ℕ) (A P R W C : List ℕ) → i < count
-    → badAllocations (count - i) (drop (i * 6) A) (drop node P) (drop node R) (drop word W) (drop code C)
-    ≡ badAllocation (drop (i * 6) A) (drop node P) (drop node R) (drop word W) (drop code C)
-    || badAllocations (count - (i + 1)) (drop ((i + 1) * 6) A) (drop (node + getD A (i * 6 + 5) 0) P) (drop (node + getD A (i * 6 + 5) 0) R)
-    (drop (word + getD A (i * 6 + 4) 0) W) (drop (code + getD A (i * 6 + 5) 0 * getD A (i * 6 + 4) 0) C)
+    → badAllocations (count - i) word node code (drop (i * 9) A) (drop node P) (drop node R) (drop word W) (drop code C)
+    ≡ badAllocationAt word node code (drop (i * 9) A) (drop node P) (drop node R) (drop word W) (drop code C)
+    || badAllocations (count - (i + 1)) (word + getD A (i * 9 + 4) 0) (node + getD A (i * 9 + 5) 0) (code + getD A (i * 9 + 5) 0 * getD A (i * 9 + 4) 0) (drop ((i + 1) * 9) A) (drop (node + getD A (i * 9 + 5) 0) P) (drop (node + getD A (i * 9 + 5) 0) R)
+    (drop (word + getD A (i * 9 + 4) 0) W) (drop (code + getD A (i * 9 + 5) 0 * getD A (i * 9 + 4) 0) C)
 unfolding badAllocations
 allocations-turn count i node word code A P R W C h =
     let k : count - i ≡ suc (count - (i + 1)) = omega arith in
@@ -43,20 +43,20 @@ allocations-turn count i node word code A P R W C h =
       front-at A i 5,
       front-at A i 4,
       next-record A i,
-      drop-drop (getD A (i * 6 + 5) 0) node P,
-      drop-drop (getD A (i * 6 + 5) 0) node R,
-      drop-drop (getD A (i * 6 + 4) 0) word W,
-      drop-drop (getD A (i * 6 + 5) 0 * getD A (i * 6 + 4) 0) code C,
+      drop-drop (getD A (i * 9 + 5) 0) node P,
+      drop-drop (getD A (i * 9 + 5) 0) node R,
+      drop-drop (getD A (i * 9 + 4) 0) word W,
+      drop-drop (getD A (i * 9 + 5) 0 * getD A (i * 9 + 4) 0) code C,
     )
 
-pub allocations-end : (count i : ℕ) (A P R W C : List ℕ) → count ≤ i → badAllocations (count - i) A P R W C ≡ badRest A P R W C
+pub allocations-end : (count i word node code : ℕ) (A P R W C : List ℕ) → count ≤ i → badAllocations (count - i) word node code A P R W C ≡ badRest A P R W C
 unfolding badAllocations
-allocations-end count i A P R W C h = let k : count - i ≡ 0 = omega arith in rw k
+allocations-end count i word node code A P R W C h = let k : count - i ≡ 0 = omega arith in rw k
 
 -- ---- pairs
 pub later-turn : (count j address size : ℕ) (A : List ℕ) → j < count
-    → clashesLater (count - j) address size (drop (j * 6) A)
-    ≡ clashes address size (drop (j * 6) A) || clashesLater (count - (j + 1)) address size (drop ((j + 1) * 6) A)
+    → clashesLater (count - j) address size (drop (j * 9) A)
+    ≡ clashes address size (drop (j * 9) A) || clashesLater (count - (j + 1)) address size (drop ((j + 1) * 9) A)
 unfolding clashesLater
 later-turn count j address size A h =
     let k : count - j ≡ suc (count - (j + 1)) = omega arith in
@@ -66,26 +66,26 @@ pub later-end : (count j address size : ℕ) (A : List ℕ) → count ≤ j → 
 unfolding clashesLater
 later-end count j address size A h = let k : count - j ≡ 0 = omega arith in rw k
 
-pub first-dead : (k i : ℕ) (A : List ℕ) → (getD A (i * 6) 0 ≡ 1 → ⊥) → clashesFirst k (drop (i * 6) A) ≡ false
+pub first-dead : (k i : ℕ) (A : List ℕ) → (getD A (i * 9) 0 ≡ 1 → ⊥) → clashesFirst k (drop (i * 9) A) ≡ false
 unfolding clashesFirst
-first-dead k i A h = rw (front-state A i, ne-eqb (getD A (i * 6) 0) 1 h)
+first-dead k i A h = rw (front-state A i, ne-eqb (getD A (i * 9) 0) 1 h)
 
-pub first-live : (k i : ℕ) (A : List ℕ) → getD A (i * 6) 0 ≡ 1
-    → clashesFirst k (drop (i * 6) A) ≡ clashesLater k (getD A (i * 6 + 3) 0) (getD A (i * 6 + 4) 0) (drop ((i + 1) * 6) A)
+pub first-live : (k i : ℕ) (A : List ℕ) → getD A (i * 9) 0 ≡ 1
+    → clashesFirst k (drop (i * 9) A) ≡ clashesLater k (getD A (i * 9 + 3) 0) (getD A (i * 9 + 4) 0) (drop ((i + 1) * 9) A)
 unfolding clashesFirst
-first-live k i A h = rw (front-state A i, eq-eqb (getD A (i * 6) 0) 1 h, front-at A i 3, front-at A i 4, next-record A i)
+first-live k i A h = rw (front-state A i, eq-eqb (getD A (i * 9) 0) 1 h, front-at A i 3, front-at A i 4, next-record A i)
 
-pub clash-dead : (address size j : ℕ) (A : List ℕ) → (getD A (j * 6) 0 ≡ 1 → ⊥) → clashes address size (drop (j * 6) A) ≡ false
+pub clash-dead : (address size j : ℕ) (A : List ℕ) → (getD A (j * 9) 0 ≡ 1 → ⊥) → clashes address size (drop (j * 9) A) ≡ false
 unfolding clashes
-clash-dead address size j A h = rw (front-state A j, ne-eqb (getD A (j * 6) 0) 1 h)
+clash-dead address size j A h = rw (front-state A j, ne-eqb (getD A (j * 9) 0) 1 h)
 
-pub clash-live : (address size j : ℕ) (A : List ℕ) → getD A (j * 6) 0 ≡ 1
-    → clashes address size (drop (j * 6) A) ≡ rangesOverlap address size (getD A (j * 6 + 3) 0) (getD A (j * 6 + 4) 0)
+pub clash-live : (address size j : ℕ) (A : List ℕ) → getD A (j * 9) 0 ≡ 1
+    → clashes address size (drop (j * 9) A) ≡ rangesOverlap address size (getD A (j * 9 + 3) 0) (getD A (j * 9 + 4) 0)
 unfolding clashes
-clash-live address size j A h = rw (front-state A j, eq-eqb (getD A (j * 6) 0) 1 h, front-at A j 3, front-at A j 4)
+clash-live address size j A h = rw (front-state A j, eq-eqb (getD A (j * 9) 0) 1 h, front-at A j 3, front-at A j 4)
 
 pub clash-turn : (count i : ℕ) (A : List ℕ) → i < count
-    → anyClash (count - i) (drop (i * 6) A) ≡ clashesFirst (count - (i + 1)) (drop (i * 6) A) || anyClash (count - (i + 1)) (drop ((i + 1) * 6) A)
+    → anyClash (count - i) (drop (i * 9) A) ≡ clashesFirst (count - (i + 1)) (drop (i * 9) A) || anyClash (count - (i + 1)) (drop ((i + 1) * 9) A)
 unfolding anyClash
 clash-turn count i A h =
     let k : count - i ≡ suc (count - (i + 1)) = omega arith in

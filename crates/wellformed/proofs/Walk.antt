@@ -8,66 +8,66 @@ use lib.ListN.{length, getD, take, drop, length-drop}
 use Rattle.tables.proofs.Lookup.{front-at}
 use Rattle.definition.proofs.Parts.{part-rest}
 use Rattle.definition.proofs.Booleans.{or-taken, or-skip}
-use Rattle.wellformed.specs.WellFormed.{Front, badAllocation, badRest, badAllocations}
+use Rattle.wellformed.specs.WellFormed.{Front, badAllocationAt, badRest, badAllocations}
 use Rattle.wellformed.proofs.Turns.{allocations-turn, allocations-end}
-use Rattle.wellformed.proofs.Sound.{Tested, tested}
+use Rattle.wellformed.proofs.Sound.{Tested, tested-at}
 
 module _ (A P R W C : List ℕ) (i node word code : ℕ) where
   -- a part that goes on to the end, as the callee has it
   part : List ℕ → ℕ → List ℕ
   part l p = take (length l - p) (drop p l)
 
-  parts-allocation : badAllocation (part A (i * 6)) (part P node) (part R node) (part W word) (part C code)
-      ≡ badAllocation (drop (i * 6) A) (drop node P) (drop node R) (drop word W) (drop code C)
+  parts-allocation : badAllocationAt word node code (part A (i * 9)) (part P node) (part R node) (part W word) (part C code)
+      ≡ badAllocationAt word node code (drop (i * 9) A) (drop node P) (drop node R) (drop word W) (drop code C)
   unfolding part
-  parts-allocation = rw (part-rest (i * 6) A, part-rest node P, part-rest node R, part-rest word W, part-rest code C)
+  parts-allocation = rw (part-rest (i * 9) A, part-rest node P, part-rest node R, part-rest word W, part-rest code C)
 
   -- the front is a record's
-  pub walk-front : i * 6 + 6 ≤ length A → length P ≤ 1024 → length W ≤ 4096
-      → Front (take (length A - i * 6) (drop (i * 6) A)) (take (length P - node) (drop node P)) (take (length W - word) (drop word W))
+  pub walk-front : i * 9 + 9 ≤ length A → length P ≤ 1024 → length W ≤ 4096
+      → Front (take (length A - i * 9) (drop (i * 9) A)) (take (length P - node) (drop node P)) (take (length W - word) (drop word W))
   walk-front la lp lw =
-      rw (part-rest (i * 6) A, part-rest node P, part-rest word W)
+      rw (part-rest (i * 9) A, part-rest node P, part-rest word W)
       (record { allocs = simp length-drop (omega arith); parents = simp length-drop (omega arith); words = simp length-drop (omega arith) })
 
   module _ (count : ℕ) (r : Bool)
       (answer : r
-      ≡ badAllocation (take (length A - i * 6) (drop (i * 6) A)) (take (length P - node) (drop node P)) (take (length R - node) (drop node R))
+      ≡ badAllocationAt word node code (take (length A - i * 9) (drop (i * 9) A)) (take (length P - node) (drop node P)) (take (length R - node) (drop node R))
       (take (length W - word) (drop word W)) (take (length C - code) (drop code C))) where
-    front : badAllocation (drop (i * 6) A) (drop node P) (drop node R) (drop word W) (drop code C) ≡ r
+    front : badAllocationAt word node code (drop (i * 9) A) (drop node P) (drop node R) (drop word W) (drop code C) ≡ r
     unfolding part
     front = sym (answer ∙ parts-allocation)
 
-    pub walk-bad : i < count → r ≡ true → badAllocations (count - i) (drop (i * 6) A) (drop node P) (drop node R) (drop word W) (drop code C) ≡ true
+    pub walk-bad : i < count → r ≡ true → badAllocations (count - i) word node code (drop (i * 9) A) (drop node P) (drop node R) (drop word W) (drop code C) ≡ true
     walk-bad h e = allocations-turn count i node word code A P R W C h ∙ or-taken _ _ (front ∙ e)
 
     pub walk-on : i < count → r ≡ false
-        → badAllocations (count - (i + 1)) (drop ((i + 1) * 6) A) (drop (node + getD A (i * 6 + 5) 0) P) (drop (node + getD A (i * 6 + 5) 0) R)
-        (drop (word + getD A (i * 6 + 4) 0) W) (drop (code + getD A (i * 6 + 5) 0 * getD A (i * 6 + 4) 0) C)
-        ≡ badAllocations (count - i) (drop (i * 6) A) (drop node P) (drop node R) (drop word W) (drop code C)
+        → badAllocations (count - (i + 1)) (word + getD A (i * 9 + 4) 0) (node + getD A (i * 9 + 5) 0) (code + getD A (i * 9 + 5) 0 * getD A (i * 9 + 4) 0) (drop ((i + 1) * 9) A) (drop (node + getD A (i * 9 + 5) 0) P) (drop (node + getD A (i * 9 + 5) 0) R)
+        (drop (word + getD A (i * 9 + 4) 0) W) (drop (code + getD A (i * 9 + 5) 0 * getD A (i * 9 + 4) 0) C)
+        ≡ badAllocations (count - i) word node code (drop (i * 9) A) (drop node P) (drop node R) (drop word W) (drop code C)
     walk-on h e = sym (allocations-turn count i node word code A P R W C h ∙ or-skip _ _ (front ∙ e))
 
     -- there is room for its parts
     module _ (e : r ≡ false) where
-      test : Tested (drop (i * 6) A) (drop node P) (drop node R) (drop word W) (drop code C)
-      test = tested (drop (i * 6) A) (drop node P) (drop node R) (drop word W) (drop code C) (front ∙ e)
+      test : Tested (drop (i * 9) A) (drop node P) (drop node R) (drop word W) (drop code C)
+      test = tested-at word node code (drop (i * 9) A) (drop node P) (drop node R) (drop word W) (drop code C) (front ∙ e) .1
 
-      pub walk-parents : node ≤ length P → node + getD A (i * 6 + 5) 0 ≤ length P
+      pub walk-parents : node ≤ length P → node + getD A (i * 9 + 5) 0 ≤ length P
       walk-parents h = omega (arith, front-at A i 5, test .room-parents, length-drop node P)
 
-      pub walk-protectors : node ≤ length R → node + getD A (i * 6 + 5) 0 ≤ length R
+      pub walk-protectors : node ≤ length R → node + getD A (i * 9 + 5) 0 ≤ length R
       walk-protectors h = omega (arith, front-at A i 5, test .room-protectors, length-drop node R)
 
-      pub walk-words : word ≤ length W → word + getD A (i * 6 + 4) 0 ≤ length W
+      pub walk-words : word ≤ length W → word + getD A (i * 9 + 4) 0 ≤ length W
       walk-words h = omega (arith, front-at A i 4, test .room-words, length-drop word W)
 
-      pub walk-codes : code ≤ length C → code + getD A (i * 6 + 5) 0 * getD A (i * 6 + 4) 0 ≤ length C
+      pub walk-codes : code ≤ length C → code + getD A (i * 9 + 5) 0 * getD A (i * 9 + 4) 0 ≤ length C
       walk-codes h = omega (arith, ap₂ _*_ (front-at A i 5) (front-at A i 4), test .room-codes, length-drop code C)
 
   -- behind the last
   pub walk-rest : (count : ℕ) → count ≤ i
-      → badRest (take (length A - i * 6) (drop (i * 6) A)) (take (length P - node) (drop node P)) (take (length R - node) (drop node R))
+      → badRest (take (length A - i * 9) (drop (i * 9) A)) (take (length P - node) (drop node P)) (take (length R - node) (drop node R))
       (take (length W - word) (drop word W)) (take (length C - code) (drop code C))
-      ≡ badAllocations (count - i) (drop (i * 6) A) (drop node P) (drop node R) (drop word W) (drop code C)
+      ≡ badAllocations (count - i) word node code (drop (i * 9) A) (drop node P) (drop node R) (drop word W) (drop code C)
   walk-rest count h =
-      rw (part-rest (i * 6) A, part-rest node P, part-rest node R, part-rest word W, part-rest code C)
-      (sym (allocations-end count i (drop (i * 6) A) (drop node P) (drop node R) (drop word W) (drop code C) h))
+      rw (part-rest (i * 9) A, part-rest node P, part-rest node R, part-rest word W, part-rest code C)
+      (sym (allocations-end count i word node code (drop (i * 9) A) (drop node P) (drop node R) (drop word W) (drop code C) h))

@@ -68,9 +68,17 @@ badAllocation A P R W C =
     || any badWord (take (getD A 4 0) W)
     || badNodes (eqb (getD A 0 0) 1) (getD A 4 0) 0 (getD A 5 0) P R C
 
+-- "ranges consecutive": its parts start behind so many words, nodes and codes, where those of the one before end
+unfoldable pub badStarts : ℕ → ℕ → ℕ → List ℕ → Bool
+badStarts word node code A =
+    not (eqb (getD A 6 0) word) || not (eqb (getD A 7 0) node) || not (eqb (getD A 8 0) code)
+
+unfoldable pub badAllocationAt : ℕ → ℕ → ℕ → List ℕ → List ℕ → List ℕ → List ℕ → List ℕ → Bool
+badAllocationAt word node code A P R W C = badStarts word node code A || badAllocation A P R W C
+
 -- there is a record, and no part is longer than a buffer
 pub record Front (A P W : List ℕ) : Type 0 where
-  pub allocs : 6 ≤ length A
+  pub allocs : 9 ≤ length A
   pub parents : length P ≤ 1024
   pub words : length W ≤ 4096
 
@@ -79,12 +87,12 @@ pub record Front (A P W : List ℕ) : Type 0 where
 unfoldable pub badRest : List ℕ → List ℕ → List ℕ → List ℕ → List ℕ → Bool
 badRest A P R W C = any nonzero A || any nonzero P || any nonzero R || any nonzero W || any nonzero C
 
--- "ranges consecutive": so many allocations, each behind the one before, and zero behind the last
-unfoldable pub badAllocations : ℕ → List ℕ → List ℕ → List ℕ → List ℕ → List ℕ → Bool
-badAllocations zero A P R W C = badRest A P R W C
-badAllocations (suc count) A P R W C =
-    badAllocation A P R W C
-    || badAllocations count (drop 6 A) (drop (getD A 5 0) P) (drop (getD A 5 0) R) (drop (getD A 4 0) W) (drop (getD A 5 0 * getD A 4 0) C)
+-- so many allocations, each behind the one before, and zero behind the last
+unfoldable pub badAllocations : ℕ → ℕ → ℕ → ℕ → List ℕ → List ℕ → List ℕ → List ℕ → List ℕ → Bool
+badAllocations zero word node code A P R W C = badRest A P R W C
+badAllocations (suc count) word node code A P R W C =
+    badAllocationAt word node code A P R W C
+    || badAllocations count (word + getD A 4 0) (node + getD A 5 0) (code + getD A 5 0 * getD A 4 0) (drop 9 A) (drop (getD A 5 0) P) (drop (getD A 5 0) R) (drop (getD A 4 0) W) (drop (getD A 5 0 * getD A 4 0) C)
 
 -- ---- "live ones not overlapping"
 -- the record at the front is of a live allocation that overlaps the range
@@ -94,23 +102,23 @@ clashes address size A = eqb (getD A 0 0) 1 && rangesOverlap address size (getD 
 -- one of so many records
 unfoldable pub clashesLater : ℕ → ℕ → ℕ → List ℕ → Bool
 clashesLater zero address size A = false
-clashesLater (suc count) address size A = clashes address size A || clashesLater count address size (drop 6 A)
+clashesLater (suc count) address size A = clashes address size A || clashesLater count address size (drop 9 A)
 
 -- the record at the front is of a live allocation, and a later one clashes with it
 unfoldable pub clashesFirst : ℕ → List ℕ → Bool
-clashesFirst count A = eqb (getD A 0 0) 1 && clashesLater count (getD A 3 0) (getD A 4 0) (drop 6 A)
+clashesFirst count A = eqb (getD A 0 0) 1 && clashesLater count (getD A 3 0) (getD A 4 0) (drop 9 A)
 
 unfoldable pub anyClash : ℕ → List ℕ → Bool
 anyClash zero A = false
-anyClash (suc count) A = clashesFirst count A || anyClash count (drop 6 A)
+anyClash (suc count) A = clashesFirst count A || anyClash count (drop 9 A)
 
 -- ---- the five buffers
 unfoldable pub wellFormed : Buffers → Bool
 wellFormed b =
-    eqb (length (b .allocs)) 768
+    eqb (length (b .allocs)) 1152
     && eqb (length (b .parents)) 1024
     && eqb (length (b .protectors)) 1024
     && eqb (length (b .words)) 4096
     && eqb (length (b .codes)) 32768
     && not (anyClash (madeIn 128 (b .allocs)) (b .allocs))
-    && not (badAllocations (madeIn 128 (b .allocs)) (b .allocs) (b .parents) (b .protectors) (b .words) (b .codes))
+    && not (badAllocations (madeIn 128 (b .allocs)) 0 0 0 (b .allocs) (b .parents) (b .protectors) (b .words) (b .codes))

@@ -5,7 +5,7 @@ ghost use lib.ListN.{length, drop};
 ghost use Rattle.definition.specs.Notation.{any};
 ghost use Rattle.definition.specs.Request.{nonzero};
 ghost use Rattle.tables.specs.Held.{buffers};
-ghost use Rattle.wellformed.specs.WellFormed.{badRecord, badWord, badPlace, badCode, badNodes, Nodes, badAllocation, Front, badRest, badAllocations, clashes, clashesFirst, anyClash, wellFormed, Decides};
+ghost use Rattle.wellformed.specs.WellFormed.{badRecord, badWord, badPlace, badCode, badNodes, Nodes, badAllocation, badStarts, badAllocationAt, Front, badRest, badAllocations, clashes, clashesFirst, anyClash, wellFormed, Decides};
 
 // ---- something other than zero
 fn any_nonzero_u8(b: &[u8]) -> bool
@@ -230,6 +230,40 @@ fn bad_allocation(
     bad_nodes(state == 1, size, count, parents, protectors, codes)
 }
 
+// Its parts start elsewhere than where those of the one before end.
+fn bad_starts(allocs: &[u64], word: usize, node: usize, code: usize) -> bool
+    requires { ⌜ 9 ≤ length (now allocs) ⌝ }
+    ensures { λ r. ⌜ r ≡ badStarts word node code (now (allocs .entry)) ⌝ }
+{
+    if allocs[6] != word as u64 {
+        return true;
+    }
+    if allocs[7] != node as u64 {
+        return true;
+    }
+    allocs[8] != code as u64
+}
+
+fn bad_allocation_at(
+    allocs: &[u64],
+    parents: &[u16],
+    protectors: &[u8],
+    words: &[u32],
+    codes: &[u8],
+    word: usize,
+    node: usize,
+    code: usize,
+) -> bool
+    requires { ⌜ Front (now allocs) (now parents) (now words) ⌝ }
+    ensures { λ r. ⌜ r
+        ≡ badAllocationAt word node code (now (allocs .entry)) (now (parents .entry)) (now (protectors .entry)) (now (words .entry)) (now (codes .entry)) ⌝ }
+{
+    if bad_starts(allocs, word, node, code) {
+        return true;
+    }
+    bad_allocation(allocs, parents, protectors, words, codes)
+}
+
 // ---- all of them, and zeros behind
 fn bad_allocations(
     allocs: &[u64],
@@ -239,21 +273,24 @@ fn bad_allocations(
     codes: &[u8],
     count: usize,
 ) -> bool
-    requires { ⌜ (count * 6 ≤ length (now allocs)) × ((length (now parents) ≤ 1024) × (length (now words) ≤ 4096)) ⌝ }
-    ensures { λ r. ⌜ r ≡ badAllocations count (now (allocs .entry)) (now (parents .entry)) (now (protectors .entry)) (now (words .entry)) (now (codes .entry)) ⌝ }
+    requires { ⌜ (count * 9 ≤ length (now allocs)) × ((length (now parents) ≤ 1024) × (length (now words) ≤ 4096)) ⌝ }
+    ensures { λ r. ⌜ r ≡ badAllocations count 0 0 0 (now (allocs .entry)) (now (parents .entry)) (now (protectors .entry)) (now (words .entry)) (now (codes .entry)) ⌝ }
 {
     let mut i: usize = 0;
     let mut node: usize = 0;
     let mut word: usize = 0;
     let mut code: usize = 0;
     while i < count {
-        let p = i * 6;
-        if bad_allocation(
+        let p = i * 9;
+        if bad_allocation_at(
             &allocs[p..],
             &parents[node..],
             &protectors[node..],
             &words[word..],
             &codes[code..],
+            word,
+            node,
+            code,
         ) {
             return true;
         }
@@ -264,7 +301,7 @@ fn bad_allocations(
         code += nodes * size;
         i += 1;
     }
-    let p = i * 6;
+    let p = i * 9;
     bad_rest(
         &allocs[p..],
         &parents[node..],
@@ -277,10 +314,10 @@ fn bad_allocations(
 // ---- pairs
 // Allocation j is live and overlaps the range.
 fn clashes_at(allocs: &[u64], j: usize, address: u64, size: u64) -> bool
-    requires { ⌜ j * 6 + 6 ≤ length (now allocs) ⌝ }
-    ensures { λ r. ⌜ r ≡ clashes address size (drop (j * 6) (now (allocs .entry))) ⌝ }
+    requires { ⌜ j * 9 + 9 ≤ length (now allocs) ⌝ }
+    ensures { λ r. ⌜ r ≡ clashes address size (drop (j * 9) (now (allocs .entry))) ⌝ }
 {
-    let p = j * 6;
+    let p = j * 9;
     if allocs[p] != 1 {
         return false;
     }
@@ -289,10 +326,10 @@ fn clashes_at(allocs: &[u64], j: usize, address: u64, size: u64) -> bool
 
 // Allocation i is live and overlaps a later one of `count`.
 fn clashes_later(allocs: &[u64], i: usize, count: usize) -> bool
-    requires { ⌜ (i < count) × (count * 6 ≤ length (now allocs)) ⌝ }
-    ensures { λ r. ⌜ r ≡ clashesFirst (count - (i + 1)) (drop (i * 6) (now (allocs .entry))) ⌝ }
+    requires { ⌜ (i < count) × (count * 9 ≤ length (now allocs)) ⌝ }
+    ensures { λ r. ⌜ r ≡ clashesFirst (count - (i + 1)) (drop (i * 9) (now (allocs .entry))) ⌝ }
 {
-    let p = i * 6;
+    let p = i * 9;
     if allocs[p] != 1 {
         return false;
     }
@@ -309,7 +346,7 @@ fn clashes_later(allocs: &[u64], i: usize, count: usize) -> bool
 }
 
 fn any_clash(allocs: &[u64], count: usize) -> bool
-    requires { ⌜ count * 6 ≤ length (now allocs) ⌝ }
+    requires { ⌜ count * 9 ≤ length (now allocs) ⌝ }
     ensures { λ r. ⌜ r ≡ anyClash count (now (allocs .entry)) ⌝ }
 {
     let mut i: usize = 0;
@@ -333,7 +370,7 @@ pub fn well_formed(
     ensures test { λ r. ⌜ r ≡ wellFormed (buffers (now (allocs .entry)) (now (parents .entry)) (now (protectors .entry)) (now (words .entry)) (now (codes .entry))) ⌝ }
     ensures exact { λ r. ⌜ Decides r (buffers (now (allocs .entry)) (now (parents .entry)) (now (protectors .entry)) (now (words .entry)) (now (codes .entry))) ⌝ }
 {
-    if allocs.len() != 768 {
+    if allocs.len() != 1152 {
         return false;
     }
     if parents.len() != 1024 {

@@ -74,7 +74,7 @@ pub struct ListReply {
 }
 
 /// The lengths of what is lent.
-pub const ALLOCS: usize = 768;
+pub const ALLOCS: usize = 1152;
 pub const NODES: usize = 1024;
 pub const WORDS: usize = 4096;
 pub const CODES: usize = 32768;

@@ -4,7 +4,9 @@
 use runs::reference::{Alloc, Node, Reference};
 use tree_borrows::Buffers;
 
-pub const ALLOCS: usize = 128 * 6;
+/// Numbers of a record: state, kind, exponent, address, size, number of nodes, first word, first node, first code.
+pub const RECORD: usize = 9;
+pub const ALLOCS: usize = 128 * RECORD;
 pub const NODES: usize = 1024;
 pub const WORDS: usize = 4096;
 pub const CODES: usize = 32768;
@@ -15,7 +17,9 @@ pub fn encode(m: &Reference) -> Buffers {
     for a in &m.allocs {
         let state = if a.live { 1 } else { 2 };
         let (size, nodes) = (a.words.len() as u64, a.nodes.len() as u64);
+        let starts = [b.words.len() as u64, b.parents.len() as u64, b.codes.len() as u64];
         b.allocs.extend([state, a.kind as u64, a.exponent as u64, a.address, size, nodes]);
+        b.allocs.extend(starts);
         b.words.extend(&a.words);
         for node in &a.nodes {
             b.parents.push(node.parent as u16);
@@ -43,10 +47,14 @@ pub fn decode(b: &Buffers) -> Option<Reference> {
     }
     let mut m = Reference::new();
     let (mut nodes, mut words, mut codes) = (0, 0, 0);
-    for record in b.allocs.chunks_exact(6).take_while(|record| record[0] != 0) {
-        let &[state, kind, exponent, address, size, count] = record else { unreachable!() };
+    for record in b.allocs.chunks_exact(RECORD).take_while(|record| record[0] != 0) {
+        let &[state, kind, exponent, address, size, count, word, node, code] = record else { unreachable!() };
         let room = size <= (WORDS - words) as u64 && count <= (NODES - nodes) as u64;
         if !record_in_lists(state, kind, exponent, address, size) || !room || count == 0 {
+            return None;
+        }
+        // "ranges consecutive": each starts where the one before ends
+        if [word, node, code] != [words as u64, nodes as u64, codes as u64] {
             return None;
         }
         let (size, count) = (size as usize, count as usize);
@@ -68,8 +76,8 @@ pub fn decode(b: &Buffers) -> Option<Reference> {
         });
         (nodes, words, codes) = (nodes + count, words + size, codes + count * size);
     }
-    // "ranges consecutive": nothing stands behind what was read
-    let rest_is_zero = b.allocs[6 * m.allocs.len()..].iter().all(|&x| x == 0)
+    // nothing stands behind what was read
+    let rest_is_zero = b.allocs[RECORD * m.allocs.len()..].iter().all(|&x| x == 0)
         && b.parents[nodes..].iter().all(|&x| x == 0)
         && b.protectors[nodes..].iter().all(|&x| x == 0)
         && b.words[words..].iter().all(|&x| x == 0)

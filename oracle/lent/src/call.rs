@@ -1,6 +1,6 @@
 //! One call of an entry: drawn, made, and answered by the reference.
 
-use crate::buffers::{decode, encode, have_lengths};
+use crate::buffers::{decode, encode, have_lengths, valid_word, RECORD};
 use crate::lent::{Frame, Lent, AREA, PLACES};
 use runs::deep::{self, Style};
 use runs::random::Random;
@@ -369,7 +369,7 @@ pub fn agrees(call: &Call, reply: &Reply, answer: &Answer, lent: &Lent) -> bool 
         (Third::Leak(allocation), _) => *reply == given(3, *allocation as u64, 0),
         (Third::Words(words), Call::Load { at, .. }) => {
             let b = &lent.buffers;
-            let records: Vec<&[u64]> = b.allocs.chunks_exact(6).take(at.allocation as usize + 1).collect();
+            let records: Vec<&[u64]> = b.allocs.chunks_exact(RECORD).take(at.allocation as usize + 1).collect();
             let (own, earlier) = records.split_last().expect("the allocation was made");
             let start = earlier.iter().map(|record| record[4]).sum::<u64>() + at.address - own[3];
             let part = &b.words[start as usize..start as usize + words.len()];

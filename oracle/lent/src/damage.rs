@@ -1,6 +1,6 @@
 //! Damage to what is lent: one number of a buffer or its length, or what is wrong with a frame. Each kind has a name.
 
-use crate::buffers::valid_word;
+use crate::buffers::{valid_word, RECORD};
 use crate::call::Call;
 use crate::lent::{Lent, AREA, PLACES};
 use runs::random::Random;
@@ -12,9 +12,10 @@ use tree_borrows::Buffers;
 pub fn damage(r: &mut Random, m: &Reference, b: &mut Buffers) -> String {
     loop {
         let before = b.clone();
-        let name = match r.below(8) {
+        let name = match r.below(9) {
             0 => Some(length(r, b)),
             1 | 2 => record(r, m, b),
+            8 => start(r, m, b),
             3 => node(r, m, b),
             4 => code(r, m, b),
             5 => word(r, m, b),
@@ -57,7 +58,7 @@ fn record(r: &mut Random, m: &Reference, b: &mut Buffers) -> Option<String> {
     }
     let number = r.index(m.allocs.len());
     let a = &m.allocs[number];
-    let held = &mut b.allocs[6 * number..6 * number + 6];
+    let held = &mut b.allocs[RECORD * number..RECORD * (number + 1)];
     let (size, nodes) = (held[4], held[5]);
     let field = r.index(6);
     let way = r.index(4);
@@ -86,6 +87,30 @@ fn record(r: &mut Random, m: &Reference, b: &mut Buffers) -> Option<String> {
     held[field] = value;
     let fields = ["state", "kind", "exponent", "address", "size", "number of nodes"];
     Some(format!("{}: {name}", fields[field]))
+}
+
+/// One of the three starts of a record: of any allocation, of a dead one or of the last.
+fn start(r: &mut Random, m: &Reference, b: &mut Buffers) -> Option<String> {
+    if m.allocs.is_empty() {
+        return None;
+    }
+    let dead: Vec<usize> = (0..m.allocs.len()).filter(|&i| !m.allocs[i].live).collect();
+    let (whose, number) = match r.below(3) {
+        0 => ("an allocation", r.index(m.allocs.len())),
+        1 if !dead.is_empty() => ("a dead allocation", dead[r.index(dead.len())]),
+        _ => ("the last allocation", m.allocs.len() - 1),
+    };
+    let which = r.index(3);
+    let held = &mut b.allocs[RECORD * number + 6 + which];
+    let by = r.pick(&[1, 1, 2, 8, 64]);
+    let huge = r.pick(&[1 << 16, 1 << 32, 1 << 62, 1 << 63, u64::MAX]);
+    let (name, value) = match r.below(5) {
+        0 | 1 => ("too small", held.saturating_sub(by)),
+        2 | 3 => ("too large", *held + by),
+        _ => ("huge", huge),
+    };
+    *held = value;
+    Some(format!("first {} of {whose}: {name}", ["word", "node", "code"][which]))
 }
 
 /// The places of an allocation's nodes, words and codes.
@@ -193,7 +218,7 @@ fn behind(r: &mut Random, m: &Reference, b: &mut Buffers) -> String {
     let wide = r.pick(&[1, 2, 1 << 30, 1 << 31, 0x8000_0007, u32::MAX]);
     let which = r.index(5);
     match which {
-        0 => set(r, 6 * m.allocs.len(), &mut b.allocs, wide as u64),
+        0 => set(r, RECORD * m.allocs.len(), &mut b.allocs, wide as u64),
         1 => set(r, nodes, &mut b.parents, small as u16),
         2 => set(r, nodes, &mut b.protectors, small),
         3 => set(r, words, &mut b.words, wide),
@@ -211,16 +236,16 @@ fn records(r: &mut Random, m: &Reference, b: &mut Buffers) -> Option<String> {
     match r.below(3) {
         0 => {
             let at = made + r.range(1, 3) as usize;
-            *b.allocs.get_mut(6 * at)? = r.range(1, 2);
+            *b.allocs.get_mut(RECORD * at)? = r.range(1, 2);
             Some("state of a record behind a never-made one".into())
         }
         1 => {
-            let (from, to) = (6 * (made - 1), 6 * (made + r.index(3)));
-            if to + 6 > b.allocs.len() {
+            let (from, to) = (RECORD * (made - 1), RECORD * (made + r.index(3)));
+            if to + RECORD > b.allocs.len() {
                 return None;
             }
-            b.allocs.copy_within(from..from + 6, to);
-            b.allocs[from..from + 6].fill(0);
+            b.allocs.copy_within(from..from + RECORD, to);
+            b.allocs[from..from + RECORD].fill(0);
             Some("the last record behind a never-made one (all its numbers)".into())
         }
         _ => {
@@ -234,7 +259,7 @@ fn records(r: &mut Random, m: &Reference, b: &mut Buffers) -> Option<String> {
             // from where both just touch to where they just touch again
             let reach = size + target.words.len() as u64;
             let address = target.address.wrapping_sub(size).wrapping_add(r.range(0, reach));
-            b.allocs[6 * one + 3] = address >> own.exponent << own.exponent;
+            b.allocs[RECORD * one + 3] = address >> own.exponent << own.exponent;
             Some("address: on or beside another live allocation".into())
         }
     }

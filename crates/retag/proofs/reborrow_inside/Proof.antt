@@ -32,14 +32,14 @@ entry-before-never-made c = let c1 = c .before .before .before .before .before .
 abbrev entry-before-parts-at : tie.After-parts-at → tie.Start
 entry-before-parts-at c = entry-before-never-made (c .before .before .before)
 
-abbrev entry-before-used-from : tie.After-used-from → tie.Start
-entry-before-used-from c = entry-before-never-made (c .before .before .before .before .before)
+abbrev entry-before-used-behind : tie.After-used-behind → tie.Start
+entry-before-used-behind c = entry-before-never-made (c .before .before .before .before .before)
 
 abbrev provenance-before-never-made : tie.After-never-made → tie.After-provenance
 provenance-before-never-made c = c .before .before .before
 
-abbrev provenance-before-used-from : tie.After-used-from → tie.After-provenance
-provenance-before-used-from c = provenance-before-never-made (c .before .before .before .before .before)
+abbrev provenance-before-used-behind : tie.After-used-behind → tie.After-provenance
+provenance-before-used-behind c = provenance-before-never-made (c .before .before .before .before .before)
 
 abbrev entry-before-retag-refusal : tie.After-retag-refusal → tie.Start
 entry-before-retag-refusal c = entry-before-parts-at (c .before .before .before .before .before .before)
@@ -56,11 +56,11 @@ provenance-before-retag-refusal c = provenance-before-parts-at (c .before .befor
 abbrev provenance-before-else3 : tie.Else3 → tie.After-provenance
 provenance-before-else3 c = provenance-before-retag-refusal (c .before .before .before)
 
-abbrev used-from-before-retag-refusal : tie.After-retag-refusal → tie.After-used-from
-used-from-before-retag-refusal c = c .before .before .before .before
+abbrev used-behind-before-retag-refusal : tie.After-retag-refusal → tie.After-used-behind
+used-behind-before-retag-refusal c = c .before .before .before .before
 
-abbrev used-from-before-else3 : tie.Else3 → tie.After-used-from
-used-from-before-else3 c = used-from-before-retag-refusal (c .before .before .before)
+abbrev used-behind-before-else3 : tie.Else3 → tie.After-used-behind
+used-behind-before-else3 c = used-behind-before-retag-refusal (c .before .before .before)
 
 abbrev entry-before-then1 : tie.Then1 → tie.Start
 entry-before-then1 c = let c1 = c .before .before .before .before .before .before in c1 .before .before
@@ -77,8 +77,8 @@ entry-before-else2 c = entry-before-never-made (c .before)
 abbrev entry-before-then3 : tie.Then3 → tie.Start
 entry-before-then3 c = entry-before-retag-refusal (c .before .before .before)
 
-abbrev used-from-before-then3 : tie.Then3 → tie.After-used-from
-used-from-before-then3 c = used-from-before-retag-refusal (c .before .before .before)
+abbrev used-behind-before-then3 : tie.Then3 → tie.After-used-behind
+used-behind-before-then3 c = used-behind-before-retag-refusal (c .before .before .before)
 
 abbrev provenance-before-then3 : tie.Then3 → tie.After-provenance
 provenance-before-then3 c = provenance-before-retag-refusal (c .before .before .before)
@@ -98,11 +98,11 @@ else3-before-slice-known9 c = let c1 = c .before .before .before .before .before
 abbrev add-child-before-slice-known9 : tie.After-slice-known9 → tie.After-add-child
 add-child-before-slice-known9 c = let c1 = c .before .before .before .before .before .before in c1 .before .before
 
-abbrev used-from-before-add-child : tie.After-add-child → tie.After-used-from
-used-from-before-add-child c = used-from-before-else3 (c .before .before .before .before .before)
+abbrev used-behind-before-add-child : tie.After-add-child → tie.After-used-behind
+used-behind-before-add-child c = used-behind-before-else3 (c .before .before .before .before .before)
 
-abbrev used-from-before-slice-known9 : tie.After-slice-known9 → tie.After-used-from
-used-from-before-slice-known9 c = let c1 = c .before .before .before .before .before .before in used-from-before-add-child (c1 .before .before)
+abbrev used-behind-before-slice-known9 : tie.After-slice-known9 → tie.After-used-behind
+used-behind-before-slice-known9 c = let c1 = c .before .before .before .before .before .before in used-behind-before-add-child (c1 .before .before)
 
 abbrev entry-before-else1 : tie.Else1 → tie.Start
 entry-before-else1 c = let c1 = c .before .before .before .before .before .before in c1 .before .before
@@ -132,16 +132,16 @@ part c m h =
     (known, c .parts-at .ensures m r (points-made (t .args .p) (c .before .before .before .before .before .before .provenance .given .1) (record { records = r; made = known })))
 
 -- and how much is used
-located : (c : tie.After-used-from) → let t = entry-before-used-from c in (m : Memory) → HoldsMarked m (now (t .args .allocs)) (now (t .args .parents)) (now (t .args .protectors)) (now (t .args .codes))
-    → Located m (provenanceOf (t .args .p .provenance)) (provenance-before-used-from c .provenance .given .0 .0) (c .used-from .result) (c .before .before .parts-at .result)
+located : (c : tie.After-used-behind) → let t = entry-before-used-behind c in (m : Memory) → HoldsMarked m (now (t .args .allocs)) (now (t .args .parents)) (now (t .args .protectors)) (now (t .args .codes))
+    → Located m (provenanceOf (t .args .p .provenance)) (provenance-before-used-behind c .provenance .given .0 .0) (c .used-behind .result) (c .before .before .parts-at .result)
 located c m h =
     let (known, lies) = part (c .before .before) m h in
-    let u = c .used-from .ensures m (trees-of h .records) (lies .starts) in
+    let u = c .used-behind .ensures m (trees-of h .records) in
     record { made = known; used = record { words = refl; nodes = u .nodes; codes = u .codes }; part = lies }
 
 -- where nothing is refused: there is a place for the child, and the buffers hold the memory in which the reads are made
 passed : (c : tie.Else3) → let t = entry-before-else3 c in (m : Memory) → HoldsMarked m (now (t .args .allocs)) (now (t .args .parents)) (now (t .args .protectors)) (now (t .args .codes)) → Passed m (provenance-before-else3 c .provenance .given .0 .0) (provenance-before-else3 c .provenance .given .0 .1 .0) (t .args .p .addr) (length (now (t .args .inside)))
-passed c m h = c .before .before .before .retag-refusal .ensures .1 m (trees-of h) (located (used-from-before-else3 c) m h) .passed (c .if3 .left)
+passed c m h = c .before .before .before .retag-refusal .ensures .1 m (trees-of h) (located (used-behind-before-else3 c) m h) .passed (c .if3 .left)
 
 read : (c : tie.Else3) → let t = entry-before-else3 c in (m : Memory) → HoldsMarked m (now (t .args .allocs)) (now (t .args .parents)) (now (t .args .protectors)) (now (t .args .codes))
     → HoldsMarked (afterReads m (provenance-before-else3 c .provenance .given .0 .0) (provenance-before-else3 c .provenance .given .0 .1 .0) (t .args .p .addr) (now (t .args .inside))) (now (t .args .allocs)) (now (t .args .parents)) (now (t .args .protectors)) (c .before .before .before .retag-refusal .last .1 .1 .0)
@@ -149,7 +149,7 @@ read c m h =
     let t = entry-before-else3 c in
     let of = provenance-before-else3 c .provenance .given .0 in
     holds-after (readsAt m (of .0) (of .1 .0) (t .args .p .addr) (now (t .args .inside))) m (of .0) (passed c m h .fits .reached .made) h
-    (tested-made (now (t .args .inside)) (c .before .before .before .retag-refusal .ensures .1 m (trees-of h) (located (used-from-before-else3 c) m h)) (c .if3 .left))
+    (tested-made (now (t .args .inside)) (c .before .before .before .retag-refusal .ensures .1 m (trees-of h) (located (used-behind-before-else3 c) m h)) (c .if3 .left))
 
 enum-told : tie.Need-enum-told
 enum-told c = search needs
@@ -191,11 +191,11 @@ parts-at-requires c κs =
     let known = ap (λ (q : Provenance). namesNeverMade (t .pre .0 .0) (provenanceOf q)) (c .before .before .before .before .before .provenance .given .1) ∙ sym (c .before .before .never-made .ensures (t .pre .0 .0) r) ∙ c .before .if2 .left in
     (t .pre .0 .0, (r, points-made (t .args .p) (c .before .before .before .before .before .provenance .given .1) (record { records = r; made = known })))
 
-used-from-requires : tie.Need-used-from-requires
-used-from-requires c κs = let (m, h) = entry-before-parts-at (c .before) .pre .0 in let lies = part (c .before) m h .1 in (m, (trees-of h .records, omega (arith, lies .made), lies .starts))
+used-behind-requires : tie.Need-used-behind-requires
+used-behind-requires c κs = let (m, h) = entry-before-parts-at (c .before) .pre .0 in (m, (trees-of h .records, part (c .before) m h .1 .made))
 
 retag-refusal-requires : tie.Need-retag-refusal-requires
-retag-refusal-requires c κs = let (m, h) = entry-before-used-from (c .before .before .before) .pre .0 in ((m, (trees-of h, located (c .before .before .before) m h)), provenance-before-used-from (c .before .before .before) .provenance .given .1)
+retag-refusal-requires c κs = let (m, h) = entry-before-used-behind (c .before .before .before) .pre .0 in ((m, (trees-of h, located (c .before .before .before) m h)), provenance-before-used-behind (c .before .before .before) .provenance .given .1)
 
 same-length-2 : tie.Need-same-length-2
 same-length-2 c = search needs
@@ -209,7 +209,7 @@ same-length-4 c = search needs
 returns-3 : tie.Need-returns-3
 returns-3 c = λ s frame mask h a.
     let t = entry-before-then3 c in
-    let l = located (used-from-before-then3 c) (s .memory) h in
+    let l = located (used-behind-before-then3 c) (s .memory) h in
     retagged-refused (settingsOf (t .args .settings) mask) frame (t .args .p) (provenance-before-then3 c .provenance .given .1) s _
     (c .before .before .before .retag-refusal .ensures .0 s frame mask (trees-of h) l a) (c .if3 .taken)
     (record {
@@ -220,14 +220,14 @@ returns-3 c = λ s frame mask h a.
     })
 
 add-child-requires : tie.Need-add-child-requires
-add-child-requires c κs = let t = entry-before-else3 (c .before .before .before .before) in let (m, h) = t .pre .0 in ((m, (located (used-from-before-else3 (c .before .before .before .before)) m h, passed (c .before .before .before .before) m h, h .valid, read (c .before .before .before .before) m h)), (provenance-before-else3 (c .before .before .before .before) .provenance .given .1, t .pre .1))
+add-child-requires c κs = let t = entry-before-else3 (c .before .before .before .before) in let (m, h) = t .pre .0 in ((m, (located (used-behind-before-else3 (c .before .before .before .before)) m h, passed (c .before .before .before .before) m h, h .valid, read (c .before .before .before .before) m h)), (provenance-before-else3 (c .before .before .before .before) .provenance .given .1, t .pre .1))
 
-cast-t45 : tie.Need-cast-t45
-cast-t45 c =
+cast-t44 : tie.Need-cast-t44
+cast-t44 c =
     let t = entry-before-slice-known9 c in
     let (m, h) = t .pre .0 in
     let k = passed (else3-before-slice-known9 c) m h in
-    omega (arith, add-child-before-slice-known9 c .add-child .ensures m (t .pre .1 .0) (located (used-from-before-slice-known9 c) m h) k (h .valid) (read (else3-before-slice-known9 c) m h) (t .pre .1 .1) .number, count-small m (h .valid) _ (k .fits .reached .made))
+    omega (arith, add-child-before-slice-known9 c .add-child .ensures m (t .pre .1 .0) (located (used-behind-before-slice-known9 c) m h) k (h .valid) (read (else3-before-slice-known9 c) m h) (t .pre .1 .1) .number, count-small m (h .valid) _ (k .fits .reached .made))
 
 returns-4 : tie.Need-returns-4
 returns-4 c = λ s frame mask h a.
@@ -253,7 +253,7 @@ returns-5 : tie.Need-returns-5
 returns-5 c = λ s frame mask h a.
     let t = entry-before-slice-known9 c in
     let m = s .memory in
-    let l = located (used-from-before-slice-known9 c) m h in
+    let l = located (used-behind-before-slice-known9 c) m h in
     retagged-child (settingsOf (t .args .settings) mask) frame (t .args .p) (provenance-before-slice-known9 c .provenance .given .1) s (sym (retag-refusal-before-slice-known9 c .retag-refusal .ensures .0 s frame mask (trees-of h) l a) ∙ else3-before-slice-known9 c .if3 .left)
     (add-child-before-slice-known9 c .add-child .ensures m mask l (passed (else3-before-slice-known9 c) m h) (h .valid) (read (else3-before-slice-known9 c) m h) (a .inside))
 
@@ -270,14 +270,14 @@ reborrow-inside-spec =
     same-length
     returns-2
     parts-at-requires
-    used-from-requires
+    used-behind-requires
     retag-refusal-requires
     same-length-2
     same-length-3
     same-length-4
     returns-3
     add-child-requires
-    cast-t45
+    cast-t44
     returns-4
     same-length-5
     same-length-6

@@ -8,6 +8,7 @@ use borrow.Rule.Slice.PartMut.{putMid}
 use borrow.Author.Needs.{needs}
 use lib.Seq.{paste}
 use lib.ListN.{length, length-take, length-drop}
+use Rattle.tables.specs.Held.{StartsAt}
 use Rattle.tables.proofs.Grown.{record-room, append-record, row-room, append-row}
 use Rattle.tables.proofs.Lookup.{allocs-length, made-count}
 use Rattle.tables.proofs.append_allocation.Statement.{statement}
@@ -59,17 +60,19 @@ returns : tie.Need-returns
 returns c = λ m k ok e.
     let a = c .before .before .before .before .before .before .before .before .before .before .before .before .before .before .args in
     let n : c .before .before .before .before .before .before .before .before .before .before .made-count .result ≡ length m = c .before .before .before .before .before .before .before .before .before .before .made-count .ensures ∙ made-count (ok .records) in
-    let start = c .before .before .before .before .before .before .before .before .starts-at .result .codes in
+    let starts = c .before .before .before .before .before .before .before .before .starts-at .result in
+    let start = starts .codes in
+    let here : StartsAt m (length m) (starts .words) (starts .nodes) (starts .codes) = rw n at (c .before .before .before .before .before .before .before .before .starts-at .ensures m (ok .records)) in
     record {
       number = n;
       allocs =
           c .before .before .before .before .before .before .put-record .ensures
-          ∙ ap (λ (t : ℕ). paste (now (a .allocs)) (t * 6) (1 ∷ a .kind ∷ a .exponent ∷ a .address ∷ a .size ∷ 1 ∷ []) 6) n
-          ∙ ap (λ (t : ℕ). paste (now (a .allocs)) (length m * 6) (1 ∷ t ∷ a .exponent ∷ a .address ∷ a .size ∷ 1 ∷ []) 6) e
-          ∙ append-record ok k (a .exponent) (a .address);
+          ∙ ap (λ (t : ℕ). paste (now (a .allocs)) (t * 9) (1 ∷ a .kind ∷ a .exponent ∷ a .address ∷ a .size ∷ 1 ∷ starts .words ∷ starts .nodes ∷ starts .codes ∷ []) 9) n
+          ∙ ap (λ (t : ℕ). paste (now (a .allocs)) (length m * 9) (1 ∷ t ∷ a .exponent ∷ a .address ∷ a .size ∷ 1 ∷ starts .words ∷ starts .nodes ∷ starts .codes ∷ []) 9) e
+          ∙ append-record ok here k (a .exponent) (a .address);
       codes =
           ap (λ (l : List ℕ). putMid start (length (now (a .codes)) - start) (now (a .codes)) l) (c .before .before .fill .ensures)
-          ∙ append-row ok (rw n at (c .before .before .before .before .before .before .before .before .starts-at .ensures m (ok .records))) k (a .exponent) (a .address);
+          ∙ append-row ok here k (a .exponent) (a .address);
     }
 
 pub append-allocation-spec : {M : Type 1} → statement M

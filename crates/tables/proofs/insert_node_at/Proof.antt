@@ -1,13 +1,20 @@
--- The new node goes where the next allocation starts: the focus law of each buffer. Only what is used moves (Inserts).
-use mathlib.Core.Path.{_∙_}
+-- The new node goes where the next allocation starts: the focus law of each buffer. Only what is used moves (Inserts), and the later records
+-- say so (Moving).
+use Prim.Native.Nat.{ℕ, _+_, _*_}
+use mathlib.Core.Path.{_≡_, _∙_}
+use mathlib.Core.List.{List}
 use native.Mathlib.Omega.{arith}
 use borrow.Author.Needs.{needs}
 use denote.Ref.{now}
-use lib.ListN.{replicate, length-replicate}
+use lib.ListN.{length, getD, replicate, length-replicate, length-set}
+use Rattle.definition.specs.Notation.{writeAt}
 use Rattle.definition.proofs.Writes.{write-length}
-use Rattle.tables.proofs.Grown.{count-in, count-small, parents-moved, protectors-moved, codes-moved, new-trees}
+use Rattle.tables.proofs.Grown.{count-in, count-small, count-behind, parents-moved, protectors-moved, codes-moved, new-trees}
 use Rattle.tables.proofs.insert_node_at.Statement.{statement}
 use Rattle.tables.proofs.insert_node_at.Tie as tie
+
+write-wide : (from : ℕ) (inside : List ℕ) (width outside : ℕ) → length (writeAt from inside (replicate width outside)) ≡ width
+write-wide from inside width outside = write-length from inside (replicate width outside) ∙ length-replicate width outside
 
 insert-one-in-used-requires : tie.Need-insert-one-in-used-requires
 insert-one-in-used-requires c κs = let s = c .before .before .before .before .before .before in let (ok, at) = s .pre .0 .1 .1 in parents-moved _ ok (at .behind) (at .used)
@@ -23,7 +30,7 @@ insert-made-row-in-used-requires c κs =
     let s = c .before .before .before .before .before .before .before .before .before .before .before .before .before .before .before in
     let (ok, at) = s .pre .0 .1 .1 in
     let k = codes-moved _ ok (at .behind) (at .used) in
-    let long = write-length (s .args .from) (now (s .args .inside)) (replicate (s .args .width) (s .args .outside)) ∙ length-replicate (s .args .width) (s .args .outside) in
+    let long = write-wide (s .args .from) (now (s .args .inside)) (s .args .width) (s .args .outside) in
     (k .0, ((k .1 .0, omega (arith, k .1 .1, long)), s .pre .1))
 
 mul-p : tie.Need-mul-p
@@ -44,8 +51,21 @@ add-allocs c = omega (arith, count-small _ (c .before .before .before .before .b
 slice-write-allocs : tie.Need-slice-write-allocs
 slice-write-allocs c = count-in _ (c .before .before .before .before .before .before .before .before .before .before .before .before .before .before .before .before .before .before .before .pre .0 .1 .1 .0)
 
+add-move-starts : tie.Need-add-move-starts
+add-move-starts c = omega (arith, count-in _ (c .before .before .before .before .before .before .before .before .before .before .before .before .before .before .before .before .before .before .before .before .pre .0 .1 .1 .0))
+
+move-starts-requires : tie.Need-move-starts-requires
+move-starts-requires c κs =
+    let s = c .before .before .before .before .before .before .before .before .before .before .before .before .before .before .before .before .before .before .before .before in
+    let (ok, at) = s .pre .0 .1 .1 in
+    (_, (_, (_, (_, count-behind _ ok (write-wide (s .args .from) (now (s .args .inside)) (s .args .width) (s .args .outside))))))
+
 same-length : tie.Need-same-length
-same-length c = search needs
+same-length c =
+    let s = c .before .before .before .before .before .before .before .before .before .before .before .before .before .before .before .before .before .before .before .before .before .before .before in
+    let A : List ℕ = now (s .args .allocs) in
+    let p : ℕ = s .args .a * 9 + 5 in
+    c .before .before .move-starts .kept .0 ∙ length-set A p (getD A p 0 + 1)
 
 same-length-2 : tie.Need-same-length-2
 same-length-2 c = search needs
@@ -58,8 +78,10 @@ same-length-4 c = search needs
 
 returns : tie.Need-returns
 returns c = λ m x ok at.
-    rw (c .before .before .before .before .before .before .before .before .before .before .before .before .insert-one-in-used .ensures, c .before .before .before .before .before .before .before .insert-row-in-used .ensures, c .before .before .before .insert-made-row-in-used .ensures)
-    (new-trees _ ok (at .behind))
+    let s = c .before .before .before .before .before .before .before .before .before .before .before .before .before .before .before .before .before .before .before .before .before .before .before in
+    let wide = write-wide (s .args .from) (now (s .args .inside)) (s .args .width) (s .args .outside) in
+    rw (c .before .before .before .before .before .before .before .before .before .before .before .before .before .before .before .before .insert-one-in-used .ensures, c .before .before .before .before .before .before .before .before .before .before .before .insert-row-in-used .ensures, c .before .before .before .before .before .before .before .insert-made-row-in-used .ensures)
+    (new-trees _ ok (at .behind) wide (c .before .before .move-starts .ensures _ _ _ _ (count-behind _ ok wide)))
 
 pub insert-node-at-spec : {M : Type 1} → statement M
 insert-node-at-spec =
@@ -75,6 +97,8 @@ insert-node-at-spec =
     slice-read-allocs
     add-allocs
     slice-write-allocs
+    add-move-starts
+    move-starts-requires
     same-length
     same-length-2
     same-length-3

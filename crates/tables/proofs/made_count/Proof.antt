@@ -10,7 +10,7 @@ use Rattle.tables.proofs.made_count.Statement.{statement}
 use Rattle.tables.proofs.made_count.Tie as tie
 
 abbrev Inv-loop : tie.InvT-loop
-Inv-loop allocs i₀ i = (i ≤ 128) × (i + madeIn (128 - i) (drop (i * 6) allocs) ≡ madeIn 128 allocs)
+Inv-loop allocs i₀ i = (i ≤ 128) × (i + madeIn (128 - i) (drop (i * 9) allocs) ≡ madeIn 128 allocs)
 
 abbrev μ-loop : tie.MeasureT-loop
 μ-loop allocs i₀ i = 128 - i

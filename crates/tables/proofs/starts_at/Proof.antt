@@ -1,115 +1,46 @@
--- At i the sums are where the parts of allocation i start, in every memory with these records.
-use Prim.Native.Nat.{_≤_, _-_}
+-- What is read of the record before says where its parts end (Lookup).
+use Prim.Native.Nat.{_+_, _-_, _<_}
 use mathlib.Core.Path.{_≡_}
 use native.Mathlib.Omega.{arith}
+use lib.ListN.{length}
+use Rattle.tables.proofs.Lookup.{record-in, same-count, starts-none, read-next, read-words, read-nodes, read-codes}
 use borrow.Author.Needs.{needs}
-use Rattle.definition.specs.Memory.{Memory}
-use Rattle.tables.proofs.Lookup.{allocs-length, same-count, starts-none, starts-more, words-within, nodes-within, codes-within}
-use Rattle.tables.specs.Held.{Records, StartsAt}
 use Rattle.tables.proofs.starts_at.Statement.{statement}
 use Rattle.tables.proofs.starts_at.Tie as tie
 
-abbrev Inv-loop : tie.InvT-loop
-Inv-loop allocs a words₀ nodes₀ codes₀ i₀ words nodes codes i = (i ≤ a) × ((m : Memory) → Records m allocs → StartsAt m i words nodes codes)
+returns : tie.Need-returns
+returns c = λ m h. let e : c .before .before .args .a ≡ 0 = c .if1 .taken in rw e (starts-none m)
 
-abbrev μ-loop : tie.MeasureT-loop
-μ-loop allocs a words₀ nodes₀ codes₀ i₀ words nodes codes i = a - i
+sub-allocation-at : tie.Need-sub-allocation-at
+sub-allocation-at c = search needs
 
-loop-holds : tie.Need-loop-holds Inv-loop μ-loop
-loop-holds c = (omega arith, λ m h. starts-none m)
+allocation-at-requires : tie.Need-allocation-at-requires
+allocation-at-requires c κs = let s = c .before .before in record-in (s .pre .1 .0) (s .args .a - 1) (omega (arith, s .pre .1 .1))
 
-mul-size : tie.Need-mul-size Inv-loop μ-loop
-mul-size c =
-    let s = c .before .before in
-    omega (arith, allocs-length (s .pre .1 .0), s .pre .1 .0 .valid .bounded .allocations)
+add-t8 : tie.Need-add-t8
+add-t8 c = let s = c .before .before .before .before .before in let made : s .args .a - 1 < length (s .pre .0) = omega (arith, s .pre .1 .1, c .before .before .before .if1 .left) in omega (arith, read-words (s .pre .1 .0) made (c .before .before .allocation-at .ensures))
 
-add-size : tie.Need-add-size Inv-loop μ-loop
-add-size c =
-    let s = c .before .before in
-    omega (arith, allocs-length (s .pre .1 .0), s .pre .1 .0 .valid .bounded .allocations)
+add-t9 : tie.Need-add-t9
+add-t9 c = let s = c .before .before .before .before .before .before in let made : s .args .a - 1 < length (s .pre .0) = omega (arith, s .pre .1 .1, c .before .before .before .before .if1 .left) in omega (arith, read-nodes (s .pre .1 .0) made (c .before .before .before .allocation-at .ensures))
 
-mul-size-2 : tie.Need-mul-size-2 Inv-loop μ-loop
-mul-size-2 c =
-    let s = c .before .before in
-    omega (arith, allocs-length (s .pre .1 .0), s .pre .1 .0 .valid .bounded .allocations)
+mul-t10 : tie.Need-mul-t10
+mul-t10 c = let s = c .before .before .before .before .before .before in let made : s .args .a - 1 < length (s .pre .0) = omega (arith, s .pre .1 .1, c .before .before .before .before .if1 .left) in omega (arith, read-codes (s .pre .1 .0) made (c .before .before .before .allocation-at .ensures))
 
-shared-slice-read-size : tie.Need-shared-slice-read-size Inv-loop μ-loop
-shared-slice-read-size c =
-    let s = c .before .before .before in
-    omega (arith, allocs-length (s .pre .1 .0), s .pre .1 .0 .valid .bounded .allocations)
+add-t11 : tie.Need-add-t11
+add-t11 c = let s = c .before .before .before .before .before .before .before in let made : s .args .a - 1 < length (s .pre .0) = omega (arith, s .pre .1 .1, c .before .before .before .before .before .if1 .left) in omega (arith, read-codes (s .pre .1 .0) made (c .before .before .before .before .allocation-at .ensures))
 
-mul-count : tie.Need-mul-count Inv-loop μ-loop
-mul-count c =
-    let s = c .before .before .before in
-    omega (arith, allocs-length (s .pre .1 .0), s .pre .1 .0 .valid .bounded .allocations)
-
-add-count : tie.Need-add-count Inv-loop μ-loop
-add-count c =
-    let s = c .before .before .before in
-    omega (arith, allocs-length (s .pre .1 .0), s .pre .1 .0 .valid .bounded .allocations)
-
-mul-count-2 : tie.Need-mul-count-2 Inv-loop μ-loop
-mul-count-2 c =
-    let s = c .before .before .before in
-    omega (arith, allocs-length (s .pre .1 .0), s .pre .1 .0 .valid .bounded .allocations)
-
-shared-slice-read-count : tie.Need-shared-slice-read-count Inv-loop μ-loop
-shared-slice-read-count c =
-    let s = c .before .before .before .before in
-    omega (arith, allocs-length (s .pre .1 .0), s .pre .1 .0 .valid .bounded .allocations)
-
-add-words : tie.Need-add-words Inv-loop μ-loop
-add-words c =
-    let s = c .before .before .before .before in
-    omega (arith, words-within (s .pre .1 .0) (omega arith) (c .before .before .before .loop .inv .1 (s .pre .0) (s .pre .1 .0)))
-
-add-nodes : tie.Need-add-nodes Inv-loop μ-loop
-add-nodes c =
-    let s = c .before .before .before .before in
-    omega (arith, nodes-within (s .pre .1 .0) (omega arith) (c .before .before .before .loop .inv .1 (s .pre .0) (s .pre .1 .0)))
-
-mul-codes : tie.Need-mul-codes Inv-loop μ-loop
-mul-codes c =
-    let s = c .before .before .before .before in
-    omega (arith, codes-within (s .pre .1 .0) (omega arith) (c .before .before .before .loop .inv .1 (s .pre .0) (s .pre .1 .0)))
-
-add-codes : tie.Need-add-codes Inv-loop μ-loop
-add-codes c =
-    let s = c .before .before .before .before in
-    omega (arith, codes-within (s .pre .1 .0) (omega arith) (c .before .before .before .loop .inv .1 (s .pre .0) (s .pre .1 .0)))
-
-add-i : tie.Need-add-i Inv-loop μ-loop
-add-i c = search needs
-
-loop-less : tie.Need-loop-less Inv-loop μ-loop
-loop-less c = search needs
-
-loop-again : tie.Need-loop-again Inv-loop μ-loop
-loop-again c = (omega arith, λ m h. starts-more h (omega (arith, same-count h (c .before .before .before .before .pre .1 .0))) (c .before .before .before .loop .inv .1 m h))
-
-returns : tie.Need-returns Inv-loop μ-loop
-returns c = λ m h. let e : c .before .loop .i ≡ c .before .before .args .a = omega arith in rw e at (c .before .loop .inv .1 m h)
+returns-2 : tie.Need-returns-2
+returns-2 c = λ m h. let s = c .before .before .before .before .before .before .before in let made : s .args .a - 1 < length m = omega (arith, s .pre .1 .1, same-count h (s .pre .1 .0), c .before .before .before .before .before .if1 .left) in let e : s .args .a - 1 + 1 ≡ s .args .a = omega (arith, c .before .before .before .before .before .if1 .left) in rw e at (read-next h made (c .before .before .before .before .allocation-at .ensures))
 
 pub starts-at-spec : {M : Type 1} → statement M
 starts-at-spec =
     tie.close
     (tie.spec
-    Inv-loop
-    μ-loop
-    loop-holds
-    mul-size
-    add-size
-    mul-size-2
-    shared-slice-read-size
-    mul-count
-    add-count
-    mul-count-2
-    shared-slice-read-count
-    add-words
-    add-nodes
-    mul-codes
-    add-codes
-    add-i
-    loop-less
-    loop-again
-    returns)
+    returns
+    sub-allocation-at
+    allocation-at-requires
+    add-t8
+    add-t9
+    mul-t10
+    add-t11
+    returns-2)

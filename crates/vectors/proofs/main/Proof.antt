@@ -36,7 +36,7 @@ slice-aggregate-replay-input-9 c = search needs
 
 replay-input-requires : tie.Need-replay-input-requires
 replay-input-requires c κs = (
-  have-lengths (replicate 768 0) (replicate 1024 0) (replicate 1024 0) (replicate 4096 0) (replicate 32768 0) (replicate 2080 0) (length-replicate {A = ℕ} 768 0) (length-replicate {A = ℕ} 1024 0) (length-replicate {A = ℕ} 1024 0) (length-replicate {A = ℕ} 4096 0) (length-replicate {A = ℕ} 32768 0) (length-replicate {A = ℕ} 2080 0),
+  have-lengths (replicate 1152 0) (replicate 1024 0) (replicate 1024 0) (replicate 4096 0) (replicate 32768 0) (replicate 2080 0) (length-replicate {A = ℕ} 1152 0) (length-replicate {A = ℕ} 1024 0) (length-replicate {A = ℕ} 1024 0) (length-replicate {A = ℕ} 4096 0) (length-replicate {A = ℕ} 32768 0) (length-replicate {A = ℕ} 2080 0),
   length-replicate {A = ℕ} 4100 0,
 )
 

@@ -12,7 +12,7 @@ use Rattle.wellformed.proofs.any_clash.Statement.{statement}
 use Rattle.wellformed.proofs.any_clash.Tie as tie
 
 abbrev Inv-loop : tie.InvT-loop
-Inv-loop allocs count i₀ i = (i ≤ count) × (anyClash (count - i) (drop (i * 6) allocs) ≡ anyClash count allocs)
+Inv-loop allocs count i₀ i = (i ≤ count) × (anyClash (count - i) (drop (i * 9) allocs) ≡ anyClash count allocs)
 
 abbrev μ-loop : tie.MeasureT-loop
 μ-loop allocs count i₀ i = count - i

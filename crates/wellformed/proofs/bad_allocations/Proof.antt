@@ -10,7 +10,7 @@ use Rattle.wellformed.proofs.bad_allocations.Statement.{statement}
 use Rattle.wellformed.proofs.bad_allocations.Tie as tie
 
 abbrev Inv-loop : tie.InvT-loop
-Inv-loop allocs parents protectors words codes count i₀ node₀ word₀ code₀ i node word code = (i ≤ count) × (node ≤ length parents) × (node ≤ length protectors) × (word ≤ length words) × (code ≤ length codes) × (badAllocations (count - i) (drop (i * 6) allocs) (drop node parents) (drop node protectors) (drop word words) (drop code codes) ≡ badAllocations count allocs parents protectors words codes)
+Inv-loop allocs parents protectors words codes count i₀ node₀ word₀ code₀ i node word code = (i ≤ count) × (node ≤ length parents) × (node ≤ length protectors) × (word ≤ length words) × (code ≤ length codes) × (badAllocations (count - i) word node code (drop (i * 9) allocs) (drop node parents) (drop node protectors) (drop word words) (drop code codes) ≡ badAllocations count 0 0 0 allocs parents protectors words codes)
 
 abbrev μ-loop : tie.MeasureT-loop
 μ-loop allocs parents protectors words codes count i₀ node₀ word₀ code₀ i node word code = count - i
@@ -22,68 +22,68 @@ loop-holds c = let a = c .before .before .before .before .before .args in (
   omega arith,
   omega arith,
   omega arith,
-  ap (λ (k : ℕ). badAllocations k (a .allocs .now) (a .parents .now) (a .protectors .now) (a .words .now) (a .codes .now)) (sub-zero (a .count)),
+  ap (λ (k : ℕ). badAllocations k 0 0 0 (a .allocs .now) (a .parents .now) (a .protectors .now) (a .words .now) (a .codes .now)) (sub-zero (a .count)),
 )
 
 mul-p : tie.Need-mul-p Inv-loop μ-loop
 mul-p c = omega arith
 
-mul-bad-allocation : tie.Need-mul-bad-allocation Inv-loop μ-loop
-mul-bad-allocation c = omega arith
+mul-bad-allocation-at : tie.Need-mul-bad-allocation-at Inv-loop μ-loop
+mul-bad-allocation-at c = omega arith
 
-sub-bad-allocation : tie.Need-sub-bad-allocation Inv-loop μ-loop
-sub-bad-allocation c = omega arith
+sub-bad-allocation-at : tie.Need-sub-bad-allocation-at Inv-loop μ-loop
+sub-bad-allocation-at c = omega arith
 
-part-bad-allocation-start : tie.Need-part-bad-allocation-start Inv-loop μ-loop
-part-bad-allocation-start c = omega arith
+part-bad-allocation-at-start : tie.Need-part-bad-allocation-at-start Inv-loop μ-loop
+part-bad-allocation-at-start c = omega arith
 
-part-bad-allocation-end : tie.Need-part-bad-allocation-end Inv-loop μ-loop
-part-bad-allocation-end c = omega arith
+part-bad-allocation-at-end : tie.Need-part-bad-allocation-at-end Inv-loop μ-loop
+part-bad-allocation-at-end c = omega arith
 
-mul-bad-allocation-2 : tie.Need-mul-bad-allocation-2 Inv-loop μ-loop
-mul-bad-allocation-2 c = omega arith
+mul-bad-allocation-at-2 : tie.Need-mul-bad-allocation-at-2 Inv-loop μ-loop
+mul-bad-allocation-at-2 c = omega arith
 
-sub-bad-allocation-2 : tie.Need-sub-bad-allocation-2 Inv-loop μ-loop
-sub-bad-allocation-2 c = omega arith
+sub-bad-allocation-at-2 : tie.Need-sub-bad-allocation-at-2 Inv-loop μ-loop
+sub-bad-allocation-at-2 c = omega arith
 
-part-bad-allocation-start-2 : tie.Need-part-bad-allocation-start-2 Inv-loop μ-loop
-part-bad-allocation-start-2 c = omega arith
+part-bad-allocation-at-start-2 : tie.Need-part-bad-allocation-at-start-2 Inv-loop μ-loop
+part-bad-allocation-at-start-2 c = omega arith
 
-part-bad-allocation-end-2 : tie.Need-part-bad-allocation-end-2 Inv-loop μ-loop
-part-bad-allocation-end-2 c = omega arith
+part-bad-allocation-at-end-2 : tie.Need-part-bad-allocation-at-end-2 Inv-loop μ-loop
+part-bad-allocation-at-end-2 c = omega arith
 
-sub-bad-allocation-3 : tie.Need-sub-bad-allocation-3 Inv-loop μ-loop
-sub-bad-allocation-3 c = omega arith
+sub-bad-allocation-at-3 : tie.Need-sub-bad-allocation-at-3 Inv-loop μ-loop
+sub-bad-allocation-at-3 c = omega arith
 
-part-bad-allocation-start-3 : tie.Need-part-bad-allocation-start-3 Inv-loop μ-loop
-part-bad-allocation-start-3 c = omega arith
+part-bad-allocation-at-start-3 : tie.Need-part-bad-allocation-at-start-3 Inv-loop μ-loop
+part-bad-allocation-at-start-3 c = omega arith
 
-part-bad-allocation-end-3 : tie.Need-part-bad-allocation-end-3 Inv-loop μ-loop
-part-bad-allocation-end-3 c = omega arith
+part-bad-allocation-at-end-3 : tie.Need-part-bad-allocation-at-end-3 Inv-loop μ-loop
+part-bad-allocation-at-end-3 c = omega arith
 
-mul-bad-allocation-3 : tie.Need-mul-bad-allocation-3 Inv-loop μ-loop
-mul-bad-allocation-3 c = omega arith
+mul-bad-allocation-at-3 : tie.Need-mul-bad-allocation-at-3 Inv-loop μ-loop
+mul-bad-allocation-at-3 c = omega arith
 
-sub-bad-allocation-4 : tie.Need-sub-bad-allocation-4 Inv-loop μ-loop
-sub-bad-allocation-4 c = omega arith
+sub-bad-allocation-at-4 : tie.Need-sub-bad-allocation-at-4 Inv-loop μ-loop
+sub-bad-allocation-at-4 c = omega arith
 
-part-bad-allocation-start-4 : tie.Need-part-bad-allocation-start-4 Inv-loop μ-loop
-part-bad-allocation-start-4 c = omega arith
+part-bad-allocation-at-start-4 : tie.Need-part-bad-allocation-at-start-4 Inv-loop μ-loop
+part-bad-allocation-at-start-4 c = omega arith
 
-part-bad-allocation-end-4 : tie.Need-part-bad-allocation-end-4 Inv-loop μ-loop
-part-bad-allocation-end-4 c = omega arith
+part-bad-allocation-at-end-4 : tie.Need-part-bad-allocation-at-end-4 Inv-loop μ-loop
+part-bad-allocation-at-end-4 c = omega arith
 
-sub-bad-allocation-5 : tie.Need-sub-bad-allocation-5 Inv-loop μ-loop
-sub-bad-allocation-5 c = omega arith
+sub-bad-allocation-at-5 : tie.Need-sub-bad-allocation-at-5 Inv-loop μ-loop
+sub-bad-allocation-at-5 c = omega arith
 
-part-bad-allocation-start-5 : tie.Need-part-bad-allocation-start-5 Inv-loop μ-loop
-part-bad-allocation-start-5 c = omega arith
+part-bad-allocation-at-start-5 : tie.Need-part-bad-allocation-at-start-5 Inv-loop μ-loop
+part-bad-allocation-at-start-5 c = omega arith
 
-part-bad-allocation-end-5 : tie.Need-part-bad-allocation-end-5 Inv-loop μ-loop
-part-bad-allocation-end-5 c = omega arith
+part-bad-allocation-at-end-5 : tie.Need-part-bad-allocation-at-end-5 Inv-loop μ-loop
+part-bad-allocation-at-end-5 c = omega arith
 
-bad-allocation-requires : tie.Need-bad-allocation-requires Inv-loop μ-loop
-bad-allocation-requires c κs =
+bad-allocation-at-requires : tie.Need-bad-allocation-at-requires Inv-loop μ-loop
+bad-allocation-at-requires c κs =
     let s = c .before .before .before .before .before .before .before .before .before .before .before .before in
     let at = c .before .before .before .before .before .before in
     walk-front (s .args .allocs .now) (s .args .parents .now) (s .args .protectors .now) (s .args .words .now) (s .args .codes .now) (at .loop .i) (at .loop .node) (at .loop .word) (at .loop .code) (omega (arith, s .pre .0)) (s .pre .1 .0) (s .pre .1 .1)
@@ -92,7 +92,7 @@ returns : tie.Need-returns Inv-loop μ-loop
 returns c =
     let s = c .before .before .before .before .before .before .before .before .before .before .before .before .before .before in
     let at = c .before .before .before .before .before .before .before .before in
-    sym (walk-bad (s .args .allocs .now) (s .args .parents .now) (s .args .protectors .now) (s .args .words .now) (s .args .codes .now) (at .loop .i) (at .loop .node) (at .loop .word) (at .loop .code) (s .args .count) _ (c .before .bad-allocation .ensures) (omega arith) (c .if1 .taken)) ∙ at .loop .inv .5
+    sym (walk-bad (s .args .allocs .now) (s .args .parents .now) (s .args .protectors .now) (s .args .words .now) (s .args .codes .now) (at .loop .i) (at .loop .node) (at .loop .word) (at .loop .code) (s .args .count) _ (c .before .bad-allocation-at .ensures) (omega arith) (c .if1 .taken)) ∙ at .loop .inv .5
 
 add-size : tie.Need-add-size Inv-loop μ-loop
 add-size c = omega arith
@@ -116,25 +116,25 @@ add-node : tie.Need-add-node Inv-loop μ-loop
 add-node c =
     let s = c .before .before .before .before .before .before .before .before .before .before .before .before .before .before .before .before in
     let at = c .before .before .before .before .before .before .before .before .before .before in
-    omega (arith, walk-parents (s .args .allocs .now) (s .args .parents .now) (s .args .protectors .now) (s .args .words .now) (s .args .codes .now) (at .loop .i) (at .loop .node) (at .loop .word) (at .loop .code) (s .args .count) _ (c .before .before .before .bad-allocation .ensures) (c .before .before .if1 .left) (at .loop .inv .1))
+    omega (arith, walk-parents (s .args .allocs .now) (s .args .parents .now) (s .args .protectors .now) (s .args .words .now) (s .args .codes .now) (at .loop .i) (at .loop .node) (at .loop .word) (at .loop .code) (s .args .count) _ (c .before .before .before .bad-allocation-at .ensures) (c .before .before .if1 .left) (at .loop .inv .1))
 
 add-word : tie.Need-add-word Inv-loop μ-loop
 add-word c =
     let s = c .before .before .before .before .before .before .before .before .before .before .before .before .before .before .before .before in
     let at = c .before .before .before .before .before .before .before .before .before .before in
-    omega (arith, walk-words (s .args .allocs .now) (s .args .parents .now) (s .args .protectors .now) (s .args .words .now) (s .args .codes .now) (at .loop .i) (at .loop .node) (at .loop .word) (at .loop .code) (s .args .count) _ (c .before .before .before .bad-allocation .ensures) (c .before .before .if1 .left) (at .loop .inv .3))
+    omega (arith, walk-words (s .args .allocs .now) (s .args .parents .now) (s .args .protectors .now) (s .args .words .now) (s .args .codes .now) (at .loop .i) (at .loop .node) (at .loop .word) (at .loop .code) (s .args .count) _ (c .before .before .before .bad-allocation-at .ensures) (c .before .before .if1 .left) (at .loop .inv .3))
 
 mul-code : tie.Need-mul-code Inv-loop μ-loop
 mul-code c =
     let s = c .before .before .before .before .before .before .before .before .before .before .before .before .before .before .before .before in
     let at = c .before .before .before .before .before .before .before .before .before .before in
-    omega (arith, walk-codes (s .args .allocs .now) (s .args .parents .now) (s .args .protectors .now) (s .args .words .now) (s .args .codes .now) (at .loop .i) (at .loop .node) (at .loop .word) (at .loop .code) (s .args .count) _ (c .before .before .before .bad-allocation .ensures) (c .before .before .if1 .left) (at .loop .inv .4))
+    omega (arith, walk-codes (s .args .allocs .now) (s .args .parents .now) (s .args .protectors .now) (s .args .words .now) (s .args .codes .now) (at .loop .i) (at .loop .node) (at .loop .word) (at .loop .code) (s .args .count) _ (c .before .before .before .bad-allocation-at .ensures) (c .before .before .if1 .left) (at .loop .inv .4))
 
 add-code : tie.Need-add-code Inv-loop μ-loop
 add-code c =
     let s = c .before .before .before .before .before .before .before .before .before .before .before .before .before .before .before .before in
     let at = c .before .before .before .before .before .before .before .before .before .before in
-    omega (arith, walk-codes (s .args .allocs .now) (s .args .parents .now) (s .args .protectors .now) (s .args .words .now) (s .args .codes .now) (at .loop .i) (at .loop .node) (at .loop .word) (at .loop .code) (s .args .count) _ (c .before .before .before .bad-allocation .ensures) (c .before .before .if1 .left) (at .loop .inv .4))
+    omega (arith, walk-codes (s .args .allocs .now) (s .args .parents .now) (s .args .protectors .now) (s .args .words .now) (s .args .codes .now) (at .loop .i) (at .loop .node) (at .loop .word) (at .loop .code) (s .args .count) _ (c .before .before .before .bad-allocation-at .ensures) (c .before .before .if1 .left) (at .loop .inv .4))
 
 add-i : tie.Need-add-i Inv-loop μ-loop
 add-i c = omega arith
@@ -147,11 +147,11 @@ loop-again c =
     let s = c .before .before .before .before .before .before .before .before .before .before .before .before .before .before .before .before in
     let at = c .before .before .before .before .before .before .before .before .before .before in (
       omega arith,
-      walk-parents (s .args .allocs .now) (s .args .parents .now) (s .args .protectors .now) (s .args .words .now) (s .args .codes .now) (at .loop .i) (at .loop .node) (at .loop .word) (at .loop .code) (s .args .count) _ (c .before .before .before .bad-allocation .ensures) (c .before .before .if1 .left) (at .loop .inv .1),
-      walk-protectors (s .args .allocs .now) (s .args .parents .now) (s .args .protectors .now) (s .args .words .now) (s .args .codes .now) (at .loop .i) (at .loop .node) (at .loop .word) (at .loop .code) (s .args .count) _ (c .before .before .before .bad-allocation .ensures) (c .before .before .if1 .left) (at .loop .inv .2),
-      walk-words (s .args .allocs .now) (s .args .parents .now) (s .args .protectors .now) (s .args .words .now) (s .args .codes .now) (at .loop .i) (at .loop .node) (at .loop .word) (at .loop .code) (s .args .count) _ (c .before .before .before .bad-allocation .ensures) (c .before .before .if1 .left) (at .loop .inv .3),
-      walk-codes (s .args .allocs .now) (s .args .parents .now) (s .args .protectors .now) (s .args .words .now) (s .args .codes .now) (at .loop .i) (at .loop .node) (at .loop .word) (at .loop .code) (s .args .count) _ (c .before .before .before .bad-allocation .ensures) (c .before .before .if1 .left) (at .loop .inv .4),
-      walk-on (s .args .allocs .now) (s .args .parents .now) (s .args .protectors .now) (s .args .words .now) (s .args .codes .now) (at .loop .i) (at .loop .node) (at .loop .word) (at .loop .code) (s .args .count) _ (c .before .before .before .bad-allocation .ensures) (omega arith) (c .before .before .if1 .left) ∙ at .loop .inv .5,
+      walk-parents (s .args .allocs .now) (s .args .parents .now) (s .args .protectors .now) (s .args .words .now) (s .args .codes .now) (at .loop .i) (at .loop .node) (at .loop .word) (at .loop .code) (s .args .count) _ (c .before .before .before .bad-allocation-at .ensures) (c .before .before .if1 .left) (at .loop .inv .1),
+      walk-protectors (s .args .allocs .now) (s .args .parents .now) (s .args .protectors .now) (s .args .words .now) (s .args .codes .now) (at .loop .i) (at .loop .node) (at .loop .word) (at .loop .code) (s .args .count) _ (c .before .before .before .bad-allocation-at .ensures) (c .before .before .if1 .left) (at .loop .inv .2),
+      walk-words (s .args .allocs .now) (s .args .parents .now) (s .args .protectors .now) (s .args .words .now) (s .args .codes .now) (at .loop .i) (at .loop .node) (at .loop .word) (at .loop .code) (s .args .count) _ (c .before .before .before .bad-allocation-at .ensures) (c .before .before .if1 .left) (at .loop .inv .3),
+      walk-codes (s .args .allocs .now) (s .args .parents .now) (s .args .protectors .now) (s .args .words .now) (s .args .codes .now) (at .loop .i) (at .loop .node) (at .loop .word) (at .loop .code) (s .args .count) _ (c .before .before .before .bad-allocation-at .ensures) (c .before .before .if1 .left) (at .loop .inv .4),
+      walk-on (s .args .allocs .now) (s .args .parents .now) (s .args .protectors .now) (s .args .words .now) (s .args .codes .now) (at .loop .i) (at .loop .node) (at .loop .word) (at .loop .code) (s .args .count) _ (c .before .before .before .bad-allocation-at .ensures) (omega arith) (c .before .before .if1 .left) ∙ at .loop .inv .5,
     )
 
 mul-p-2 : tie.Need-mul-p-2 Inv-loop μ-loop
@@ -228,25 +228,25 @@ bad-allocations-spec =
     μ-loop
     loop-holds
     mul-p
-    mul-bad-allocation
-    sub-bad-allocation
-    part-bad-allocation-start
-    part-bad-allocation-end
-    mul-bad-allocation-2
-    sub-bad-allocation-2
-    part-bad-allocation-start-2
-    part-bad-allocation-end-2
-    sub-bad-allocation-3
-    part-bad-allocation-start-3
-    part-bad-allocation-end-3
-    mul-bad-allocation-3
-    sub-bad-allocation-4
-    part-bad-allocation-start-4
-    part-bad-allocation-end-4
-    sub-bad-allocation-5
-    part-bad-allocation-start-5
-    part-bad-allocation-end-5
-    bad-allocation-requires
+    mul-bad-allocation-at
+    sub-bad-allocation-at
+    part-bad-allocation-at-start
+    part-bad-allocation-at-end
+    mul-bad-allocation-at-2
+    sub-bad-allocation-at-2
+    part-bad-allocation-at-start-2
+    part-bad-allocation-at-end-2
+    sub-bad-allocation-at-3
+    part-bad-allocation-at-start-3
+    part-bad-allocation-at-end-3
+    mul-bad-allocation-at-3
+    sub-bad-allocation-at-4
+    part-bad-allocation-at-start-4
+    part-bad-allocation-at-end-4
+    sub-bad-allocation-at-5
+    part-bad-allocation-at-start-5
+    part-bad-allocation-at-end-5
+    bad-allocation-at-requires
     returns
     add-size
     mul-size

@@ -11,7 +11,7 @@ use Rattle.wellformed.proofs.clashes_later.Statement.{statement}
 use Rattle.wellformed.proofs.clashes_later.Tie as tie
 
 abbrev Inv-loop : tie.InvT-loop
-Inv-loop allocs i count p address size j₀ j = clashesLater (count - j) address size (drop (j * 6) allocs) ≡ clashesLater (count - j₀) address size (drop (j₀ * 6) allocs)
+Inv-loop allocs i count p address size j₀ j = clashesLater (count - j) address size (drop (j * 9) allocs) ≡ clashesLater (count - j₀) address size (drop (j₀ * 9) allocs)
 
 abbrev μ-loop : tie.MeasureT-loop
 μ-loop allocs i count p address size j₀ j = count - j
@@ -63,8 +63,8 @@ returns-2 c =
     let A = s .args .allocs .now in
     let i = s .args .i in
     let count = s .args .count in
-    let address = getD A (i * 6 + 3) 0 in
-    let size = getD A (i * 6 + 4) 0 in
+    let address = getD A (i * 9 + 3) 0 in
+    let size = getD A (i * 9 + 4) 0 in
     let j = c .before .before .before .loop .j in
     sym (later-turn count j address size A (omega arith) ∙ or-taken _ _ (sym (c .before .clashes-at .ensures) ∙ c .if2 .taken))
     ∙ c .before .before .before .loop .inv
@@ -82,8 +82,8 @@ loop-again c =
     let A = s .args .allocs .now in
     let i = s .args .i in
     let count = s .args .count in
-    let address = getD A (i * 6 + 3) 0 in
-    let size = getD A (i * 6 + 4) 0 in
+    let address = getD A (i * 9 + 3) 0 in
+    let size = getD A (i * 9 + 4) 0 in
     let j = c .before .before .before .loop .j in
     sym (later-turn count j address size A (omega arith) ∙ or-skip _ _ (sym (c .before .clashes-at .ensures) ∙ c .if2 .left)) ∙ c .before .before .before .loop .inv
 
@@ -93,8 +93,8 @@ returns-3 c =
     let A = s .args .allocs .now in
     let i = s .args .i in
     let count = s .args .count in
-    let address = getD A (i * 6 + 3) 0 in
-    let size = getD A (i * 6 + 4) 0 in
+    let address = getD A (i * 9 + 3) 0 in
+    let size = getD A (i * 9 + 4) 0 in
     sym (later-end count (c .before .loop .j) address size _ (omega arith)) ∙ c .before .loop .inv ∙ sym (first-live (count - (i + 1)) i A (c .before .before .before .before .if1 .left))
 
 pub clashes-later-spec : {M : Type 1} → statement M

@@ -31,16 +31,6 @@ allocation-at-requires c κs =
     let r = reached-through (c .before .before .before .before .before .args .p) through z k in
     record-in h _ (r .made)
 
-starts-at-requires : tie.Need-starts-at-requires
-starts-at-requires c κs =
-    let m = c .before .before .before .before .before .before .pre .0 in
-    let h = c .before .before .before .before .before .before .pre .1 .0 in
-    let through = c .before .before .before .provenance .given .1 in
-    let z = c .before .if1 .left in
-    let k = c .before .before .before .before .before .before .pre .1 .1 in
-    let r = reached-through (c .before .before .before .before .before .before .args .p) through z k in
-    (m, (h, omega (arith, r .made)))
-
 sub-result : tie.Need-sub-result
 sub-result c =
     let m = c .before .before .before .before .before .before .before .pre .0 in
@@ -53,19 +43,19 @@ sub-result c =
 
 add-result : tie.Need-add-result
 add-result c =
-    let m = c .before .before .before .before .before .before .before .pre .0 in
-    let h = c .before .before .before .before .before .before .before .pre .1 .0 in
-    let through = c .before .before .before .before .provenance .given .1 in
-    let z = c .before .before .if1 .left in
-    let k = c .before .before .before .before .before .before .before .pre .1 .1 in
-    let r = reached-through (c .before .before .before .before .before .before .before .args .p) through z k in
-    omega (arith, start-through (c .before .before .before .before .before .before .before .args .p) through z h k (c .before .allocation-at .ensures) (c .starts-at .ensures m h), words-in (h .valid) k)
+    let m = c .before .before .before .before .before .before .before .before .pre .0 in
+    let h = c .before .before .before .before .before .before .before .before .pre .1 .0 in
+    let through = c .before .before .before .before .before .provenance .given .1 in
+    let z = c .before .before .before .if1 .left in
+    let k = c .before .before .before .before .before .before .before .before .pre .1 .1 in
+    let r = reached-through (c .before .before .before .before .before .before .before .before .args .p) through z k in
+    omega (arith, start-through (c .before .before .before .before .before .before .before .before .args .p) through z h k (c .before .before .allocation-at .ensures), words-in (h .valid) k)
 
 returns-2 : tie.Need-returns-2
 returns-2 c = λ m h k. sym (start-none _ _ m (none-empty k (ap provenanceOf (c .enum-told .given .1))))
 
 returns-3 : tie.Need-returns-3
-returns-3 c = λ m h k. start-through (c .before .before .before .before .before .before .before .args .p) (c .before .before .before .before .provenance .given .1) (c .before .before .if1 .left) h k (c .before .allocation-at .ensures) (c .starts-at .ensures m h)
+returns-3 c = λ m h k. start-through (c .before .before .before .before .before .before .before .before .args .p) (c .before .before .before .before .before .provenance .given .1) (c .before .before .before .if1 .left) h k (c .before .before .allocation-at .ensures)
 
 pub words-start-spec : {M : Type 1} → statement M
 words-start-spec =
@@ -76,7 +66,6 @@ words-start-spec =
     returns
     cast-n
     allocation-at-requires
-    starts-at-requires
     sub-result
     add-result
     returns-2

@@ -9,7 +9,7 @@ use Rattle.definition.specs.Output.{allocationLines}
 use Rattle.tables.proofs.Lookup.{record-in, same-count}
 use Rattle.tables.proofs.ReadBack.{holds-records}
 use Rattle.tables.specs.Held.{buffers, StartsAt, Holds}
-use Rattle.report.proofs.Held.{words-within, parents-within, protectors-within, codes-within, found-nodes, found-size, found-allocation}
+use Rattle.report.proofs.Held.{words-within, words-small, parents-within, protectors-within, codes-within, found-nodes, found-size, found-allocation}
 use Rattle.report.proofs.Writes.{room-as, written-as}
 use Rattle.report.proofs.allocations.allocation_lines.Statement.{statement}
 use Rattle.report.proofs.allocations.allocation_lines.Tie as tie
@@ -36,6 +36,9 @@ module _ (c : tie.After-starts-at2) where
   words-in : (c .before .starts-at .result .words ≤ c .starts-at2 .result .words) × (c .starts-at2 .result .words ≤ length (c .before .before .before .before .before .before .before .before .before .args .words .now))
   words-in = let h = c .before .before .before .before .before .before .before .before .before .pre .1 .holds in words-within h _ (is-made c h) (starts c h) (ends c h)
 
+  words-end : c .starts-at2 .result .words ≤ 4096
+  words-end = let h = c .before .before .before .before .before .before .before .before .before .pre .1 .holds in words-small h _ (is-made c h) (starts c h) (ends c h)
+
   parents-in : (c .before .starts-at .result .nodes ≤ c .starts-at2 .result .nodes) × (c .starts-at2 .result .nodes ≤ length (c .before .before .before .before .before .before .before .before .before .args .parents .now))
   parents-in = let h = c .before .before .before .before .before .before .before .before .before .pre .1 .holds in parents-within h _ (is-made c h) (starts c h) (ends c h)
 
@@ -58,7 +61,7 @@ starts-at-requires-2 : tie.Need-starts-at-requires-2
 starts-at-requires-2 c κs = let fit = c .before .before .before .before .before .before .before .before .pre .1 in (c .before .before .before .before .before .before .before .before .pre .0, (holds-records (fit .holds), omega (arith, fit .made)))
 
 mul-put-allocation : tie.Need-mul-put-allocation
-mul-put-allocation c = omega (arith, words-in (c .before))
+mul-put-allocation c = omega (arith, words-in (c .before) .0, words-end (c .before))
 
 sub-put-allocation : tie.Need-sub-put-allocation
 sub-put-allocation c = omega (arith, words-in (c .before))
