@@ -1,6 +1,6 @@
 //! One call of an entry: drawn, made, and answered by the reference.
 
-use crate::buffers::{decode, encode, have_lengths, valid_word, RECORD};
+use crate::buffers::{decode, encode, have_lengths, RECORD};
 use crate::lent::{Frame, Lent, AREA, PLACES};
 use runs::deep::{self, Style};
 use runs::random::Random;
