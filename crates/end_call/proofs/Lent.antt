@@ -44,7 +44,7 @@ module _ {m : Memory} {A P R C : List ℕ} (h : HoldsMarked m A P R C) where
 
     -- marks and codes are given back
     pub released : {state : Liveness} → x .state ≡ state → {answer : ℕ} (lastMarks lastCodes : List ℕ) → tree.Released state (e .node) (x .nodes) answer lastMarks lastCodes
-        → Released m e answer (putMid (r .first) (r .behind - r .first) R lastMarks) (putMid (r .start) (r .end - r .start) C lastCodes)
+        → Released m e answer (putMid (r .nodes .start) (r .nodes .end - r .nodes .start) R lastMarks) (putMid (r .codes .start) (r .codes .end - r .codes .start) C lastCodes)
     unfolding tree.releaseRefusal releaseRefusal releaseRefusalIn afterRelease afterReleaseIn
     released is {answer} lastMarks lastCodes k =
         let k′ : tree.Released (x .state) (e .node) (x .nodes) answer lastMarks lastCodes =
@@ -62,8 +62,8 @@ module _ {m : Memory} {A P R C : List ℕ} (h : HoldsMarked m A P R C) where
 
     -- of a dead allocation the marks stay
     pub released-dead : x .state ≡ Dead → {answer : ℕ} (lastCodes : List ℕ)
-        → tree.Released Dead (e .node) (x .nodes) answer (take (r .behind - r .first) (drop (r .first) R)) lastCodes
-        → Released m e answer R (putMid (r .start) (r .end - r .start) C lastCodes)
+        → tree.Released Dead (e .node) (x .nodes) answer (take (r .nodes .end - r .nodes .start) (drop (r .nodes .start) R)) lastCodes
+        → Released m e answer R (putMid (r .codes .start) (r .codes .end - r .codes .start) C lastCodes)
     released-dead dead {answer} lastCodes k =
-        subst (λ (l : List ℕ). Released m e answer l (putMid (r .start) (r .end - r .start) C lastCodes)) (put-same (r .first) (r .behind - r .first) R)
-        (released dead (take (r .behind - r .first) (drop (r .first) R)) lastCodes k)
+        subst (λ (l : List ℕ). Released m e answer l (putMid (r .codes .start) (r .codes .end - r .codes .start) C lastCodes)) (put-same (r .nodes .start) (r .nodes .end - r .nodes .start) R)
+        (released dead (take (r .nodes .end - r .nodes .start) (drop (r .nodes .start) R)) lastCodes k)

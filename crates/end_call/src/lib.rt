@@ -58,10 +58,10 @@ fn release_entry(
     let node = e.node as usize;
     let a = tables::allocation_at(allocs, n);
     let t = parts::parts_at(allocs, n);
-    let first = t.first;
-    let behind = t.behind;
-    let start = t.start;
-    let end = t.end;
+    let first = t.nodes.start;
+    let behind = t.nodes.end;
+    let start = t.codes.start;
+    let end = t.codes.end;
     if a.state != 1 {
         return tree::release_dead(
             &protectors[first..behind],

@@ -31,7 +31,7 @@ module _ {m : Memory} {n : ℕ} {P C : List ℕ} {r : Parts} (h : TreeAt m n P C
   x = allocationAt m n
 
   abbrev givenBack : List ℕ → List ℕ
-  givenBack last = putMid (r .start) (r .end - r .start) C last
+  givenBack last = putMid (r .codes .start) (r .codes .end - r .codes .start) C last
 
   -- of a load or a store, in an allocation that starts at base
   module _ (kind : AccessKind) (node address len : ℕ) {base : ℕ} (e : base ≡ x .address) {answer : ℕ} where

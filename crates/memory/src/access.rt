@@ -51,10 +51,10 @@ fn access_tree(
     let a = tables::allocation_at(allocs, n);
     let address = a.address;
     let t = parts::parts_at(allocs, n);
-    let first = t.first;
-    let behind = t.behind;
-    let start = t.start;
-    let end = t.end;
+    let first = t.nodes.start;
+    let behind = t.nodes.end;
+    let start = t.codes.start;
+    let end = t.codes.end;
     let from = (addr - address) as usize;
     tree::access(
         &parents[first..behind],

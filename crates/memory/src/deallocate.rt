@@ -68,10 +68,10 @@ fn write_all(
         → WrittenAll m n node r (now (codes .exit))) ⌝ }
 {
     let t = parts::parts_at(allocs, n);
-    let first = t.first;
-    let behind = t.behind;
-    let start = t.start;
-    let end = t.end;
+    let first = t.nodes.start;
+    let behind = t.nodes.end;
+    let start = t.codes.start;
+    let end = t.codes.end;
     tree::deallocate(
         &parents[first..behind],
         &protectors[first..behind],

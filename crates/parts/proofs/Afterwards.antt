@@ -15,7 +15,7 @@ use Rattle.definition.proofs.Places.{mutate-here}
 use Rattle.definition.proofs.Visits.{visited-length}
 use Rattle.definition.proofs.ValidTrees.{visited-valid}
 use Rattle.definition.proofs.ValidMemory.{Succeeds, changed-valid, same-nodes-kept}
-use Rattle.tables.specs.Encoding.{Place, stateNumber, recordOf, parentsOf, protectorsOf, wordsOf, codesOf, concatMap, held}
+use Rattle.tables.specs.Encoding.{Place, stateNumber, recordOf, parentsOf, protectorsOf, codesOf, concatMap, held}
 use Rattle.tables.specs.Held.{startOf, Records, Used}
 use Rattle.tables.proofs.Focus.{focus-same}
 use Rattle.tables.proofs.Records.{held-records-kept}
@@ -75,7 +75,7 @@ module _ (v : Visit) where
         record {
           made = made-after;
           starts = record {
-            words = t .starts .words ∙ sym (start-same wordsOf);
+            words = refl;
             parents = t .starts .parents ∙ sym (start-same parentsOf);
             protectors = t .starts .protectors ∙ sym (start-same protectorsOf);
             codes = t .starts .codes ∙ sym (start-same codesOf);

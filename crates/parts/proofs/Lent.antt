@@ -49,10 +49,10 @@ tree-of v t = record { valid = v; parents = refl; codes = refl; part = t }
 
 -- ---- from what is read of the records
 pub parts-of : {m : Memory} {n : ℕ} → n < length m → {w b c nodes bytes : ℕ} → StartsAt m n w b c → nodes ≡ nodeCount (allocationAt m n) → bytes ≡ size (allocationAt m n)
-    → PartsOf m n (record { word = w; first = b; behind = b + nodes; start = c; end = c + nodes * bytes; width = bytes })
+    → PartsOf m n (record { nodes = record { start = b; end = b + nodes }; codes = record { start = c; end = c + nodes * bytes }; width = bytes })
 parts-of made {w} {b} {c} s count long = record {
   made = made;
-  starts = s;
+  starts = record { words = refl; parents = s .parents; protectors = s .protectors; codes = s .codes };
   behind = ap (λ (k : ℕ). b + k) count;
   end = ap₂ (λ (k z : ℕ). c + k * z) count long;
   width = long;
@@ -65,7 +65,7 @@ module _ {m : Memory} {n : ℕ} {P C : List ℕ} {r : Parts} (h : TreeAt m n P C
   made : n < length m
   made = h .part .made
 
-  starts : StartsAt m n (r .word) (r .first) (r .start)
+  starts : StartsAt m n (tables.startOf wordsOf m n) (r .nodes .start) (r .codes .start)
   starts = h .part .starts
 
   valid : ValidAllocation x
@@ -75,93 +75,93 @@ module _ {m : Memory} {n : ℕ} {P C : List ℕ} {r : Parts} (h : TreeAt m n P C
   whole : {R : List ℕ} → R ≡ held 1024 protectorsOf m → tables.Holds m (buffers (heldRecords m) P R (held 4096 wordsOf m) C)
   whole marked = record { valid = h .valid; equal = encode-of m refl (h .parents) marked refl (h .codes) }
 
-  node-span : r .behind - r .first ≡ nodeCount x
+  node-span : r .nodes .end - r .nodes .start ≡ nodeCount x
   node-span = omega (arith, h .part .behind)
 
-  code-span : r .end - r .start ≡ codeCount x
+  code-span : r .codes .end - r .codes .start ≡ codeCount x
   code-span = omega (arith, h .part .end)
 
   -- ---- they lie in the tables
-  pub nodes-ordered : r .first ≤ r .behind
+  pub nodes-ordered : r .nodes .start ≤ r .nodes .end
   nodes-ordered = omega (arith, h .part .behind)
 
-  pub codes-ordered : r .start ≤ r .end
+  pub codes-ordered : r .codes .start ≤ r .codes .end
   codes-ordered = omega (arith, h .part .end)
 
-  pub parents-in : r .behind ≤ length P
+  pub parents-in : r .nodes .end ≤ length P
   parents-in = omega (arith, h .part .behind, lent.parents-room (whole refl) made starts)
 
-  pub codes-in : r .end ≤ length C
+  pub codes-in : r .codes .end ≤ length C
   codes-in = omega (arith, h .part .end, lent.codes-room (whole refl) made starts)
 
-  pub nodes-small : r .behind ≤ 1024
+  pub nodes-small : r .nodes .end ≤ 1024
   nodes-small = omega (arith, parents-in, ap length (h .parents), length-held 1024 parentsOf m (parents-fit m (h .valid)))
 
-  pub codes-small : r .end ≤ 32768
+  pub codes-small : r .codes .end ≤ 32768
   codes-small = omega (arith, codes-in, ap length (h .codes), length-held 32768 codesOf m (codes-fit m (h .valid)))
 
-  pub words-small : r .word + r .width ≤ 4096
-  words-small = omega (arith, h .part .width, lent.words-room (whole refl) made starts, length-held 4096 wordsOf m (words-fit m (h .valid)))
+  pub width-small : r .width ≤ 4096
+  width-small = omega (arith, h .part .width, lent.words-room (whole refl) made starts, length-held 4096 wordsOf m (words-fit m (h .valid)))
 
   few : nodeCount x ≤ 1024
   few = omega (arith, nodes-small, h .part .behind)
 
   -- ---- they hold its tree
-  parents-part : take (r .behind - r .first) (drop (r .first) P) ≡ parentsOf x
-  parents-part = ap (λ (k : ℕ). take k (drop (r .first) P)) node-span ∙ lent.parents-part (whole refl) made starts
+  parents-part : take (r .nodes .end - r .nodes .start) (drop (r .nodes .start) P) ≡ parentsOf x
+  parents-part = ap (λ (k : ℕ). take k (drop (r .nodes .start) P)) node-span ∙ lent.parents-part (whole refl) made starts
 
-  codes-part : take (r .end - r .start) (drop (r .start) C) ≡ codesOf x
-  codes-part = ap (λ (k : ℕ). take k (drop (r .start) C)) code-span ∙ lent.codes-part (whole refl) made starts
+  codes-part : take (r .codes .end - r .codes .start) (drop (r .codes .start) C) ≡ codesOf x
+  codes-part = ap (λ (k : ℕ). take k (drop (r .codes .start) C)) code-span ∙ lent.codes-part (whole refl) made starts
 
-  pub tree-held : Holds (x .nodes) (r .width) (take (r .behind - r .first) (drop (r .first) P)) (take (r .end - r .start) (drop (r .start) C))
+  pub tree-held : Holds (x .nodes) (r .width) (take (r .nodes .end - r .nodes .start) (drop (r .nodes .start) P)) (take (r .codes .end - r .codes .start) (drop (r .codes .start) C))
   tree-held = rw (parents-part, codes-part, h .part .width) (holds-tree x valid few)
 
-  pub node-in : {node : ℕ} → node < nodeCount x → node < length (take (r .behind - r .first) (drop (r .first) P))
+  pub node-in : {node : ℕ} → node < nodeCount x → node < length (take (r .nodes .end - r .nodes .start) (drop (r .nodes .start) P))
   node-in l = omega (arith, ap length parents-part, length-parents x)
 
   -- ---- and come back, with the tree as it was or as g leaves it
   given-codes : (g : Allocation → Allocation) (last : List ℕ) → length last ≡ codeCount x → codesOf (g x) ≡ last
-      → putMid (r .start) (r .end - r .start) C last ≡ held 32768 codesOf (mutateAt n g m)
-  given-codes g last l e = ap (λ (k : ℕ). putMid (r .start) k C last) code-span ∙ lent.given-codes (whole refl) made starts g last l e
+      → putMid (r .codes .start) (r .codes .end - r .codes .start) C last ≡ held 32768 codesOf (mutateAt n g m)
+  given-codes g last l e = ap (λ (k : ℕ). putMid (r .codes .start) k C last) code-span ∙ lent.given-codes (whole refl) made starts g last l e
 
   pub codes-after : (g : Allocation → Allocation) → length (rowsOf (g x .nodes)) ≡ codeCount x → (t : Bool) (last : List ℕ) → last ≡ rowsOf (if t then g x .nodes else x .nodes)
-      → putMid (r .start) (r .end - r .start) C last ≡ held 32768 codesOf (if t then mutateAt n g m else m)
+      → putMid (r .codes .start) (r .codes .end - r .codes .start) C last ≡ held 32768 codesOf (if t then mutateAt n g m else m)
   codes-after g l true last e = given-codes g last (ap length e ∙ l) (codes-rows (g x) ∙ sym e)
   codes-after g l false last e =
       let e′ : codesOf x ≡ last = codes-rows x ∙ sym e in
       given-codes (λ y. y) last (ap length (sym e′) ∙ codes-at m (h .valid) n made) e′ ∙ focus-same 32768 codesOf m n made (λ y. y) refl
 
   pub visit-after : (v : Visit) (t : Bool) (last : List ℕ) → last ≡ rowsOf (if t then visited v (x .nodes) else x .nodes)
-      → putMid (r .start) (r .end - r .start) C last ≡ held 32768 codesOf (if t then mutateAt n (afterVisit v) m else m)
+      → putMid (r .codes .start) (r .codes .end - r .codes .start) C last ≡ held 32768 codesOf (if t then mutateAt n (afterVisit v) m else m)
   visit-after v = codes-after (afterVisit v) (visited-codes x valid v)
 
   pub tree-visited : {refused : ℕ} {v : Visit} {answer : ℕ} {last : List ℕ} → Made refused v (x .nodes) answer last
-      → TreeVisited m n refused v answer (putMid (r .start) (r .end - r .start) C last)
+      → TreeVisited m n refused v answer (putMid (r .codes .start) (r .codes .end - r .codes .start) C last)
   tree-visited {refused} {v} {last = last} k = record { refusal = k .refusal; codes = visit-after v (eqb refused 0) last (k .table) }
 
   -- ---- the same of its protectors
   module _ {R : List ℕ} (marked : R ≡ held 1024 protectorsOf m) where
-    pub protectors-in : r .behind ≤ length R
+    pub protectors-in : r .nodes .end ≤ length R
     protectors-in = omega (arith, h .part .behind, lent.protectors-room (whole marked) made starts)
 
-    protectors-part : take (r .behind - r .first) (drop (r .first) R) ≡ protectorsOf x
-    protectors-part = ap (λ (k : ℕ). take k (drop (r .first) R)) node-span ∙ lent.protectors-part (whole marked) made starts
+    protectors-part : take (r .nodes .end - r .nodes .start) (drop (r .nodes .start) R) ≡ protectorsOf x
+    protectors-part = ap (λ (k : ℕ). take k (drop (r .nodes .start) R)) node-span ∙ lent.protectors-part (whole marked) made starts
 
-    pub all-held : HoldsAll (x .nodes) (r .width) (take (r .behind - r .first) (drop (r .first) P)) (take (r .behind - r .first) (drop (r .first) R)) (take (r .end - r .start) (drop (r .start) C))
+    pub all-held : HoldsAll (x .nodes) (r .width) (take (r .nodes .end - r .nodes .start) (drop (r .nodes .start) P)) (take (r .nodes .end - r .nodes .start) (drop (r .nodes .start) R)) (take (r .codes .end - r .codes .start) (drop (r .codes .start) C))
     all-held = rw (parents-part, protectors-part, codes-part, h .part .width) (holds-all x valid few)
 
-    pub marks-held : HoldsMarks (x .nodes) (r .width) (take (r .behind - r .first) (drop (r .first) R)) (take (r .end - r .start) (drop (r .start) C))
+    pub marks-held : HoldsMarks (x .nodes) (r .width) (take (r .nodes .end - r .nodes .start) (drop (r .nodes .start) R)) (take (r .codes .end - r .codes .start) (drop (r .codes .start) C))
     marks-held = rw (protectors-part, codes-part, h .part .width) (holds-marks x valid)
 
-    pub node-in-marks : {node : ℕ} → node < nodeCount x → node < length (take (r .behind - r .first) (drop (r .first) R))
+    pub node-in-marks : {node : ℕ} → node < nodeCount x → node < length (take (r .nodes .end - r .nodes .start) (drop (r .nodes .start) R))
     node-in-marks l = omega (arith, ap length protectors-part, length-protectors x)
 
     given-marks : (g : Allocation → Allocation) (last : List ℕ) → nodeCount (g x) ≡ nodeCount x → protectorsOf (g x) ≡ last
-        → putMid (r .first) (r .behind - r .first) R last ≡ held 1024 protectorsOf (mutateAt n g m)
+        → putMid (r .nodes .start) (r .nodes .end - r .nodes .start) R last ≡ held 1024 protectorsOf (mutateAt n g m)
     given-marks g last l e =
-        ap (λ (k : ℕ). putMid (r .first) k R last) node-span ∙ lent.given-protectors (whole marked) made starts g last (ap length (sym e) ∙ length-protectors (g x) ∙ l) e
+        ap (λ (k : ℕ). putMid (r .nodes .start) k R last) node-span ∙ lent.given-protectors (whole marked) made starts g last (ap length (sym e) ∙ length-protectors (g x) ∙ l) e
 
     pub marks-after : (g : Allocation → Allocation) → nodeCount (g x) ≡ nodeCount x → (t : Bool) (last : List ℕ) → last ≡ marks (if t then g x .nodes else x .nodes)
-        → putMid (r .first) (r .behind - r .first) R last ≡ held 1024 protectorsOf (if t then mutateAt n g m else m)
+        → putMid (r .nodes .start) (r .nodes .end - r .nodes .start) R last ≡ held 1024 protectorsOf (if t then mutateAt n g m else m)
     marks-after g l true last e = given-marks g last l (protectors-marks (g x) ∙ sym e)
     marks-after g l false last e = given-marks (λ y. y) last refl (protectors-marks x ∙ sym e) ∙ focus-same 1024 protectorsOf m n made (λ y. y) refl

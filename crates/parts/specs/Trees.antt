@@ -8,8 +8,8 @@ use Rattle.definition.specs.Notation.{if_then_else_, mutateAt}
 use Rattle.definition.specs.Tree.{Visit, visited}
 use Rattle.definition.specs.Memory.{Allocation, Memory, allocationAt, changed, size, nodeCount, codeCount}
 use Rattle.definition.specs.Valid.{Valid}
-use Rattle.tables.specs.Encoding.{parentsOf, codesOf, held}
-use Rattle.tables.specs.Held.{Records, StartsAt, Trees}
+use Rattle.tables.specs.Encoding.{parentsOf, wordsOf, codesOf, held}
+use Rattle.tables.specs.Held.{startOf, Records, StartsAt, Trees}
 use Rattle.parts.specs.declared.Parts.{Parts}
 
 -- ---- for requests that do not touch all buffers
@@ -25,12 +25,12 @@ pub record HoldsMarked (m : Memory) (A P R C : List ℕ) : Type 0 where
   pub trees : Trees m A P R C
 
 -- ---- one allocation
--- allocation n was made, and its words, nodes and codes lie where r says
+-- allocation n was made, and its nodes and codes lie where r says
 pub record PartsOf (m : Memory) (n : ℕ) (r : Parts) : Type 0 where
   pub made : n < length m
-  pub starts : StartsAt m n (r .word) (r .first) (r .start)
-  pub behind : r .behind ≡ r .first + nodeCount (allocationAt m n)
-  pub end : r .end ≡ r .start + codeCount (allocationAt m n)
+  pub starts : StartsAt m n (startOf wordsOf m n) (r .nodes .start) (r .codes .start)
+  pub behind : r .nodes .end ≡ r .nodes .start + nodeCount (allocationAt m n)
+  pub end : r .codes .end ≡ r .codes .start + codeCount (allocationAt m n)
   pub width : r .width ≡ size (allocationAt m n)
 
 -- the parents and the codes are those of m, and allocation n's parts lie at r

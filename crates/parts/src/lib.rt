@@ -5,14 +5,16 @@ ghost use Rattle.definition.specs.Memory.{Memory};
 ghost use Rattle.tables.specs.Held.{Records};
 ghost use Rattle.parts.specs.Trees.{PartsOf};
 
-// Its words start at `word`. Its nodes lie from `first` on and before `behind`, their codes from `start` on and before `end`; a node's row is as wide
-// as the allocation has bytes.
-pub struct Parts {
-    pub word: usize,
-    pub first: usize,
-    pub behind: usize,
+// From one place on and before another.
+pub struct Span {
     pub start: usize,
     pub end: usize,
+}
+
+// Where its nodes lie, and their codes; a node's row is as wide as the allocation has bytes.
+pub struct Parts {
+    pub nodes: Span,
+    pub codes: Span,
     pub width: usize,
 }
 
@@ -22,17 +24,20 @@ pub fn parts_at(allocs: &[u64], n: usize) -> Parts
     ensures { λ r. ⌜ ((m : Memory) → Records m (now (allocs .entry)) → n < length m → PartsOf m n r) ⌝ }
 {
     let a = tables::allocation_at(allocs, n);
-    let nodes = a.nodes;
+    let count = a.nodes;
     let width = a.size;
-    let s = a.starts;
-    let first = s.nodes;
-    let start = s.codes;
+    let starts = a.starts;
+    let node = starts.nodes;
+    let code = starts.codes;
     Parts {
-        word: s.words,
-        first,
-        behind: first + nodes,
-        start,
-        end: start + nodes * width,
+        nodes: Span {
+            start: node,
+            end: node + count,
+        },
+        codes: Span {
+            start: code,
+            end: code + count * width,
+        },
         width,
     }
 }

@@ -29,7 +29,7 @@ module _ {m : Memory} {n : ℕ} {r : Parts} (t : PartsOf m n r) where
   a = allocationAt m n
 
   -- it goes behind the tree's others
-  pub place-for : Valid m → {nodes codes : ℕ} → Used m (sumOf size m) nodes codes → PlaceFor m n nodes codes (r .behind) (r .end)
+  pub place-for : Valid m → {nodes codes : ℕ} → Used m (sumOf size m) nodes codes → PlaceFor m n nodes codes (r .nodes .end) (r .codes .end)
   place-for v u =
       record {
         used = u;

@@ -186,10 +186,10 @@ fn make_reads(
     ensures { λ r. ⌜ ((m : Memory) (n : ℕ) → TreeAt m n (now (parents .entry)) (now (codes .entry)) t → Reached m n node from (length (now (inside .entry)))
         → TreeVisited m n (readsRefusal node from (map permission (now (inside .entry))) (allocationAt m n .nodes)) (readsVisit node from (map permission (now (inside .entry)))) r (now (codes .exit))) ⌝ }
 {
-    let first = t.first;
-    let behind = t.behind;
-    let start = t.start;
-    let end = t.end;
+    let first = t.nodes.start;
+    let behind = t.nodes.end;
+    let start = t.codes.start;
+    let end = t.codes.end;
     tree::make_reads(
         &parents[first..behind],
         &mut codes[start..end],
@@ -285,8 +285,8 @@ fn node_place(used: Starts, t: Parts) -> NodePlace
     NodePlace {
         nodes: used.nodes,
         codes: used.codes,
-        node: t.behind,
-        code: t.end,
+        node: t.nodes.end,
+        code: t.codes.end,
     }
 }
 

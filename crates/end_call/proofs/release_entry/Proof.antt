@@ -11,7 +11,7 @@ use Rattle.frames.specs.List.{provenanceOf}
 use Rattle.tables.specs.Encoding.{protectorsOf, held}
 use Rattle.tables.proofs.Lookup.{record-in}
 use Rattle.parts.specs.Trees.{HoldsMarked, PartsOf, TreeAt}
-use Rattle.parts.proofs.Lent.{records-of, trees-of, tree-at, nodes-ordered, codes-ordered, nodes-small, words-small, parents-in, protectors-in, codes-in, node-in, node-in-marks, all-held, marks-held}
+use Rattle.parts.proofs.Lent.{records-of, trees-of, tree-at, nodes-ordered, codes-ordered, nodes-small, width-small, parents-in, protectors-in, codes-in, node-in, node-in-marks, all-held, marks-held}
 use Rattle.end_call.proofs.Lent.{found-live, found-dead, released, released-dead}
 use Rattle.end_call.proofs.release_entry.Statement.{statement}
 use Rattle.end_call.proofs.release_entry.Tie as tie
@@ -133,7 +133,7 @@ part-release-live-end-3 c = codes-in (here (c .before .before .before .before))
 release-live-requires : tie.Need-release-live-requires
 release-live-requires c κs =
     let t = c .before .before .before .before .before in
-    ((_, all-held (here t) (marked t)), (node-in (here t) (node-made t), omega (arith, words-small (here t))))
+    ((_, all-held (here t) (marked t)), (node-in (here t) (node-made t), omega (arith, width-small (here t))))
 
 same-length-3 : tie.Need-same-length-3
 same-length-3 c = search needs

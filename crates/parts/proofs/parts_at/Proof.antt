@@ -16,7 +16,7 @@ use Rattle.parts.proofs.parts_at.Tie as tie
 -- for each memory that the records hold, and for the one that the caller has
 found : (c : tie.After-allocation-at) (m : Memory) → let t = c .before .before in Records m (now (t .args .allocs)) → t .args .n < length m
     → let a = c .allocation-at .result in let s = a .starts in
-    PartsOf m (t .args .n) (record { word = s .words; first = s .nodes; behind = s .nodes + a .nodes; start = s .codes; end = s .codes + a .nodes * a .size; width = a .size })
+    PartsOf m (t .args .n) (record { nodes = record { start = s .nodes; end = s .nodes + a .nodes }; codes = record { start = s .codes; end = s .codes + a .nodes * a .size }; width = a .size })
 found c m h made =
     let read = c .allocation-at .ensures in
     let n = c .before .before .args .n in
@@ -28,14 +28,14 @@ allocation-at-requires c κs = record-in (c .before .pre .1 .0) _ (c .before .pr
 add-t9 : tie.Need-add-t9
 add-t9 c = let (m, (h, made)) = c .before .before .before .pre in omega (arith, nodes-small (tree-of (h .valid) (found (c .before) m h made)))
 
-mul-t10 : tie.Need-mul-t10
-mul-t10 c = let (m, (h, made)) = c .before .before .before .pre in omega (arith, codes-small (tree-of (h .valid) (found (c .before) m h made)))
+mul-t11 : tie.Need-mul-t11
+mul-t11 c = let (m, (h, made)) = c .before .before .before .pre in omega (arith, codes-small (tree-of (h .valid) (found (c .before) m h made)))
 
-add-t11 : tie.Need-add-t11
-add-t11 c = let (m, (h, made)) = c .before .before .before .pre in omega (arith, codes-small (tree-of (h .valid) (found (c .before) m h made)))
+add-t12 : tie.Need-add-t12
+add-t12 c = let (m, (h, made)) = c .before .before .before .pre in omega (arith, codes-small (tree-of (h .valid) (found (c .before) m h made)))
 
 returns : tie.Need-returns
 returns c = found (c .before)
 
 pub parts-at-spec : {M : Type 1} → statement M
-parts-at-spec = tie.close (tie.spec allocation-at-requires add-t9 mul-t10 add-t11 returns)
+parts-at-spec = tie.close (tie.spec allocation-at-requires add-t9 mul-t11 add-t12 returns)
