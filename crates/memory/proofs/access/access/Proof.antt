@@ -15,21 +15,25 @@ use Rattle.memory.proofs.LoadStore.{checked, none-empty, unvisited-acce
 use Rattle.memory.proofs.access.access.Statement.{statement}
 use Rattle.memory.proofs.access.access.Tie as tie
 
+-- the state at the entry, as it is known behind the tests
+abbrev entry : tie.Else2 → tie.Start
+entry c = let told = c .before .before .before .before in told .before .before .before .before .before
+
 -- behind the tests, at a length other than zero: they were passed, and the bytes lie in the allocation
-passed : (c : tie.Else2) (m : Memory) → let s = c .before .before .before .before .before .before .before .before .before in HoldsTrees m (now (s .args .allocs)) (now (s .args .parents)) (now (s .args .codes))
+passed : (c : tie.Else2) (m : Memory) → let s = entry c in HoldsTrees m (now (s .args .allocs)) (now (s .args .parents)) (now (s .args .codes))
     → Checked m (thinPointerOf (s .args .p)) (s .args .len)
 passed c m h =
-    let a = c .before .before .before .before .before .before .before .before .before .args in
+    let a = entry c .args in
     let refused = c .before .before .bounds-refusal2 in
     checked (thinPointerOf (a .p)) (a .len) (a .exponent) m (refused .result) (refused .ensures m (h .records)) (c .before .if1 .left)
 
-reach : (c : tie.Else2) (m : Memory) → let s = c .before .before .before .before .before .before .before .before .before in HoldsTrees m (now (s .args .allocs)) (now (s .args .parents)) (now (s .args .codes))
+reach : (c : tie.Else2) (m : Memory) → let s = entry c in HoldsTrees m (now (s .args .allocs)) (now (s .args .parents)) (now (s .args .codes))
     → let of = c .before .before .before .before .provenance .given .0 in Reached m (of .0) (of .1 .0) (s .args .p .addr) (s .args .len)
-reach c m h = reached-through (c .before .before .before .before .before .before .before .before .before .args .p) (c .before .before .before .before .provenance .given .1) (c .if2 .left) (passed c m h)
+reach c m h = reached-through (entry c .args .p) (c .before .before .before .before .provenance .given .1) (c .if2 .left) (passed c m h)
 
-found : (c : tie.After-allocation-at) (m : Memory) → let s = c .before .before .before .before .before .before .before .before .before .before in HoldsTrees m (now (s .args .allocs)) (now (s .args .parents)) (now (s .args .codes))
+found : (c : tie.After-allocation-at) (m : Memory) → let s = entry (c .before) in HoldsTrees m (now (s .args .allocs)) (now (s .args .parents)) (now (s .args .codes))
     → Found m (c .before .before .before .before .before .provenance .given .0 .0) (c .allocation-at .result) (now (s .args .parents)) (now (s .args .codes))
-found c m h = record { records = now (c .before .before .before .before .before .before .before .before .before .before .args .allocs); trees = h; read = c .allocation-at .ensures }
+found c m h = record { records = now (entry (c .before) .args .allocs); trees = h; read = c .allocation-at .ensures }
 
 enum-told : tie.Need-enum-told
 enum-told c = search needs
@@ -59,16 +63,16 @@ cast-allocation-at : tie.Need-cast-allocation-at
 cast-allocation-at c = search needs
 
 allocation-at-requires : tie.Need-allocation-at-requires
-allocation-at-requires c κs = let (m, h) = c .before .before .before .before .before .before .before .before .before .pre .0 in record-in (h .records) _ (reach c m h .made)
+allocation-at-requires c κs = let (m, h) = entry c .pre .0 in record-in (h .records) _ (reach c m h .made)
 
 sub-start : tie.Need-sub-start
-sub-start c = let (m, h) = c .before .before .before .before .before .before .before .before .before .before .before .pre .0 in let k = reach (c .before .before) m h in omega (arith, read-address (h .records) (k .made) (c .before .allocation-at .ensures), k .above)
+sub-start c = let (m, h) = entry (c .before .before) .pre .0 in let k = reach (c .before .before) m h in omega (arith, read-address (h .records) (k .made) (c .before .allocation-at .ensures), k .above)
 
 add-start : tie.Need-add-start
 add-start c =
-    let s = c .before .before .before .before .before .before .before .before .before .before .before .before in
-    let (m, h) = s .pre .0 in
     let there = c .before .before .before in
+    let s = entry there in
+    let (m, h) = s .pre .0 in
     let k = passed there m h in
     omega (arith, start-through (s .args .p) (there .before .before .before .before .provenance .given .1) (there .if2 .left) (h .records) k (c .before .before .allocation-at .ensures), words-in (h .records .valid) k)
 
@@ -76,7 +80,7 @@ cast-access-tree : tie.Need-cast-access-tree
 cast-access-tree c = search needs
 
 access-tree-requires : tie.Need-access-tree-requires
-access-tree-requires c κs = let (m, h) = c .before .before .before .before .before .before .before .before .before .before .before .before .before .pre .0 in (m, (_, (found (c .before .before .before) m h, reach (c .before .before .before .before) m h)))
+access-tree-requires c κs = let (m, h) = entry (c .before .before .before .before) .pre .0 in (m, (_, (found (c .before .before .before) m h, reach (c .before .before .before .before) m h)))
 
 returns-3 : tie.Need-returns-3
 returns-3 c = (
@@ -98,14 +102,16 @@ same-length c = search needs
 returns-4 : tie.Need-returns-4
 returns-4 c = (
   (λ m bytes h.
-      let a = c .before .before .before .before .before .before .before .before .before .before .before .before .before .before .before .before .args in
-      let there = c .before .before .before .before .before .before .before in
+      let read = c .before .before .before .before .before .before in
+      let there = read .before in
+      let a = entry there .args in
       let refused = there .before .before .bounds-refusal2 in
       accessed-through (a .p) (there .before .before .before .before .provenance .given .1) (there .if2 .left) (accessKind (a .kind)) (a .exponent) bytes h (refused .result) (refused .ensures m (h .records)) (there .before .if1 .left)
-      (c .before .before .access-tree .ensures m _ (found (c .before .before .before .before .before .before) m h) (reach there m h))),
+      (c .before .before .access-tree .ensures m _ (found read m h) (reach there m h))),
   (λ m h z.
-      let there = c .before .before .before .before .before .before .before in
-      start-through (c .before .before .before .before .before .before .before .before .before .before .before .before .before .before .before .before .args .p) (there .before .before .before .before .provenance .given .1) (there .if2 .left) (h .records) (passed there m h) (c .before .before .before .before .before .before .allocation-at .ensures)),
+      let read = c .before .before .before .before .before .before in
+      let there = read .before in
+      start-through (entry there .args .p) (there .before .before .before .before .provenance .given .1) (there .if2 .left) (h .records) (passed there m h) (read .allocation-at .ensures)),
 )
 
 pub access-spec : {M : Type 1} → statement M

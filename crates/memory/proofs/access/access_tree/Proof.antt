@@ -69,9 +69,10 @@ same-length c = search needs
 
 returns : tie.Need-returns
 returns c = λ m n f k.
-    let a = c .before .before .before .before .before .before .before .before .args in
-    let t = lent (c .before .before .before .before .before) m n f k in
-    access-visited t (accessKind (a .kind)) (a .node) (a .addr) (a .len) (base (c .before .before .before .before .before) m n f k) _ (c .before .before .access .ensures _ (tree-held t))
+    let lies = c .before .before .before .before .before in
+    let a = lies .before .before .before .args in
+    let t = lent lies m n f k in
+    access-visited t (accessKind (a .kind)) (a .node) (a .addr) (a .len) (base lies m n f k) _ (c .before .before .access .ensures _ (tree-held t))
 
 pub access-tree-spec : {M : Type 1} → statement M
 access-tree-spec =

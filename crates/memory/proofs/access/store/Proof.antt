@@ -15,6 +15,10 @@ use Rattle.memory.proofs.LoadStore.{accessed-checked, words-in, store-r
 use Rattle.memory.proofs.access.store.Statement.{statement}
 use Rattle.memory.proofs.access.store.Tie as tie
 
+-- the state at the entry, as it is known behind the access
+abbrev entry : tie.After-access → tie.Start
+entry c = let asked = c .before .before in asked .before .before .before .before .before
+
 access-requires : tie.Need-access-requires
 access-requires c κs = search needs
 
@@ -23,13 +27,13 @@ same-length c = search needs
 
 returns : tie.Need-returns
 returns c = λ m h.
-    let a = c .before .before .before .before .before .before .before .before .before .before .args in
+    let a = entry (c .before .before .before) .args in
     let done = c .before .before .before .access in
     store-refused (thinPointerOf (a .p)) (now (a .bytes)) (a .exponent) h (done .result .refusal) (c .if1 .taken) (done .ensures .0 m (now (a .bytes)) (h .trees))
 
 put-words-requires : tie.Need-put-words-requires
 put-words-requires c κs =
-    let s = c .before .before .before .before .before .before .before .before .before .before .before in
+    let s = entry (c .before .before .before .before) in
     let (m, h) = s .pre .0 in
     let done = c .before .before .before .before .access in
     let k = accessed-checked (storeOf (thinPointerOf (s .args .p)) (now (s .args .bytes)) (s .args .exponent)) m (done .ensures .0 m (now (s .args .bytes)) (h .trees)) (c .before .if1 .left) in
@@ -43,9 +47,11 @@ same-length-3 c = search needs
 
 returns-2 : tie.Need-returns-2
 returns-2 c = λ m h.
-    let a = c .before .before .before .before .before .before .before .before .before .before .before .before .before .before .args in
-    let done = c .before .before .before .before .before .before .before .access in
-    let z = c .before .before .before .before .if1 .left in
+    let passed = c .before .before .before .before in
+    let behind = passed .before .before .before in
+    let a = entry behind .args in
+    let done = behind .access in
+    let z = passed .if1 .left in
     store-accepted (thinPointerOf (a .p)) (now (a .bytes)) (a .exponent) h (done .result .refusal) z (done .ensures .0 m (now (a .bytes)) (h .trees))
     (c .before .before .put-words .ensures ∙ ap (λ (n : ℕ). paste (now (a .words)) n (now (a .bytes)) (length (now (a .bytes)))) (done .ensures .1 m (h .trees) z))
 
