@@ -16,6 +16,9 @@ use Rattle.answer.specs.Answer.Gives.{Nothing, TheWords}
 use Rattle.answer.specs.declared.Answer.{Answer}
 use Rattle.tables.specs.Encoding.{wordsOf, codesOf, held}
 use Rattle.tables.specs.Held.{startOf}
+use Rattle.tables.specs.declared.Allocation as record-of
+use Rattle.tables.proofs.Lookup.{recordAt}
+use Rattle.parts.specs.Trees.{HoldsTrees}
 
 -- ---- the definition's accesses
 abbrev pub accessOf : AccessKind → ThinPointer → ℕ → ℕ → List ℕ → MemoryAccess
@@ -46,6 +49,12 @@ pub record Reached (m : Memory) (n node address len : ℕ) : Type 0 where
   pub inTree : node < nodeCount (allocationAt m n)
   pub above : allocationAt m n .address ≤ address
   pub within : address + len ≤ allocationAt m n .address + size (allocationAt m n)
+
+-- its record is a, and the parents and the codes are those of m
+pub record Found (m : Memory) (n : ℕ) (a : record-of.Allocation) (P C : List ℕ) : Type 0 where
+  pub records : List ℕ
+  pub trees : HoldsTrees m records P C
+  pub read : a ≡ recordAt records n
 
 -- an access of these bytes of it
 abbrev pub visitAt : AccessKind → Memory → ℕ → ℕ → ℕ → ℕ → Visit

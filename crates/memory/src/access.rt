@@ -3,6 +3,7 @@ use answer::Answer;
 use permission::AccessKind;
 use pointer::Provenance;
 use pointer::ThinPointer;
+use tables::Allocation;
 ghost use mathlib.Core.Path.{_≡_};
 ghost use mathlib.Core.List.{List, _++_};
 ghost use Prim.Native.Nat.{ℕ, _+_, _≤_, _<_};
@@ -15,7 +16,7 @@ ghost use Rattle.permission.specs.Codes.{accessKind};
 ghost use Rattle.tables.specs.Held.{Records};
 ghost use Rattle.parts.specs.Trees.{HoldsTrees, TreeVisited};
 ghost use Rattle.memory.specs.Buffers.{HoldsWords};
-ghost use Rattle.memory.specs.Access.{accessOf, loadOf, storeOf, boundsRefusal, Checked, Reached, visitAt, wordsStart, Accessed, Loaded, Stored};
+ghost use Rattle.memory.specs.Access.{accessOf, loadOf, storeOf, boundsRefusal, Found, Reached, visitAt, wordsStart, Accessed, Loaded, Stored};
 
 // 4, 6 and 7 to 9.
 fn bounds_refusal(allocs: &[u64], p: ThinPointer, len: u64, exponent: u64) -> u8
@@ -33,24 +34,22 @@ fn bounds_refusal(allocs: &[u64], p: ThinPointer, len: u64, exponent: u64) -> u8
     bounds::check_ptr(allocs, p, 0, len)
 }
 
-// The access of `len` bytes at an address, through a node of allocation n: its tree is a part of each table.
+// The access of `len` bytes at an address, through a node of the allocation with this record: its tree is a part of each table.
 fn access_tree(
-    allocs: &[u64],
     parents: &[u16],
     codes: &mut [u8],
     kind: AccessKind,
-    n: usize,
+    a: Allocation,
     node: usize,
     addr: u64,
     len: usize,
 ) -> u8
-    requires { ⌜ ((m : Memory) × (HoldsTrees m (now allocs) (now parents) (now codes) × Reached m n node addr len)) ⌝ }
-    ensures { λ r. ⌜ ((m : Memory) → HoldsTrees m (now (allocs .entry)) (now (parents .entry)) (now (codes .entry)) → Reached m n node addr len
+    requires { ⌜ ((m : Memory) × ((n : ℕ) × (Found m n a (now parents) (now codes) × Reached m n node addr len))) ⌝ }
+    ensures { λ r. ⌜ ((m : Memory) (n : ℕ) → Found m n a (now (parents .entry)) (now (codes .entry)) → Reached m n node addr len
         → TreeVisited m n (visitRefusal (visitAt (accessKind kind) m n node addr len) (allocationAt m n .nodes)) (visitAt (accessKind kind) m n node addr len) r (now (codes .exit))) ⌝ }
 {
-    let a = tables::allocation_at(allocs, n);
     let address = a.address;
-    let t = parts::parts_at(allocs, n);
+    let t = parts::parts_of(a);
     let first = t.nodes.start;
     let behind = t.nodes.end;
     let start = t.codes.start;
@@ -67,8 +66,14 @@ fn access_tree(
     )
 }
 
-// All of an access but its bytes: the first refusal with the codes as they were, or 0 with the codes as the visit leaves them. At length zero
-// nothing is visited.
+// The first refusal or 0, and then where the bytes at the pointer start in the data; 0 where there are none.
+struct Outcome {
+    refusal: u8,
+    start: usize,
+}
+
+// All of an access but its bytes: refused, with the codes as they were, or with the codes as the visit leaves them. At length zero nothing is
+// visited.
 fn access(
     allocs: &[u64],
     parents: &[u16],
@@ -77,61 +82,40 @@ fn access(
     p: ThinPointer,
     len: u64,
     exponent: u64,
-) -> u8
+) -> Outcome
     requires { ⌜ ((m : Memory) × HoldsTrees m (now allocs) (now parents) (now codes)) ⌝ }
     requires { ⌜ exponent < 64 ⌝ }
     ensures { λ r. ⌜ ((m : Memory) (bytes : List ℕ) → HoldsTrees m (now (allocs .entry)) (now (parents .entry)) (now (codes .entry))
-        → Accessed (accessOf (accessKind kind) (thinPointerOf p) len exponent bytes) m r (now (codes .exit))) ⌝ }
+        → Accessed (accessOf (accessKind kind) (thinPointerOf p) len exponent bytes) m (r .refusal) (now (codes .exit))) ⌝ }
+    ensures { λ r. ⌜ ((m : Memory) → HoldsTrees m (now (allocs .entry)) (now (parents .entry)) (now (codes .entry)) → r .refusal ≡ 0
+        → r .start ≡ wordsStart (thinPointerOf p) len m) ⌝ }
 {
     let addr = p.addr;
     let provenance = p.provenance;
     match provenance {
         // no tree to visit
-        Provenance::None => bounds_refusal(allocs, p, len, exponent),
+        Provenance::None => {
+            let refusal = bounds_refusal(allocs, p, len, exponent);
+            Outcome { refusal, start: 0 }
+        }
         Provenance::Of { allocation, node } => {
             let refused = bounds_refusal(allocs, p, len, exponent);
             if refused != 0 {
-                return refused;
+                return Outcome {
+                    refusal: refused,
+                    start: 0,
+                };
             }
             if len == 0 {
-                return 0;
+                return Outcome {
+                    refusal: 0,
+                    start: 0,
+                };
             }
-            access_tree(
-                allocs,
-                parents,
-                codes,
-                kind,
-                allocation as usize,
-                node as usize,
-                addr,
-                len as usize,
-            )
-        }
-    }
-}
-
-// Where the bytes at a pointer start in the data; 0 where there are none.
-fn words_start(allocs: &[u64], p: ThinPointer, len: u64) -> usize
-    requires { ⌜ ((m : Memory) × (Records m (now allocs) × Checked m (thinPointerOf p) len)) ⌝ }
-    ensures { λ r. ⌜ ((m : Memory) → Records m (now (allocs .entry)) → Checked m (thinPointerOf p) len → r ≡ wordsStart (thinPointerOf p) len m) ⌝ }
-{
-    let addr = p.addr;
-    let provenance = p.provenance;
-    match provenance {
-        // then there are no bytes
-        Provenance::None => 0,
-        Provenance::Of {
-            allocation,
-            node: _,
-        } => {
-            if len == 0 {
-                return 0;
-            }
-            let n = allocation as usize;
-            let a = tables::allocation_at(allocs, n);
-            let s = a.starts;
-            let address = a.address;
-            s.words + (addr - address) as usize
+            let a = tables::allocation_at(allocs, allocation as usize);
+            let start = a.starts.words + (addr - a.address) as usize;
+            let refusal = access_tree(parents, codes, kind, a, node as usize, addr, len as usize);
+            Outcome { refusal, start }
         }
     }
 }
@@ -150,13 +134,13 @@ pub fn load(
     ensures { λ r. ⌜ ((m : Memory) → HoldsTrees m (now (allocs .entry)) (now (parents .entry)) (now (codes .entry))
         → Loaded (loadOf (thinPointerOf p) len exponent) m r (now (codes .exit))) ⌝ }
 {
-    let refused = access(allocs, parents, codes, AccessKind::Read, p, len, exponent);
+    let done = access(allocs, parents, codes, AccessKind::Read, p, len, exponent);
+    let refused = done.refusal;
     if refused != 0 {
         return Answer::Refused(refused);
     }
-    let start = words_start(allocs, p, len);
     Answer::Words {
-        start,
+        start: done.start,
         len: len as usize,
     }
 }
@@ -181,16 +165,6 @@ fn put_words(words: &mut [u32], start: usize, bytes: &[u32])
     copy_words(&mut words[start..], bytes);
 }
 
-// Writes bytes at a pointer.
-fn write_words(allocs: &[u64], words: &mut [u32], p: ThinPointer, bytes: &[u32])
-    requires { ⌜ ((m : Memory) × (Records m (now allocs) × (Checked m (thinPointerOf p) (length (now bytes)) × (length (now words) ≡ 4096)))) ⌝ }
-    ensures { λ _. ⌜ ((m : Memory) → Records m (now (allocs .entry)) → Checked m (thinPointerOf p) (length (now (bytes .entry)))
-        → now (words .exit) ≡ paste (now (words .entry)) (wordsStart (thinPointerOf p) (length (now (bytes .entry))) m) (now (bytes .entry)) (length (now (bytes .entry)))) ⌝ }
-{
-    let start = words_start(allocs, p, bytes.len() as u64);
-    put_words(words, start, bytes);
-}
-
 pub fn store(
     allocs: &[u64],
     parents: &[u16],
@@ -205,7 +179,7 @@ pub fn store(
     ensures { λ r. ⌜ ((m : Memory) → HoldsWords m (now (allocs .entry)) (now (parents .entry)) (now (words .entry)) (now (codes .entry))
         → Stored (storeOf (thinPointerOf p) (now (bytes .entry)) exponent) m r (now (words .exit)) (now (codes .exit))) ⌝ }
 {
-    let refused = access(
+    let done = access(
         allocs,
         parents,
         codes,
@@ -214,9 +188,10 @@ pub fn store(
         bytes.len() as u64,
         exponent,
     );
+    let refused = done.refusal;
     if refused != 0 {
         return Answer::Refused(refused);
     }
-    write_words(allocs, words, p, bytes);
+    put_words(words, done.start, bytes);
     Answer::Accepted
 }

@@ -17,12 +17,14 @@ use Rattle.tables.specs.Held as tables
 use Rattle.tables.specs.Held.{buffers, Records, StartsAt}
 use Rattle.tables.proofs.Focus.{length-held, focus-same}
 use Rattle.tables.proofs.Sizes.{length-parents, length-protectors, parents-fit, words-fit, codes-fit, codes-at}
+use Rattle.tables.specs.declared.Allocation as record-of
+use Rattle.tables.proofs.Lookup.{recordAt, read-starts, nodes-at, size-at}
 use Rattle.tables.proofs.ReadBack.{holds-allocs, holds-parents, holds-protectors, holds-codes, encode-of}
 use Rattle.tables.proofs.Lent as lent
 use Rattle.tree.specs.Table.{rowsOf, marks, Holds, HoldsMarks, HoldsAll}
 use Rattle.tree.specs.Requests.{Made}
 use Rattle.parts.specs.declared.Parts.{Parts}
-use Rattle.parts.specs.Trees.{HoldsTrees, HoldsMarked, PartsOf, TreeAt, afterVisit, TreeVisited}
+use Rattle.parts.specs.Trees.{HoldsTrees, HoldsMarked, partsIn, PartsOf, TreeAt, afterVisit, TreeVisited}
 use Rattle.parts.proofs.Trees.{codes-rows, protectors-marks, holds-tree, holds-marks, holds-all, visited-codes}
 
 -- ---- from more buffers to fewer
@@ -48,15 +50,18 @@ pub tree-of : {m : Memory} {n : ℕ} {r : Parts} → Valid m → PartsOf m n r �
 tree-of v t = record { valid = v; parents = refl; codes = refl; part = t }
 
 -- ---- from what is read of the records
-pub parts-of : {m : Memory} {n : ℕ} → n < length m → {w b c nodes bytes : ℕ} → StartsAt m n w b c → nodes ≡ nodeCount (allocationAt m n) → bytes ≡ size (allocationAt m n)
-    → PartsOf m n (record { nodes = record { start = b; end = b + nodes }; codes = record { start = c; end = c + nodes * bytes }; width = bytes })
-parts-of made {w} {b} {c} s count long = record {
-  made = made;
-  starts = record { words = refl; parents = s .parents; protectors = s .protectors; codes = s .codes };
-  behind = ap (λ (k : ℕ). b + k) count;
-  end = ap₂ (λ (k z : ℕ). c + k * z) count long;
-  width = long;
-}
+pub parts-read : {m : Memory} {A : List ℕ} → Records m A → {n : ℕ} → n < length m → {a : record-of.Allocation} → a ≡ recordAt A n → PartsOf m n (partsIn a)
+parts-read h {n} made {a} read =
+    let s = read-starts h made read in
+    let count = ap (λ (x : record-of.Allocation). x .nodes) read ∙ nodes-at h n made in
+    let long = ap (λ (x : record-of.Allocation). x .size) read ∙ size-at h n made in
+    record {
+      made = made;
+      starts = record { words = refl; parents = s .parents; protectors = s .protectors; codes = s .codes };
+      behind = ap (λ (k : ℕ). a .starts .nodes + k) count;
+      end = ap₂ (λ (k z : ℕ). a .starts .codes + k * z) count long;
+      width = long;
+    }
 
 module _ {m : Memory} {n : ℕ} {P C : List ℕ} {r : Parts} (h : TreeAt m n P C r) where
   abbrev x : Allocation

@@ -1,5 +1,5 @@
 -- Buffers that hold a memory's trees, where one allocation's parts of them lie, and a visit of its tree.
-use Prim.Native.Nat.{ℕ, _+_, _<_}
+use Prim.Native.Nat.{ℕ, _+_, _*_, _<_}
 use mathlib.Core.Path.{_≡_}
 use mathlib.Core.List.{List}
 use lib.Dec.{eqb}
@@ -10,6 +10,7 @@ use Rattle.definition.specs.Memory.{Allocation, Memory, allocationAt, changed, 
 use Rattle.definition.specs.Valid.{Valid}
 use Rattle.tables.specs.Encoding.{parentsOf, wordsOf, codesOf, held}
 use Rattle.tables.specs.Held.{startOf, Records, StartsAt, Trees}
+use Rattle.tables.specs.declared.Allocation as record-of
 use Rattle.parts.specs.declared.Parts.{Parts}
 
 -- ---- for requests that do not touch all buffers
@@ -25,6 +26,14 @@ pub record HoldsMarked (m : Memory) (A P R C : List ℕ) : Type 0 where
   pub trees : Trees m A P R C
 
 -- ---- one allocation
+-- where the parts lie, as a record says it
+abbrev pub partsIn : record-of.Allocation → Parts
+partsIn a = record {
+  nodes = record { start = a .starts .nodes; end = a .starts .nodes + a .nodes };
+  codes = record { start = a .starts .codes; end = a .starts .codes + a .nodes * a .size };
+  width = a .size;
+}
+
 -- allocation n was made, and its nodes and codes lie where r says
 pub record PartsOf (m : Memory) (n : ℕ) (r : Parts) : Type 0 where
   pub made : n < length m

@@ -1,9 +1,11 @@
 // One allocation's parts of the buffers: where they lie. specs/Trees.antt says so in the definition's terms, and proofs/ that they hold its tree.
-ghost use Prim.Native.Nat.{_<_};
+use tables::Allocation;
+ghost use mathlib.Core.Path.{_≡_};
+ghost use Prim.Native.Nat.{_+_, _*_, _≤_, _<_};
 ghost use lib.ListN.{length};
 ghost use Rattle.definition.specs.Memory.{Memory};
 ghost use Rattle.tables.specs.Held.{Records};
-ghost use Rattle.parts.specs.Trees.{PartsOf};
+ghost use Rattle.parts.specs.Trees.{partsIn, PartsOf};
 
 // From one place on and before another.
 pub struct Span {
@@ -18,12 +20,11 @@ pub struct Parts {
     pub width: usize,
 }
 
-// As its record says.
-pub fn parts_at(allocs: &[u64], n: usize) -> Parts
-    requires { ⌜ ((m : Memory) × (Records m (now allocs) × (n < length m))) ⌝ }
-    ensures { λ r. ⌜ ((m : Memory) → Records m (now (allocs .entry)) → n < length m → PartsOf m n r) ⌝ }
+// Those of an allocation with this record.
+pub fn parts_of(a: Allocation) -> Parts
+    requires { ⌜ (a .starts .nodes + a .nodes ≤ 1024) × (a .starts .codes + a .nodes * a .size ≤ 32768) ⌝ }
+    ensures { λ r. ⌜ r ≡ partsIn a ⌝ }
 {
-    let a = tables::allocation_at(allocs, n);
     let count = a.nodes;
     let width = a.size;
     let starts = a.starts;
@@ -40,4 +41,12 @@ pub fn parts_at(allocs: &[u64], n: usize) -> Parts
         },
         width,
     }
+}
+
+pub fn parts_at(allocs: &[u64], n: usize) -> Parts
+    requires { ⌜ ((m : Memory) × (Records m (now allocs) × (n < length m))) ⌝ }
+    ensures { λ r. ⌜ ((m : Memory) → Records m (now (allocs .entry)) → n < length m → PartsOf m n r) ⌝ }
+{
+    let a = tables::allocation_at(allocs, n);
+    parts_of(a)
 }

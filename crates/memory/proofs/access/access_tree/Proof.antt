@@ -1,40 +1,41 @@
 -- The allocation's parts hold its tree (`tree-held`), and come back as its visit leaves them (`access-visited`).
-use mathlib.Core.Path.{_≡_}
+use Prim.Native.Nat.{ℕ}
+use mathlib.Core.Path.{_≡_, sym, subst}
 use native.Mathlib.Omega.{arith}
 use borrow.Author.Needs.{needs}
 use denote.Ref.{now}
 use Rattle.definition.specs.Memory.{Memory, allocationAt}
 use Rattle.permission.specs.Codes.{accessKind}
-use Rattle.tables.proofs.Lookup.{record-in}
+use Rattle.tables.proofs.Lookup.{read-nodes, read-codes}
 use Rattle.bounds.proofs.Points.{read-address}
-use Rattle.parts.specs.Trees.{HoldsTrees, TreeAt}
-use Rattle.parts.proofs.Lent.{tree-at, nodes-ordered, codes-ordered, nodes-small, parents-in, codes-in, tree-held, node-in}
-use Rattle.memory.specs.Access.{Reached}
+use Rattle.parts.specs.declared.Parts.{Parts}
+use Rattle.parts.specs.Trees.{TreeAt}
+use Rattle.parts.proofs.Lent.{tree-at, parts-read, nodes-ordered, codes-ordered, nodes-small, parents-in, codes-in, tree-held, node-in}
+use Rattle.memory.specs.Access.{Found, Reached}
 use Rattle.memory.proofs.OneTree.{access-visited}
 use Rattle.memory.proofs.access.access_tree.Statement.{statement}
 use Rattle.memory.proofs.access.access_tree.Tie as tie
 
 -- the tree that is lent, for each memory that the tables hold; and for the one that the caller has
-lent : (c : tie.After-parts-at) (m : Memory) → let a = c .before .before .before .before .before .args in HoldsTrees m (now (a .allocs)) (now (a .parents)) (now (a .codes)) → Reached m (a .n) (a .node) (a .addr) (a .len)
-    → TreeAt m (a .n) (now (a .parents)) (now (a .codes)) (c .parts-at .result)
-lent c m h k = tree-at h (c .parts-at .ensures m (h .records) (k .made))
+lent : (c : tie.After-parts-of) (m : Memory) (n : ℕ) → let a = c .before .before .before .args in Found m n (a .a) (now (a .parents)) (now (a .codes)) → Reached m n (a .node) (a .addr) (a .len)
+    → TreeAt m n (now (a .parents)) (now (a .codes)) (c .parts-of .result)
+lent c m n f k =
+    let a = c .before .before .before .args in
+    subst (λ (r : Parts). TreeAt m n (now (a .parents)) (now (a .codes)) r) (sym (c .parts-of .ensures)) (tree-at (f .trees) (parts-read (f .trees .records) (k .made) (f .read)))
 
-given : (c : tie.After-parts-at) → let t = c .before .before .before .before .before in TreeAt (t .pre .0) (t .args .n) (now (t .args .parents)) (now (t .args .codes)) (c .parts-at .result)
-given c = let (m, (h, k)) = c .before .before .before .before .before .pre in lent c m h k
+given : (c : tie.After-parts-of) → let t = c .before .before .before in TreeAt (t .pre .0) (t .pre .1 .0) (now (t .args .parents)) (now (t .args .codes)) (c .parts-of .result)
+given c = let (m, (n, (f, k))) = c .before .before .before .pre in lent c m n f k
 
 -- where the allocation starts
-base : (c : tie.After-parts-at) (m : Memory) → let a = c .before .before .before .before .before .args in HoldsTrees m (now (a .allocs)) (now (a .parents)) (now (a .codes)) → Reached m (a .n) (a .node) (a .addr) (a .len)
-    → c .before .allocation-at .result .address ≡ allocationAt m (a .n) .address
-base c m h k = read-address (h .records) (k .made) (c .before .allocation-at .ensures)
+base : (c : tie.After-parts-of) (m : Memory) (n : ℕ) → let a = c .before .before .before .args in Found m n (a .a) (now (a .parents)) (now (a .codes)) → Reached m n (a .node) (a .addr) (a .len)
+    → a .a .address ≡ allocationAt m n .address
+base c m n f k = read-address (f .trees .records) (k .made) (f .read)
 
-allocation-at-requires : tie.Need-allocation-at-requires
-allocation-at-requires c κs = record-in (c .before .before .before .pre .1 .0 .records) (c .before .before .before .args .n) (c .before .before .before .pre .1 .1 .made)
-
-parts-at-requires : tie.Need-parts-at-requires
-parts-at-requires c κs = let (m, (h, k)) = c .before .before .before .before .pre in (m, (h .records, k .made))
+parts-of-requires : tie.Need-parts-of-requires
+parts-of-requires c κs = let (m, (n, (f, k))) = c .before .before .pre in (read-nodes (f .trees .records) (k .made) (f .read), read-codes (f .trees .records) (k .made) (f .read))
 
 sub-from : tie.Need-sub-from
-sub-from c = let (m, (h, k)) = c .before .before .before .before .before .pre in omega (arith, base c m h k, k .above)
+sub-from c = let (m, (n, (f, k))) = c .before .before .before .pre in omega (arith, base c m n f k, k .above)
 
 mul-access : tie.Need-mul-access
 mul-access c = omega (arith, nodes-small (given c), nodes-ordered (given c))
@@ -60,24 +61,24 @@ part-access-end-2 c = codes-in (given (c .before))
 access-requires : tie.Need-access-requires
 access-requires c κs =
     let t = given (c .before .before) in
-    let (m, (h, k)) = c .before .before .before .before .before .before .before .pre in
-    ((_, tree-held t), (node-in t (k .inTree), omega (arith, base (c .before .before) m h k, t .part .width, k .above, k .within)))
+    let (m, (n, (f, k))) = c .before .before .before .before .before .pre in
+    ((_, tree-held t), (node-in t (k .inTree), omega (arith, base (c .before .before) m n f k, t .part .width, k .above, k .within)))
 
 same-length : tie.Need-same-length
 same-length c = search needs
 
 returns : tie.Need-returns
-returns c = λ m h k.
-    let a = c .before .before .before .before .before .before .before .before .before .before .args in
-    let t = lent (c .before .before .before .before .before) m h k in
-    access-visited t (accessKind (a .kind)) (a .node) (a .addr) (a .len) (base (c .before .before .before .before .before) m h k) _ (c .before .before .access .ensures _ (tree-held t))
+returns c = λ m n f k.
+    let lies = c .before .before .before .before .before in
+    let a = lies .before .before .before .args in
+    let t = lent lies m n f k in
+    access-visited t (accessKind (a .kind)) (a .node) (a .addr) (a .len) (base lies m n f k) _ (c .before .before .access .ensures _ (tree-held t))
 
 pub access-tree-spec : {M : Type 1} → statement M
 access-tree-spec =
     tie.close
     (tie.spec
-    allocation-at-requires
-    parts-at-requires
+    parts-of-requires
     sub-from
     mul-access
     sub-access
