@@ -991,7 +991,7 @@ unsafe fn retag(has: bool, a: u32, n: u32, addr: u64, extra: u32, fourth: u32, r
     Ptr(a, new as u32)
 }
 
-/// An entry of a frame that ends. No run has a release that is refused; one would end the process.
+/// An entry of a frame that ends. No run is known in which this is refused; it would end the process.
 unsafe fn release(a: usize, n: usize) {
     let al = &mut *ALLOCS.as_mut_ptr().add(a);
     let size = al.size as usize;
@@ -1317,7 +1317,7 @@ struct Cursor {
     ix: Index,
 }
 
-/// Loads and stores of at most 8 bytes that change no code, and calls without entries; up to the first other request.
+/// Loads, and stores of at most 8 bytes, that are known to change no code; calls without entries; dereference tests. Up to the first other request.
 #[inline(never)]
 unsafe fn quick(c: &mut Cursor) {
     let (mut p, mut o, fast) = (c.p, c.o, c.fast);
