@@ -1,89 +1,12 @@
 // Requests in a run, the port beside the Rust: each row is a run whose last requests are measured. The port makes them in `run_list`, through the
 // archive of the proved library; the Rust in `oracle --time`, from the same memory. Usage: requests ORACLE [ROW..]
+mod list;
+use list::Reference::Mutable;
+use list::{Lent, List, allocate, end_call, load, new_call, retag, start, store, trees};
 use std::hint::black_box;
 use std::io::Write;
 use std::process::{Command, Stdio};
 use std::time::Instant;
-use tree_borrows::Buffers;
-use tree_borrows::raw::{FRAMES, ListReply};
-
-/// The buffers of a run.
-struct Lent {
-    memory: Buffers,
-    frames: Vec<u32>,
-    answers: Vec<u32>,
-}
-
-impl Lent {
-    fn new() -> Lent {
-        Lent { memory: Buffers::new(), frames: vec![0; FRAMES], answers: vec![0; 1 << 22] }
-    }
-
-    fn run(&mut self, list: &List) -> ListReply {
-        self.memory.run_list(&mut self.frames, &list.words, &list.ends, &mut self.answers)
-    }
-
-    /// Some answer of the last list is a refusal.
-    fn refused(&self, list: &List) -> bool {
-        let mut at = 0;
-        list.ends.iter().any(|_| {
-            let refusal = self.answers[at];
-            at += 5 + self.answers[at + 4] as usize;
-            refusal != 0
-        })
-    }
-}
-
-/// Requests by their words, and where each ends.
-#[derive(Clone, Default)]
-struct List {
-    words: Vec<u32>,
-    ends: Vec<u32>,
-}
-
-impl List {
-    fn add(&mut self, request: &[u32]) {
-        self.words.extend(request);
-        self.ends.push(self.words.len() as u32);
-    }
-}
-
-/// The address of an allocation.
-fn address(allocation: u32) -> u32 {
-    0x1000 * (allocation + 1)
-}
-
-fn through(kind: u32, allocation: u32, node: u32, extra: u32) -> u32 {
-    kind << 28 | allocation << 21 | node << 9 | 1 << 8 | extra
-}
-
-/// A mutable borrow of so many bytes, protected in a frame or not.
-fn retag(allocation: u32, node: u32, bytes: u32, frame: Option<u32>) -> Vec<u32> {
-    let entry = frame.map_or(0, |frame| 1 << 31 | frame << 23);
-    vec![through(4, allocation, node, 1), 0, address(allocation), entry | 0x6000_0002, 0, bytes]
-}
-
-fn load(node: u32, bytes: u32) -> Vec<u32> {
-    vec![through(2, 0, node, 0), 0, address(0), bytes]
-}
-
-fn store(allocation: u32, node: u32, bytes: u32) -> Vec<u32> {
-    let mut request = vec![through(3, allocation, node, 0), 0, address(allocation), bytes];
-    request.resize(4 + bytes as usize, 0x8000_0007);
-    request
-}
-
-/// Allocations of so many bytes with so many nodes: each a child of the root, or of the one before it.
-fn trees(allocations: u32, bytes: u32, nodes: u32, chain: bool) -> List {
-    let mut list = List::default();
-    for a in 0..allocations {
-        list.add(&[1, 0, address(a), bytes]);
-        for n in 1..nodes {
-            list.add(&retag(a, if chain { n - 1 } else { 0 }, 0, None));
-        }
-    }
-    list
-}
 
 struct Row {
     name: String,
@@ -102,13 +25,16 @@ fn rows() -> Vec<Row> {
             }
             let shape = if nodes == 1 { "" } else if chain { ", a chain" } else { ", children of the root" };
             let last = nodes - 1;
-            for (kind, request) in [("load", load(last, bytes)), ("store", store(0, last, bytes))] {
+            for (kind, request) in [("load", load(start(0, last), bytes)), ("store", store(start(0, last), bytes))] {
                 let name = format!("{kind} of {bytes} bytes, {nodes} nodes{shape}");
                 rows.push(Row { name, before: trees(1, bytes, nodes, chain), requests: vec![request; 200] });
             }
             rows.extend(first_stores(bytes, nodes, chain, shape));
             rows.push(retags(bytes, nodes, chain, shape));
         }
+    }
+    for (allocation, nodes) in [(0, 1), (63, 1), (127, 1), (127, 3)] {
+        rows.extend(one_of_many(allocation, nodes));
     }
     for (entries, bytes) in [(0, 1), (1, 1), (1, 64), (8, 64), (64, 64), (7, 4096)] {
         rows.push(end_calls(entries, bytes));
@@ -119,7 +45,7 @@ fn rows() -> Vec<Row> {
 /// The rows above repeat an access, and after the first time it changes no code. Here each is the first of its allocation.
 fn first_stores(bytes: u32, nodes: u32, chain: bool, shape: &str) -> Option<Row> {
     let allocations = if nodes == 1024 { return None } else { (4096 / bytes).min(32768 / (bytes * nodes)).min(16) };
-    let requests = (0..allocations).map(|a| store(a, nodes - 1, bytes)).collect();
+    let requests = (0..allocations).map(|a| store(start(a, nodes - 1), bytes)).collect();
     let name = format!("first store of {bytes} bytes, {nodes} nodes{shape}{}", among(allocations));
     Some(Row { name, before: trees(allocations, bytes, nodes, chain), requests })
 }
@@ -136,9 +62,22 @@ fn retags(bytes: u32, nodes: u32, chain: bool, shape: &str) -> Row {
         (4096, _) => (1, nodes, 1),
         _ => (16, nodes, 1),
     };
-    let requests = (0..allocations).flat_map(|a| vec![retag(a, nodes - 1, bytes, None); times]).collect();
+    let requests = (0..allocations).flat_map(|a| vec![retag(Mutable, start(a, nodes - 1), bytes, None); times]).collect();
     let name = format!("retag of {bytes} bytes, {nodes} nodes{shape}{}", among(allocations));
     Row { name, before: trees(allocations, bytes, nodes, chain), requests }
+}
+
+/// Requests of 8 bytes in one of 128 allocations, all of so many nodes: what it costs to find the allocation's parts. A retag adds a node, so it
+/// is repeated a few times only.
+fn one_of_many(allocation: u32, nodes: u32) -> Vec<Row> {
+    let place = start(allocation, nodes - 1);
+    let kinds = [("load", load(place, 8), 200), ("store", store(place, 8), 200), ("retag", retag(Mutable, place, 8, None), 4)];
+    let row = |(kind, request, times)| Row {
+        name: format!("{kind} of 8 bytes through allocation {allocation} of 128, {nodes} nodes"),
+        before: trees(128, 8, nodes, false),
+        requests: vec![request; times],
+    };
+    kinds.map(row).into()
 }
 
 /// A frame for each of several allocations, all of whose nodes but the root it protects.
@@ -150,13 +89,13 @@ fn end_calls(entries: u32, bytes: u32) -> Row {
     };
     let mut before = List::default();
     for f in 0..frames {
-        before.add(&[1, 0, address(f), bytes]);
-        before.add(&[5 << 28, 0, 0, f]);
+        before.add(&allocate(f, bytes));
+        before.add(&new_call(f));
         for _ in 0..entries {
-            before.add(&retag(f, 0, bytes, Some(f)));
+            before.add(&retag(Mutable, start(f, 0), bytes, Some(f)));
         }
     }
-    let requests = (0..frames).map(|f| vec![6 << 28, 0, 0, f]).collect();
+    let requests = (0..frames).map(end_call).collect();
     Row { name: format!("end call of {entries} entries, {bytes} bytes{}", among(frames)), before, requests }
 }
 
@@ -174,7 +113,7 @@ fn port(lent: &mut Lent, row: &Row) -> f64 {
     for request in &row.requests {
         with.add(request);
     }
-    assert!(lent.run(&with).whole == 1 && !lent.refused(&with), "{}: refused", row.name);
+    assert!(lent.run(&with).whole == 1 && lent.refusals(&with).iter().all(|&refusal| refusal == 0), "{}: refused", row.name);
     let rounds = (50_000_000.0 / time(lent, &with)).clamp(20.0, 10_000.0) as usize;
     let mut added: Vec<f64> = (0..rounds).map(|_| time(lent, &with) - time(lent, &row.before)).collect();
     added.sort_by(f64::total_cmp);
@@ -199,7 +138,7 @@ fn rust(oracle: &str, row: &Row) -> f64 {
     for request in &row.requests {
         list.add(request);
     }
-    let bytes: Vec<u8> = list.words.iter().flat_map(|w| w.to_be_bytes()).collect();
+    let bytes = list.bytes();
     let ask = |times: u32| asked(Command::new(oracle).args(["--time", &times.to_string()]), &bytes);
     ask((50_000_000.0 / ask(3).max(1.0)).clamp(3.0, 200_000.0) as u32)
 }
@@ -211,7 +150,7 @@ fn main() {
     let mut rows = rows();
     if oracle == "--port" {
         let row = rows.iter().find(|row| row.name == wanted[0]).expect("a row");
-        println!("{}", port(&mut Lent::new(), row));
+        println!("{}", port(&mut Lent::new(1 << 22), row));
         return;
     }
     rows.retain(|row| wanted.is_empty() || wanted.iter().any(|w| row.name.contains(w.as_str())));
