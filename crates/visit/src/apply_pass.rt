@@ -58,6 +58,11 @@ pub fn apply(parents: &[u16], codes: &mut [u8], starts: &[u8], v: Reach)
         apply_planned(&mut scratch, parents, codes, starts, v);
         return;
     }
+    if parents.len() <= 128 {
+        let mut scratch = [0u16; 384];
+        apply_planned(&mut scratch, parents, codes, starts, v);
+        return;
+    }
     let mut scratch = [0u16; 3072];
     apply_planned(&mut scratch, parents, codes, starts, v);
 }

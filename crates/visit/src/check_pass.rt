@@ -65,13 +65,17 @@ fn check_planned(
     check_from(&scratch[..size], codes, starts, v, 0)
 }
 
-// What a visit comes to. The plan of a small tree does without the long array.
+// What a visit comes to. The plan of a smaller tree does with a shorter array.
 pub fn check(parents: &[u16], codes: &[u8], starts: &[u8], v: Reach) -> Answer
     requires { ⌜ Ready v (now parents) (now codes) × (0 < v .spared) ⌝ }
     ensures { λ r. ⌜ ToldOf v (now (parents .entry)) (now (starts .entry)) (now (codes .entry)) (subtree (v .spared) 0 (now (parents .entry))) r ⌝ }
 {
     if parents.len() <= 16 {
         let mut scratch = [0u16; 48];
+        return check_planned(&mut scratch, parents, codes, starts, v);
+    }
+    if parents.len() <= 128 {
+        let mut scratch = [0u16; 384];
         return check_planned(&mut scratch, parents, codes, starts, v);
     }
     let mut scratch = [0u16; 3072];

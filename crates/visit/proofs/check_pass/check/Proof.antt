@@ -1,4 +1,4 @@
--- Either array is zeros, and long enough.
+-- Each array is zeros, and long enough.
 use native.Mathlib.Omega.{arith}
 use borrow.Author.Needs.{needs}
 use Rattle.visit.proofs.Plans.{zeros}
@@ -18,10 +18,19 @@ slice-aggregate-check-planned-2 : tie.Need-slice-aggregate-check-planned-2
 slice-aggregate-check-planned-2 c = search needs
 
 check-planned-requires-2 : tie.Need-check-planned-requires-2
-check-planned-requires-2 c κs = let s = c .before .before .before .before .before in ((zeros 3072, omega (arith, s .pre .0 .few)), s .pre)
+check-planned-requires-2 c κs = let s = c .before .before .before .before .before .before in ((zeros 384, omega arith), s .pre)
 
 returns-2 : tie.Need-returns-2
 returns-2 c = search needs
+
+slice-aggregate-check-planned-3 : tie.Need-slice-aggregate-check-planned-3
+slice-aggregate-check-planned-3 c = search needs
+
+check-planned-requires-3 : tie.Need-check-planned-requires-3
+check-planned-requires-3 c κs = let s = c .before .before .before .before .before .before in ((zeros 3072, omega (arith, s .pre .0 .few)), s .pre)
+
+returns-3 : tie.Need-returns-3
+returns-3 c = search needs
 
 pub check-spec : {M : Type 1} → statement M
 check-spec =
@@ -32,4 +41,7 @@ check-spec =
     returns
     slice-aggregate-check-planned-2
     check-planned-requires-2
-    returns-2)
+    returns-2
+    slice-aggregate-check-planned-3
+    check-planned-requires-3
+    returns-3)
