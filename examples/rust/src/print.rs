@@ -25,12 +25,11 @@ fn codes(codes: &[u8]) -> String {
 impl fmt::Display for Memory {
     fn fmt(&self, f: &mut fmt::Formatter) -> fmt::Result {
         let b = self.buffers();
-        // where the next allocation's parts start
-        let (mut first_word, mut first_node, mut first_code) = (0, 0, 0);
-        let made = b.allocs.chunks_exact(6).take_while(|record| record[0] != 0);
+        let made = b.allocs.chunks_exact(9).take_while(|record| record[0] != 0);
         for (number, record) in made.enumerate() {
-            let &[state, kind, exponent, address, size, nodes] = record else { unreachable!() };
+            let &[state, kind, exponent, address, size, nodes, first_word, first_node, first_code] = record else { unreachable!() };
             let (size, nodes) = (size as usize, nodes as usize);
+            let (first_word, first_node, first_code) = (first_word as usize, first_node as usize, first_code as usize);
             let live = if state == 1 { "live" } else { "dead" };
             writeln!(f, "a {number} {live} {} {address} {size} {exponent}", KINDS[kind as usize])?;
             writeln!(f, "d {number} {}", words(&b.words[first_word..first_word + size]))?;
@@ -40,8 +39,6 @@ impl fmt::Display for Memory {
                 let row = first_code + node * size;
                 writeln!(f, "n {number} {node} {parent} {protector} {}", codes(&b.codes[row..row + size]))?;
             }
-            (first_word, first_node) = (first_word + size, first_node + nodes);
-            first_code += nodes * size;
         }
         Ok(())
     }
