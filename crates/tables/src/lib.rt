@@ -80,7 +80,7 @@ pub fn made_count(allocs: &[u64]) -> usize
     i
 }
 
-// Of allocation a, which may be the next one to be made: where those of the one before it end.
+// Where the parts of allocation a start, which may be the next one to be made: where those of the one before it end.
 pub fn starts_at(allocs: &[u64], a: usize) -> Starts
     requires { ⌜ ((m : Memory) × (Records m (now allocs) × (a ≤ length m))) ⌝ }
     ensures { λ r. ⌜ ((m : Memory) → Records m (now (allocs .entry)) → StartsAt m a (r .words) (r .nodes) (r .codes)) ⌝ }
@@ -325,7 +325,7 @@ pub fn append_allocation(
 }
 
 // The nodes of allocation k and of those behind it start one later, and their codes `width` later: a node was put in before them.
-pub fn move_starts(allocs: &mut [u64], k: usize, width: usize)
+fn move_starts(allocs: &mut [u64], k: usize, width: usize)
     requires { ⌜ ((l : List ℕ) × ((p : Place) × ((m : Memory) × ((z : ℕ) × RecordsBehind k l p m z width (now allocs))))) ⌝ }
     ensures { λ _. ⌜ ((l : List ℕ) (p : Place) (m : Memory) (z : ℕ) → RecordsBehind k l p m z width (now (allocs .entry))
         → now (allocs .exit) ≡ l ++ (recordsFrom (movedPlace width p) m ++ replicate z 0)) ⌝ }
