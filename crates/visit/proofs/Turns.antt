@@ -1,11 +1,12 @@
 -- One turn of a pass, at node m, by the numbers of the plan: the node, and then its first child or its next sibling.
 use Prim.Native.Nat.{ℕ, _+_, _-_, _*_, _≤_, _<_}
-use mathlib.Core.Path.{_≡_, refl, ap, subst, _∙_}
+use mathlib.Core.Path.{_≡_, refl, sym, ap, subst, _∙_}
 use mathlib.Core.Bool.{Bool, true}
 use mathlib.Core.List.{List}
 use native.Mathlib.Nat.{le-refl}
 use native.Mathlib.Omega.{arith}
-use lib.ListN.{length, getD, drop}
+use lib.ListN.{length, getD, take, drop}
+use lib.Seq.{take-length}
 use Rattle.definition.specs.Permission.{NodeRelation}
 use Rattle.definition.specs.Tree.{relation}
 use Rattle.visit.specs.declared.Answer.{Answer}
@@ -17,6 +18,10 @@ use Rattle.visit.proofs.Places.{row-in, ready-again, told-node}
 use Rattle.visit.proofs.Plans.{in-plan}
 use Rattle.visit.proofs.Children as children
 use Rattle.visit.proofs.Children.{Goes, Noted, note-stays, note-changes, child-later, sibling-later}
+
+-- the whole plan, as the part that is handed on, is as long
+pub as-long : (plan : List ℕ) → length plan ≡ length (take (length plan) plan)
+as-long plan = sym (ap length (take-length plan))
 
 -- a pass that went on from `first` is at m, which is visited
 pub record At (v : Reach) (ps : List ℕ) (first m : ℕ) : Type 0 where
@@ -51,11 +56,12 @@ module _ {v : Reach} {ps plan codes : List ℕ} {first m : ℕ} (p : VisitFrom v
       let l = sibling-later (v .spared) ps m sibling (sibling-is sibling b) q in
       (l .0, record { inside = l .1; visited = l .2; later = omega (arith, l .0, at .later) })
 
-  -- a visit of the child can be made, on a table of the same length
-  pub from-child : (child : ℕ) → child ≡ getD plan (3 * m) 0 → (child ≡ 0 → ⊥) → (codes′ : List ℕ) → length codes′ ≡ length codes → VisitFrom v ps plan codes′ child
+  -- a visit of the child can be made with the plan that is handed on, on a table of the same length
+  pub from-child : (child : ℕ) → child ≡ getD plan (3 * m) 0 → (child ≡ 0 → ⊥) → (codes′ : List ℕ) → length codes′ ≡ length codes → VisitFrom v ps (take (length plan) plan) codes′ child
   from-child child c q codes′ e =
       let next = at-child child c q .1 in
-      record { planned = p .planned; ready = ready-again v ps codes codes′ e (p .ready); inside = next .inside; visited = next .visited }
+      subst (λ (l : List ℕ). VisitFrom v ps l codes′ child) (sym (take-length plan))
+      (record { planned = p .planned; ready = ready-again v ps codes codes′ e (p .ready); inside = next .inside; visited = next .visited })
 
   relation-here : (r : NodeRelation) → r ≡ marked plan m → r ≡ relation ps m (v .node)
   relation-here r e = e ∙ p .planned .marks m (at .inside)

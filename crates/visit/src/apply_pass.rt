@@ -18,6 +18,7 @@ fn apply_from(plan: &[u16], codes: &mut [u8], starts: &[u8], v: Reach, first: us
     ensures { λ _. ⌜ ((ps : List ℕ) → VisitFrom v ps (now (plan .entry)) (now (codes .entry)) first
         → now (codes .exit) ≡ walkAfter v ps (now (starts .entry)) (nodesFrom (v .spared) ps first) (now (codes .entry))) ⌝ }
 {
+    let size = plan.len();
     let mut m = first;
     loop {
         apply_at(codes, starts, v, m, relation(plan, m));
@@ -30,7 +31,7 @@ fn apply_from(plan: &[u16], codes: &mut [u8], starts: &[u8], v: Reach, first: us
             m = child;
         } else {
             if child != 0 {
-                apply_from(plan, codes, starts, v, child);
+                apply_from(&plan[..size], codes, starts, v, child);
             }
             m = sibling;
         }

@@ -14,12 +14,14 @@ ghost use Rattle.visit.specs.Walk.{Ready, ToldOf, nodesFrom, subtree};
 ghost use Rattle.visit.specs.Plan.{VisitFrom, Zeros};
 
 // At a node, its descendants, and the siblings made after it with theirs. Children come in the order they were made; of a last sibling, its children
-// are what is left, so that a chain needs no stack. The number of later nodes falls.
+// are what is left, so that a chain needs no stack. The number of later nodes falls. The plan is handed on as a part of itself: a slice
+// that is handed on whole is copied as one, and the copy waits for its address and its length to be written.
 fn check_from(plan: &[u16], codes: &[u8], starts: &[u8], v: Reach, first: usize) -> Answer
     requires { ⌜ ((ps : List ℕ) × VisitFrom v ps (now plan) (now codes) first) ⌝ }
     ensures { λ r. ⌜ ((ps : List ℕ) → VisitFrom v ps (now (plan .entry)) (now (codes .entry)) first
         → ToldOf v ps (now (starts .entry)) (now (codes .entry)) (nodesFrom (v .spared) ps first) r) ⌝ }
 {
+    let size = plan.len();
     let mut changes = false;
     let mut m = first;
     loop {
@@ -37,7 +39,7 @@ fn check_from(plan: &[u16], codes: &[u8], starts: &[u8], v: Reach, first: usize)
             m = child;
         } else {
             if child != 0 {
-                match check_from(plan, codes, starts, v, child) {
+                match check_from(&plan[..size], codes, starts, v, child) {
                     Answer::Stays => {}
                     Answer::Changes => changes = true,
                     Answer::Refused(n) => return Answer::Refused(n),

@@ -2,7 +2,7 @@
 use Prim.Native.Nat.{ℕ, _-_, _*_, _<_}
 use mathlib.Core.Path.{_≡_, refl, subst, _∙_}
 use lib.ListN.{length}
-use Rattle.visit.proofs.Turns.{fewer, Applying, at-first, planned-here, row-here, at-child, at-sibling, from-child, still, changed-last, changed-child, changed-leaf, changed-below}
+use Rattle.visit.proofs.Turns.{fewer, as-long, Applying, at-first, planned-here, row-here, at-child, at-sibling, from-child, still, changed-last, changed-child, changed-leaf, changed-below}
 use borrow.Author.Needs.{needs}
 use native.Mathlib.Omega.{arith}
 use borrow.Fn.Kinds.{In}
@@ -29,11 +29,11 @@ apply-from-below t =
     and 3 apply-from-kinds.ps (falls 3 apply-from-kinds.ps _<_ μ-apply-from t) apply-from.Pre
 
 abbrev apply-from-Inv-loop : apply-from-lts.InvT-loop
-apply-from-Inv-loop plan codes₀ starts v first m₀ codes m =
+apply-from-Inv-loop plan codes₀ starts v first size m₀ codes m =
     Applying plan codes₀ starts v first m codes × (length codes ≡ length codes₀)
 
 abbrev apply-from-μ-loop : apply-from-lts.MeasureT-loop
-apply-from-μ-loop plan codes₀ starts v first m₀ codes m = length plan - 3 * m
+apply-from-μ-loop plan codes₀ starts v first size m₀ codes m = length plan - 3 * m
 
 apply-from-loop-holds : (t : ℕ) → apply-from-lts.Need-loop-holds (
   relation-reads.Asked,
@@ -210,6 +210,25 @@ apply-from-loop-again t c =
       changed .apply-at .kept .0 ∙ l .loop .inv .1,
     )
 
+apply-from-slice-aggregate-apply-from : (t : ℕ) → apply-from-lts.Need-slice-aggregate-apply-from (
+  relation-reads.Asked,
+  relation-reads.Learnt,
+  apply-at-reads.Asked,
+  apply-at-reads.Learnt,
+  first-child-reads.Asked,
+  first-child-reads.Learnt,
+  next-sibling-reads.Asked,
+  next-sibling-reads.Learnt,
+  apply-from-below t,
+  apply-from.Post,
+) (apply-from-at t) apply-from.Post apply-from-Inv-loop apply-from-μ-loop
+apply-from-slice-aggregate-apply-from t c =
+    let sibling = c .before .before .before in
+    let changed = sibling .before .before .before .before in
+    let l = changed .before .before .before in
+    let s = l .before .before .before .before in
+    as-long (s .args .plan .now)
+
 apply-from-apply-from-requires : (t : ℕ) → apply-from-lts.Need-apply-from-requires (
   relation-reads.Asked,
   relation-reads.Learnt,
@@ -223,15 +242,15 @@ apply-from-apply-from-requires : (t : ℕ) → apply-from-lts.Need-apply-from-re
   apply-from.Post,
 ) (apply-from-at t) apply-from.Post apply-from-Inv-loop apply-from-μ-loop
 apply-from-apply-from-requires t c κs =
-    let sibling = c .before .before .before in
+    let sibling = c .before .before .before .before in
     let child = sibling .before in
     let changed = child .before .before .before in
     let related = changed .before in
     let l = related .before .before in
     let s = l .before .before .before .before in
     let q = s .pre .1 in let i₀ = l .loop .inv .0 (q .0) (q .1) in
-    let below = at-child (q .1) (i₀ .0) (child .first-child .result) (child .first-child .ensures) (c .before .if3 .taken) in
-    (subst (λ (k : ℕ). length (s .args .plan .now) - 3 * child .first-child .result < k) (s .pre .0) (fewer (length (s .args .plan .now)) (s .args .first) (l .loop .m) (child .first-child .result) (i₀ .0 .later) (below .0) (planned-here (q .1) (i₀ .0) .0)), (q .0, from-child (q .1) (i₀ .0) (child .first-child .result) (child .first-child .ensures) (c .before .if3 .taken) _ (changed .apply-at .kept .0 ∙ l .loop .inv .1)))
+    let below = at-child (q .1) (i₀ .0) (child .first-child .result) (child .first-child .ensures) (c .before .before .if3 .taken) in
+    (subst (λ (n : ℕ). n - 3 * child .first-child .result < t) (as-long (s .args .plan .now)) (subst (λ (k : ℕ). length (s .args .plan .now) - 3 * child .first-child .result < k) (s .pre .0) (fewer (length (s .args .plan .now)) (s .args .first) (l .loop .m) (child .first-child .result) (i₀ .0 .later) (below .0) (planned-here (q .1) (i₀ .0) .0))), (q .0, from-child (q .1) (i₀ .0) (child .first-child .result) (child .first-child .ensures) (c .before .before .if3 .taken) _ (changed .apply-at .kept .0 ∙ l .loop .inv .1)))
 
 apply-from-loop-less-2 : (t : ℕ) → apply-from-lts.Need-loop-less-2 (
   relation-reads.Asked,
@@ -246,14 +265,15 @@ apply-from-loop-less-2 : (t : ℕ) → apply-from-lts.Need-loop-less-2 (
   apply-from.Post,
 ) (apply-from-at t) apply-from.Post apply-from-Inv-loop apply-from-μ-loop
 apply-from-loop-less-2 t c =
-    let sibling = c .before .before .before .before .before .before in
+    let called = c .before .before in
+    let sibling = called .before .before .before .before .before in
     let child = sibling .before in
     let changed = child .before .before .before in
     let related = changed .before in
     let l = related .before .before in
     let s = l .before .before .before .before in
     let q = s .pre .1 in let i₀ = l .loop .inv .0 (q .0) (q .1) in
-    omega (arith, at-sibling (q .1) (i₀ .0) (sibling .next-sibling .result) (sibling .next-sibling .ensures) (c .before .before .before .before .before .if1 .left) .0, planned-here (q .1) (i₀ .0) .0)
+    omega (arith, at-sibling (q .1) (i₀ .0) (sibling .next-sibling .result) (sibling .next-sibling .ensures) (called .before .before .before .before .if1 .left) .0, planned-here (q .1) (i₀ .0) .0)
 
 apply-from-loop-again-2 : (t : ℕ) → apply-from-lts.Need-loop-again-2 (
   relation-reads.Asked,
@@ -268,16 +288,17 @@ apply-from-loop-again-2 : (t : ℕ) → apply-from-lts.Need-loop-again-2 (
   apply-from.Post,
 ) (apply-from-at t) apply-from.Post apply-from-Inv-loop apply-from-μ-loop
 apply-from-loop-again-2 t c =
-    let sibling = c .before .before .before .before .before .before in
+    let called = c .before .before in
+    let sibling = called .before .before .before .before .before in
     let child = sibling .before in
     let changed = child .before .before .before in
     let related = changed .before in
     let l = related .before .before in
     let s = l .before .before .before .before in
-    let below = c .before .before .apply-from in (
+    let below = called .apply-from in (
       λ ps p. let i = l .loop .inv .0 ps p in
-          let down = from-child p (i .0) (child .first-child .result) (child .first-child .ensures) (c .before .before .before .before .if3 .taken) _ (changed .apply-at .kept .0 ∙ l .loop .inv .1) in
-          (at-sibling p (i .0) (sibling .next-sibling .result) (sibling .next-sibling .ensures) (c .before .before .before .before .before .if1 .left) .1, changed-below (still (l .loop .inv .1) p) (i .0) (s .args .starts .now) _ (related .relation .ensures) _ (changed .apply-at .ensures) (child .first-child .result) (sibling .next-sibling .result) (child .first-child .ensures) (sibling .next-sibling .ensures) (c .before .before .before .before .before .if1 .left) (c .before .before .before .before .if3 .taken) _ (below .ensures ps down) ∙ i .1),
+          let down = from-child p (i .0) (child .first-child .result) (child .first-child .ensures) (called .before .before .before .if3 .taken) _ (changed .apply-at .kept .0 ∙ l .loop .inv .1) in
+          (at-sibling p (i .0) (sibling .next-sibling .result) (sibling .next-sibling .ensures) (called .before .before .before .before .if1 .left) .1, changed-below (still (l .loop .inv .1) p) (i .0) (s .args .starts .now) _ (related .relation .ensures) _ (changed .apply-at .ensures) (child .first-child .result) (sibling .next-sibling .result) (child .first-child .ensures) (sibling .next-sibling .ensures) (called .before .before .before .before .if1 .left) (called .before .before .before .if3 .taken) _ (below .ensures ps down) ∙ i .1),
       below .kept .1 .0 ∙ changed .apply-at .kept .0 ∙ l .loop .inv .1,
     )
 
@@ -353,6 +374,7 @@ pub +apply-from-spec : {M : Type 1} → statement M
     (apply-from-returns t)
     (apply-from-loop-less t)
     (apply-from-loop-again t)
+    (apply-from-slice-aggregate-apply-from t)
     (apply-from-apply-from-requires t)
     (apply-from-loop-less-2 t)
     (apply-from-loop-again-2 t)

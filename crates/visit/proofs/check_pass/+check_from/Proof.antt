@@ -4,7 +4,7 @@ use mathlib.Core.Path.{refl, subst, subst⁻¹}
 use mathlib.Core.Logic.{⊎-elim}
 use lib.ListN.{length}
 use Rattle.visit.specs.Walk.{ToldOf, nodesFrom}
-use Rattle.visit.proofs.Turns.{fewer, Checking, at-first, planned-here, row-here, at-child, at-sibling, from-child, refused-here, Seen, seen-stays, seen-changes, nothing-left, child-left, sibling-left, refused-below, past-stays, past-changes}
+use Rattle.visit.proofs.Turns.{fewer, as-long, Checking, at-first, planned-here, row-here, at-child, at-sibling, from-child, refused-here, Seen, seen-stays, seen-changes, nothing-left, child-left, sibling-left, refused-below, past-stays, past-changes}
 use borrow.Author.Needs.{needs}
 use native.Mathlib.Omega.{arith}
 use borrow.Fn.Kinds.{In}
@@ -32,11 +32,11 @@ check-from-below t =
     and 3 check-from-kinds.ps (falls 3 check-from-kinds.ps _<_ μ-check-from t) check-from.Pre
 
 abbrev check-from-Inv-loop : check-from-lts.InvT-loop
-check-from-Inv-loop plan codes starts v first changes₀ m₀ changes m =
+check-from-Inv-loop plan codes starts v first size changes₀ m₀ changes m =
     Checking plan codes starts v first m changes
 
 abbrev check-from-μ-loop : check-from-lts.MeasureT-loop
-check-from-μ-loop plan codes starts v first changes₀ m₀ changes m = length plan - 3 * m
+check-from-μ-loop plan codes starts v first size changes₀ m₀ changes m = length plan - 3 * m
 
 check-from-loop-holds : (t : ℕ) → check-from-lts.Need-loop-holds (
   relation-reads.Asked,
@@ -301,6 +301,27 @@ check-from-loop-again t c =
     (came .match .came) in
     (at-child p (i .0) (child .first-child .result) (child .first-child .ensures) (c .if2 .left) .1, child-left p (i .0) (s .args .starts .now) (l .loop .changes) (i .1) _ (related .relation .ensures) (checked .check-at .result) (checked .check-at .ensures) (came .match .changes) seen (child .first-child .result) (sibling .next-sibling .result) (child .first-child .ensures) (sibling .next-sibling .ensures) (c .before .if1 .taken) (c .if2 .left))
 
+check-from-slice-aggregate-check-from : (t : ℕ) → check-from-lts.Need-slice-aggregate-check-from (
+  relation-reads.Asked,
+  relation-reads.Learnt,
+  check-at-reads.Asked,
+  check-at-reads.Learnt,
+  first-child-reads.Asked,
+  first-child-reads.Learnt,
+  next-sibling-reads.Asked,
+  next-sibling-reads.Learnt,
+  unrefused-reads.Asked,
+  unrefused-reads.Learnt,
+  check-from-below t,
+  check-from.Post,
+) (check-from-at t) check-from.Post check-from-Inv-loop check-from-μ-loop
+check-from-slice-aggregate-check-from t c =
+    let sibling = c .before .before .before in
+    let checked = sibling .before .before .before in
+    let l = checked .before .before in
+    let s = l .before .before .before .before in
+    as-long (s .args .plan .now)
+
 check-from-check-from-requires : (t : ℕ) → check-from-lts.Need-check-from-requires (
   relation-reads.Asked,
   relation-reads.Learnt,
@@ -316,7 +337,7 @@ check-from-check-from-requires : (t : ℕ) → check-from-lts.Need-check-from-re
   check-from.Post,
 ) (check-from-at t) check-from.Post check-from-Inv-loop check-from-μ-loop
 check-from-check-from-requires t c κs =
-    let sibling = c .before .before in
+    let sibling = c .before .before .before in
     let child = sibling .before in
     let came = child .before in
     let checked = came .before in
@@ -324,8 +345,8 @@ check-from-check-from-requires t c κs =
     let l = related .before in
     let s = l .before .before .before .before in
     let q = s .pre .1 in let i₀ = l .loop .inv (q .0) (q .1) in
-    let below = at-child (q .1) (i₀ .0) (child .first-child .result) (child .first-child .ensures) (c .if3 .taken) in
-    (subst (λ (k : ℕ). length (s .args .plan .now) - 3 * child .first-child .result < k) (s .pre .0) (fewer (length (s .args .plan .now)) (s .args .first) (l .loop .m) (child .first-child .result) (i₀ .0 .later) (below .0) (planned-here (q .1) (i₀ .0) .0)), (q .0, from-child (q .1) (i₀ .0) (child .first-child .result) (child .first-child .ensures) (c .if3 .taken) _ refl))
+    let below = at-child (q .1) (i₀ .0) (child .first-child .result) (child .first-child .ensures) (c .before .if3 .taken) in
+    (subst (λ (n : ℕ). n - 3 * child .first-child .result < t) (as-long (s .args .plan .now)) (subst (λ (k : ℕ). length (s .args .plan .now) - 3 * child .first-child .result < k) (s .pre .0) (fewer (length (s .args .plan .now)) (s .args .first) (l .loop .m) (child .first-child .result) (i₀ .0 .later) (below .0) (planned-here (q .1) (i₀ .0) .0))), (q .0, from-child (q .1) (i₀ .0) (child .first-child .result) (child .first-child .ensures) (c .before .if3 .taken) _ refl))
 
 check-from-enum-told-3 : (t : ℕ) → check-from-lts.Need-enum-told-3 (
   relation-reads.Asked,
@@ -390,22 +411,23 @@ check-from-returns-3 : (t : ℕ) → check-from-lts.Need-returns-3 (
   check-from.Post,
 ) (check-from-at t) check-from.Post check-from-Inv-loop check-from-μ-loop
 check-from-returns-3 t c =
-    let sibling = c .before .before .before .before .before .before in
+    let called = c .before .before .before in
+    let sibling = called .before .before .before .before in
     let child = sibling .before in
     let came = child .before in
     let checked = came .before in
     let related = checked .before in
     let l = related .before in
     let s = l .before .before .before .before in
-    let below = c .before .before .before .check-from in
+    let below = called .check-from in
     λ ps p. let i = l .loop .inv ps p in
     let seen : Seen p (i .0) (s .args .starts .now) (l .loop .changes) (i .1) _ (related .relation .ensures) (checked .check-at .result) (checked .check-at .ensures) (came .match .changes) =
     ⊎-elim
     (λ w. seen-stays p (i .0) (s .args .starts .now) (l .loop .changes) (i .1) _ (related .relation .ensures) (checked .check-at .result) (checked .check-at .ensures) (came .match .changes) (w .1 .given .1) (w .2))
     (λ w. seen-changes p (i .0) (s .args .starts .now) (l .loop .changes) (i .1) _ (related .relation .ensures) (checked .check-at .result) (checked .check-at .ensures) (came .match .changes) (w .1 .given .1) (w .2))
     (came .match .came) in
-    let down = from-child p (i .0) (child .first-child .result) (child .first-child .ensures) (c .before .before .before .before .if3 .taken) _ refl in
-    refused-below p (i .0) (s .args .starts .now) (l .loop .changes) (i .1) _ (related .relation .ensures) (checked .check-at .result) (checked .check-at .ensures) (came .match .changes) seen (child .first-child .result) (sibling .next-sibling .result) (child .first-child .ensures) (sibling .next-sibling .ensures) (c .before .before .before .before .before .if1 .left) (c .before .before .before .before .if3 .taken) (below .result) (below .ensures ps down) _ (c .before .n2 .given .1)
+    let down = from-child p (i .0) (child .first-child .result) (child .first-child .ensures) (called .before .before .if3 .taken) _ refl in
+    refused-below p (i .0) (s .args .starts .now) (l .loop .changes) (i .1) _ (related .relation .ensures) (checked .check-at .result) (checked .check-at .ensures) (came .match .changes) seen (child .first-child .result) (sibling .next-sibling .result) (child .first-child .ensures) (sibling .next-sibling .ensures) (called .before .before .before .if1 .left) (called .before .before .if3 .taken) (below .result) (below .ensures ps down) _ (c .before .n2 .given .1)
 
 check-from-loop-less-2 : (t : ℕ) → check-from-lts.Need-loop-less-2 (
   relation-reads.Asked,
@@ -422,7 +444,7 @@ check-from-loop-less-2 : (t : ℕ) → check-from-lts.Need-loop-less-2 (
   check-from.Post,
 ) (check-from-at t) check-from.Post check-from-Inv-loop check-from-μ-loop
 check-from-loop-less-2 t c =
-    let sibling = c .before .before .before .before .before in
+    let sibling = c .before .before .before .before .before .before in
     let child = sibling .before in
     let came = child .before in
     let checked = came .before in
@@ -430,7 +452,7 @@ check-from-loop-less-2 t c =
     let l = related .before in
     let s = l .before .before .before .before in
     let q = s .pre .1 in let i₀ = l .loop .inv (q .0) (q .1) in
-    omega (arith, at-sibling (q .1) (i₀ .0) (sibling .next-sibling .result) (sibling .next-sibling .ensures) (c .before .before .before .before .if1 .left) .0, planned-here (q .1) (i₀ .0) .0)
+    omega (arith, at-sibling (q .1) (i₀ .0) (sibling .next-sibling .result) (sibling .next-sibling .ensures) (c .before .before .before .before .before .if1 .left) .0, planned-here (q .1) (i₀ .0) .0)
 
 check-from-loop-again-2 : (t : ℕ) → check-from-lts.Need-loop-again-2 (
   relation-reads.Asked,
@@ -447,7 +469,7 @@ check-from-loop-again-2 : (t : ℕ) → check-from-lts.Need-loop-again-2 (
   check-from.Post,
 ) (check-from-at t) check-from.Post check-from-Inv-loop check-from-μ-loop
 check-from-loop-again-2 t c =
-    let sibling = c .before .before .before .before .before in
+    let sibling = c .before .before .before .before .before .before in
     let child = sibling .before in
     let came = child .before in
     let checked = came .before in
@@ -461,8 +483,8 @@ check-from-loop-again-2 t c =
     (λ w. seen-stays p (i .0) (s .args .starts .now) (l .loop .changes) (i .1) _ (related .relation .ensures) (checked .check-at .result) (checked .check-at .ensures) (came .match .changes) (w .1 .given .1) (w .2))
     (λ w. seen-changes p (i .0) (s .args .starts .now) (l .loop .changes) (i .1) _ (related .relation .ensures) (checked .check-at .result) (checked .check-at .ensures) (came .match .changes) (w .1 .given .1) (w .2))
     (came .match .came) in
-    let down = from-child p (i .0) (child .first-child .result) (child .first-child .ensures) (c .before .before .before .if3 .taken) _ refl in
-    (at-sibling p (i .0) (sibling .next-sibling .result) (sibling .next-sibling .ensures) (c .before .before .before .before .if1 .left) .1, past-stays p (i .0) (s .args .starts .now) (l .loop .changes) (i .1) _ (related .relation .ensures) (checked .check-at .result) (checked .check-at .ensures) (came .match .changes) seen (child .first-child .result) (sibling .next-sibling .result) (child .first-child .ensures) (sibling .next-sibling .ensures) (c .before .before .before .before .if1 .left) (c .before .before .before .if3 .taken) (below .result) (below .ensures ps down) (c .enum-told3 .given .1))
+    let down = from-child p (i .0) (child .first-child .result) (child .first-child .ensures) (c .before .before .before .before .if3 .taken) _ refl in
+    (at-sibling p (i .0) (sibling .next-sibling .result) (sibling .next-sibling .ensures) (c .before .before .before .before .before .if1 .left) .1, past-stays p (i .0) (s .args .starts .now) (l .loop .changes) (i .1) _ (related .relation .ensures) (checked .check-at .result) (checked .check-at .ensures) (came .match .changes) seen (child .first-child .result) (sibling .next-sibling .result) (child .first-child .ensures) (sibling .next-sibling .ensures) (c .before .before .before .before .before .if1 .left) (c .before .before .before .before .if3 .taken) (below .result) (below .ensures ps down) (c .enum-told3 .given .1))
 
 check-from-loop-less-3 : (t : ℕ) → check-from-lts.Need-loop-less-3 (
   relation-reads.Asked,
@@ -479,7 +501,7 @@ check-from-loop-less-3 : (t : ℕ) → check-from-lts.Need-loop-less-3 (
   check-from.Post,
 ) (check-from-at t) check-from.Post check-from-Inv-loop check-from-μ-loop
 check-from-loop-less-3 t c =
-    let sibling = c .before .before .before .before .before in
+    let sibling = c .before .before .before .before .before .before in
     let child = sibling .before in
     let came = child .before in
     let checked = came .before in
@@ -487,7 +509,7 @@ check-from-loop-less-3 t c =
     let l = related .before in
     let s = l .before .before .before .before in
     let q = s .pre .1 in let i₀ = l .loop .inv (q .0) (q .1) in
-    omega (arith, at-sibling (q .1) (i₀ .0) (sibling .next-sibling .result) (sibling .next-sibling .ensures) (c .before .before .before .before .if1 .left) .0, planned-here (q .1) (i₀ .0) .0)
+    omega (arith, at-sibling (q .1) (i₀ .0) (sibling .next-sibling .result) (sibling .next-sibling .ensures) (c .before .before .before .before .before .if1 .left) .0, planned-here (q .1) (i₀ .0) .0)
 
 check-from-loop-again-3 : (t : ℕ) → check-from-lts.Need-loop-again-3 (
   relation-reads.Asked,
@@ -504,7 +526,7 @@ check-from-loop-again-3 : (t : ℕ) → check-from-lts.Need-loop-again-3 (
   check-from.Post,
 ) (check-from-at t) check-from.Post check-from-Inv-loop check-from-μ-loop
 check-from-loop-again-3 t c =
-    let sibling = c .before .before .before .before .before in
+    let sibling = c .before .before .before .before .before .before in
     let child = sibling .before in
     let came = child .before in
     let checked = came .before in
@@ -518,8 +540,8 @@ check-from-loop-again-3 t c =
     (λ w. seen-stays p (i .0) (s .args .starts .now) (l .loop .changes) (i .1) _ (related .relation .ensures) (checked .check-at .result) (checked .check-at .ensures) (came .match .changes) (w .1 .given .1) (w .2))
     (λ w. seen-changes p (i .0) (s .args .starts .now) (l .loop .changes) (i .1) _ (related .relation .ensures) (checked .check-at .result) (checked .check-at .ensures) (came .match .changes) (w .1 .given .1) (w .2))
     (came .match .came) in
-    let down = from-child p (i .0) (child .first-child .result) (child .first-child .ensures) (c .before .before .before .if3 .taken) _ refl in
-    (at-sibling p (i .0) (sibling .next-sibling .result) (sibling .next-sibling .ensures) (c .before .before .before .before .if1 .left) .1, past-changes p (i .0) (s .args .starts .now) (l .loop .changes) (i .1) _ (related .relation .ensures) (checked .check-at .result) (checked .check-at .ensures) (came .match .changes) seen (child .first-child .result) (sibling .next-sibling .result) (child .first-child .ensures) (sibling .next-sibling .ensures) (c .before .before .before .before .if1 .left) (c .before .before .before .if3 .taken) (below .result) (below .ensures ps down) (c .enum-told4 .given .1))
+    let down = from-child p (i .0) (child .first-child .result) (child .first-child .ensures) (c .before .before .before .before .if3 .taken) _ refl in
+    (at-sibling p (i .0) (sibling .next-sibling .result) (sibling .next-sibling .ensures) (c .before .before .before .before .before .if1 .left) .1, past-changes p (i .0) (s .args .starts .now) (l .loop .changes) (i .1) _ (related .relation .ensures) (checked .check-at .result) (checked .check-at .ensures) (came .match .changes) seen (child .first-child .result) (sibling .next-sibling .result) (child .first-child .ensures) (sibling .next-sibling .ensures) (c .before .before .before .before .before .if1 .left) (c .before .before .before .before .if3 .taken) (below .result) (below .ensures ps down) (c .enum-told4 .given .1))
 
 check-from-loop-less-4 : (t : ℕ) → check-from-lts.Need-loop-less-4 (
   relation-reads.Asked,
@@ -608,6 +630,7 @@ pub +check-from-spec : {M : Type 1} → statement M
     (check-from-returns-2 t)
     (check-from-loop-less t)
     (check-from-loop-again t)
+    (check-from-slice-aggregate-check-from t)
     (check-from-check-from-requires t)
     (check-from-enum-told-3 t)
     (check-from-enum-told-4 t)
