@@ -59,10 +59,11 @@ loop-less : tie.Need-loop-less Inv-loop μ-loop
 loop-less c = search needs
 
 loop-again : tie.Need-loop-again Inv-loop μ-loop
-loop-again c = let l = c .before .before .before .before .before .before .before .before in
+loop-again c = let linked = c .before .before .before in
+    let l = linked .before .before .before .before .before in
     let s = l .before .before .before in
-    let wide = c .before .before .before .before .before .wide in
-    let link = c .before .before .before .link in
+    let wide = linked .before .before .wide in
+    let link = linked .link in
     let ps = s .args .parents .now in
     let m = l .loop .m - 1 in
     let plan = link .last .0 in
@@ -86,10 +87,11 @@ loop-less-2 : tie.Need-loop-less-2 Inv-loop μ-loop
 loop-less-2 c = search needs
 
 loop-again-2 : tie.Need-loop-again-2 Inv-loop μ-loop
-loop-again-2 c = let l = c .before .before .before .before .before .before .before .before in
+loop-again-2 c = let linked = c .before .before .before in
+    let l = linked .before .before .before .before .before in
     let s = l .before .before .before in
-    let wide = c .before .before .before .before .before .wide in
-    let link = c .before .before .before .link in
+    let wide = linked .before .before .wide in
+    let link = linked .link in
     let ps = s .args .parents .now in
     let m = l .loop .m - 1 in
     let plan = link .last .0 in

@@ -12,6 +12,10 @@ use native.Mathlib.Omega.{arith}
 use Rattle.visit.proofs.row.apply_at.Statement.{statement}
 use Rattle.visit.proofs.row.apply_at.Tie as tie
 
+-- the state at the entry, as it is known behind the change
+abbrev entry : tie.After-apply-bytes → tie.Start
+entry c = let cut = c .before .before in cut .before .before .before .before .before
+
 mul-start : tie.Need-mul-start
 mul-start c = search needs
 
@@ -37,7 +41,7 @@ same-length : tie.Need-same-length
 same-length c = search needs
 
 returns : tie.Need-returns
-returns c = let s = c .before .before .before .before .before .before .before .before .before in
+returns c = let s = entry (c .before .before) in
     let v = s .args .v in
     let codes = s .args .codes .now in
     let r = nodeRelation (s .args .relation) in

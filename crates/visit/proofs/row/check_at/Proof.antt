@@ -11,6 +11,10 @@ use native.Mathlib.Omega.{arith}
 use Rattle.visit.proofs.row.check_at.Statement.{statement}
 use Rattle.visit.proofs.row.check_at.Tie as tie
 
+-- the state at the entry, as it is known behind the check of the row
+abbrev entry : tie.After-check-row → tie.Start
+entry c = let cut = c .before .before in cut .before .before .before .before .before
+
 mul-start : tie.Need-mul-start
 mul-start c = search needs
 
@@ -33,7 +37,7 @@ check-row-requires : tie.Need-check-row-requires
 check-row-requires c κs = search needs
 
 returns : tie.Need-returns
-returns c = let s = c .before .before .before .before .before .before .before in
+returns c = let s = entry c in
     let v = s .args .v in
     let codes = s .args .codes .now in
     told-row v (s .args .starts .now) (nodeRelation (s .args .relation)) (rowAt (v .width) (s .args .n) codes) (omega (arith, row-length (v .width) (s .args .n) codes (s .pre .0), s .pre .1)) (c .check-row .result)

@@ -42,10 +42,11 @@ enum-known-n : tie.Need-enum-known-n Inv-loop μ-loop
 enum-known-n c = search needs
 
 returns : tie.Need-returns Inv-loop μ-loop
-returns c = let l = c .before .before .before .before .before .before .before in
+returns c = let told = c .before .before .before in
+    let l = told .before .before .before .before in
     let s = l .before .before .before in
-    let o = c .before .before .before .outcome in
-    let found = c .before .before .before .before .access-at in
+    let o = told .outcome in
+    let found = told .before .access-at in
     let r = nodeRelation (s .args .relation) in
     let row = s .args .row .now in
     let xs = accessesAt (s .args .what) (length row) (s .args .starts .now) in
