@@ -36,7 +36,6 @@ use Rattle.tables.specs.declared.Allocation as record-of
 use Rattle.tables.proofs.Lookup.{recordAt, read-starts}
 use Rattle.bounds.proofs.Points.{read-address}
 use Rattle.parts.specs.Trees.{HoldsTrees, afterVisit, TreeVisited}
-use Rattle.memory.specs.Buffers.{HoldsWords}
 use Rattle.memory.specs.Access.{accessOf, loadOf, storeOf, boundsRefusal, Checked, Reached, visitAt, wordsStart, Accessed, wordsGiven, Loaded, Stored}
 use Rattle.memory.proofs.OneTree.{same-parts, focus-load, visited-part}
 
@@ -287,7 +286,7 @@ no-words : (p : ThinPointer) (bytes : List ℕ) (exponent : ℕ) (a : Allocation
 unfolding loadedWords
 no-words p bytes exponent a = refl
 
-module _ (p : ThinPointer) (bytes : List ℕ) (exponent : ℕ) {m : Memory} {A P W C : List ℕ} (h : HoldsWords m A P W C) where
+module _ (p : ThinPointer) (bytes : List ℕ) (exponent : ℕ) {m : Memory} (v : Valid m) {W : List ℕ} (holds : W ≡ held 4096 wordsOf m) where
   pub store-refused : (r : ℕ) {C′ : List ℕ} → (r ≡ 0 → ⊥) → Accessed (storeOf p bytes exponent) m r C′ → Stored (storeOf p bytes exponent) m (Refused r) W C′
   store-refused r z k =
       let s : MemoryAccess = storeOf p bytes exponent in
@@ -295,7 +294,7 @@ module _ (p : ThinPointer) (bytes : List ℕ) (exponent : ℕ) {m : Memory} {A P
       record {
         reply = sym (ap (λ o. replyTo Nothing (o .0)) e ∙ refused-reply Nothing r z);
         answers = λ words. ap (λ o. o .0) (sym e);
-        words = h .words ∙ ap (held 4096 wordsOf) (sym (ap (λ o. o .1) e));
+        words = holds ∙ ap (held 4096 wordsOf) (sym (ap (λ o. o .1) e));
         codes = k .codes;
       }
 
@@ -309,8 +308,8 @@ module _ (p : ThinPointer) (bytes : List ℕ) (exponent : ℕ) {m : Memory} {A P
         reply = sym (ap (λ o. replyTo Nothing (o .0)) a);
         answers = λ words. ap givesWords (sym (no-words p bytes exponent (target m p))) ∙ ap (λ o. o .0) (sym a);
         words =
-            w ∙ ap (λ (l : List ℕ). paste l (wordsStart p (length bytes) m) bytes (length bytes)) (h .words)
-            ∙ words-written bytes exponent (h .trees .records .valid) (accepted-checked s m e)
+            w ∙ ap (λ (l : List ℕ). paste l (wordsStart p (length bytes) m) bytes (length bytes)) holds
+            ∙ words-written bytes exponent v (accepted-checked s m e)
             ∙ ap (held 4096 wordsOf) (sym (ap (λ o. o .1) a));
         codes = k .codes;
       }

@@ -14,6 +14,7 @@ use Rattle.definition.specs.Memory.{ThinPointer, Memory, MemoryAccess, allocati
 use Rattle.answer.specs.Answer.{answerOf, Gives, replyTo}
 use Rattle.answer.specs.Answer.Gives.{Nothing, TheWords}
 use Rattle.answer.specs.declared.Answer.{Answer}
+use Rattle.definition.specs.Valid.{Valid}
 use Rattle.tables.specs.Encoding.{wordsOf, codesOf, held}
 use Rattle.tables.specs.Held.{startOf}
 use Rattle.tables.specs.declared.Allocation as record-of
@@ -70,6 +71,12 @@ wordsStart p len m =
 pub record Accessed (x : MemoryAccess) (m : Memory) (answer : ℕ) (C : List ℕ) : Type 0 where
   pub refusal : answer ≡ accessRefusal x m
   pub codes : C ≡ held 32768 codesOf (performAccess x m .1)
+
+-- with it, where the bytes start; of a memory that stands
+pub record Made (x : MemoryAccess) (m : Memory) (refusal start : ℕ) (C : List ℕ) : Type 0 where
+  pub valid : Valid m
+  pub accessed : Accessed x m refusal C
+  pub at : refusal ≡ 0 → start ≡ wordsStart (x .pointer) (x .len) m
 
 -- what a load gives: the part of the data where the pointer points, of the length asked for
 abbrev pub wordsGiven : MemoryAccess → Memory → Gives

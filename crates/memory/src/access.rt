@@ -11,12 +11,15 @@ ghost use lib.ListN.{length, drop};
 ghost use lib.Seq.{paste};
 ghost use Rattle.definition.specs.Tree.{visitRefusal};
 ghost use Rattle.definition.specs.Memory.{Memory, allocationAt};
+ghost use Rattle.definition.specs.Memory as definition;
 ghost use Rattle.pointer.specs.Pointer.{thinPointerOf};
 ghost use Rattle.permission.specs.Codes.{accessKind};
+ghost use Rattle.permission.specs.declared.AccessKind.the-variants.{Read, Write};
+ghost use Rattle.tables.specs.Encoding.{wordsOf, held};
 ghost use Rattle.tables.specs.Held.{Records};
 ghost use Rattle.parts.specs.Trees.{HoldsTrees, TreeVisited};
 ghost use Rattle.memory.specs.Buffers.{HoldsWords};
-ghost use Rattle.memory.specs.Access.{accessOf, loadOf, storeOf, boundsRefusal, Found, Reached, visitAt, wordsStart, Accessed, Loaded, Stored};
+ghost use Rattle.memory.specs.Access.{accessOf, loadOf, storeOf, boundsRefusal, Found, Reached, visitAt, wordsStart, Accessed, Made, Loaded, Stored};
 
 // 4, 6 and 7 to 9.
 fn bounds_refusal(allocs: &[u64], p: ThinPointer, len: u64, exponent: u64) -> u8
@@ -120,21 +123,12 @@ fn access(
     }
 }
 
+// ---- the bytes
 // The loaded words are a part of the data, which the answer names.
-pub fn load(
-    allocs: &[u64],
-    parents: &[u16],
-    codes: &mut [u8],
-    p: ThinPointer,
-    len: u64,
-    exponent: u64,
-) -> Answer
-    requires { ⌜ ((m : Memory) × HoldsTrees m (now allocs) (now parents) (now codes)) ⌝ }
-    requires { ⌜ exponent < 64 ⌝ }
-    ensures { λ r. ⌜ ((m : Memory) → HoldsTrees m (now (allocs .entry)) (now (parents .entry)) (now (codes .entry))
-        → Loaded (loadOf (thinPointerOf p) len exponent) m r (now (codes .exit))) ⌝ }
+fn loaded(done: Outcome, len: u64) -> Answer
+    ensures { λ r. ⌜ ((p : definition.ThinPointer) (exponent : ℕ) (m : Memory) (C : List ℕ) → Made (loadOf p len exponent) m (done .refusal) (done .start) C
+        → Loaded (loadOf p len exponent) m r C) ⌝ }
 {
-    let done = access(allocs, parents, codes, AccessKind::Read, p, len, exponent);
     let refused = done.refusal;
     if refused != 0 {
         return Answer::Refused(refused);
@@ -165,6 +159,38 @@ fn put_words(words: &mut [u32], start: usize, bytes: &[u32])
     copy_words(&mut words[start..], bytes);
 }
 
+// The stored bytes are written where the pointer points.
+fn stored(words: &mut [u32], done: Outcome, bytes: &[u32]) -> Answer
+    requires { ⌜ ((p : definition.ThinPointer) × ((exponent : ℕ) × ((m : Memory) × ((C : List ℕ) × (Made (storeOf p (now bytes) exponent) m (done .refusal) (done .start) C × (now words ≡ held 4096 wordsOf m)))))) ⌝ }
+    ensures { λ r. ⌜ ((p : definition.ThinPointer) (exponent : ℕ) (m : Memory) (C : List ℕ) → Made (storeOf p (now (bytes .entry)) exponent) m (done .refusal) (done .start) C
+        → now (words .entry) ≡ held 4096 wordsOf m → Stored (storeOf p (now (bytes .entry)) exponent) m r (now (words .exit)) C) ⌝ }
+{
+    let refused = done.refusal;
+    if refused != 0 {
+        return Answer::Refused(refused);
+    }
+    put_words(words, done.start, bytes);
+    Answer::Accepted
+}
+
+// ---- the requests
+pub fn load(
+    allocs: &[u64],
+    parents: &[u16],
+    codes: &mut [u8],
+    p: ThinPointer,
+    len: u64,
+    exponent: u64,
+) -> Answer
+    requires { ⌜ ((m : Memory) × HoldsTrees m (now allocs) (now parents) (now codes)) ⌝ }
+    requires { ⌜ exponent < 64 ⌝ }
+    ensures { λ r. ⌜ ((m : Memory) → HoldsTrees m (now (allocs .entry)) (now (parents .entry)) (now (codes .entry))
+        → Loaded (loadOf (thinPointerOf p) len exponent) m r (now (codes .exit))) ⌝ }
+{
+    let done = access(allocs, parents, codes, AccessKind::Read, p, len, exponent);
+    loaded(done, len)
+}
+
 pub fn store(
     allocs: &[u64],
     parents: &[u16],
@@ -179,19 +205,33 @@ pub fn store(
     ensures { λ r. ⌜ ((m : Memory) → HoldsWords m (now (allocs .entry)) (now (parents .entry)) (now (words .entry)) (now (codes .entry))
         → Stored (storeOf (thinPointerOf p) (now (bytes .entry)) exponent) m r (now (words .exit)) (now (codes .exit))) ⌝ }
 {
-    let done = access(
-        allocs,
-        parents,
-        codes,
-        AccessKind::Write,
-        p,
-        bytes.len() as u64,
-        exponent,
-    );
-    let refused = done.refusal;
-    if refused != 0 {
-        return Answer::Refused(refused);
+    let len = bytes.len() as u64;
+    let done = access(allocs, parents, codes, AccessKind::Write, p, len, exponent);
+    stored(words, done, bytes)
+}
+
+// Either, as a run asks for it: by the kind, with the bytes of a store. A load has none, and leaves the words.
+pub fn load_or_store(
+    allocs: &[u64],
+    parents: &[u16],
+    words: &mut [u32],
+    codes: &mut [u8],
+    kind: AccessKind,
+    p: ThinPointer,
+    len: u64,
+    exponent: u64,
+    bytes: &[u32],
+) -> Answer
+    requires { ⌜ ((m : Memory) × HoldsWords m (now allocs) (now parents) (now words) (now codes)) ⌝ }
+    requires { ⌜ (exponent < 64) × (kind ≡ Write → len ≡ length (now bytes)) ⌝ }
+    ensures { λ r. ⌜ ((m : Memory) → kind ≡ Read → HoldsWords m (now (allocs .entry)) (now (parents .entry)) (now (words .entry)) (now (codes .entry))
+        → Loaded (loadOf (thinPointerOf p) len exponent) m r (now (codes .exit)) × (now (words .exit) ≡ now (words .entry))) ⌝ }
+    ensures { λ r. ⌜ ((m : Memory) → kind ≡ Write → HoldsWords m (now (allocs .entry)) (now (parents .entry)) (now (words .entry)) (now (codes .entry))
+        → Stored (storeOf (thinPointerOf p) (now (bytes .entry)) exponent) m r (now (words .exit)) (now (codes .exit))) ⌝ }
+{
+    let done = access(allocs, parents, codes, kind, p, len, exponent);
+    match kind {
+        AccessKind::Read => loaded(done, len),
+        AccessKind::Write => stored(words, done, bytes),
     }
-    put_words(words, done.start, bytes);
-    Answer::Accepted
 }
