@@ -210,7 +210,17 @@ pub fn store(
     stored(words, done, bytes)
 }
 
-// Either, as a run asks for it: by the kind, with the bytes of a store. A load has none, and leaves the words.
+// How many bytes are accessed: as many as a load asks for, or a store has.
+fn length_of(kind: AccessKind, len: u64, bytes: &[u32]) -> u64
+    ensures { λ r. ⌜ (kind ≡ Read → r ≡ len) × (kind ≡ Write → r ≡ length (now (bytes .entry))) ⌝ }
+{
+    match kind {
+        AccessKind::Read => len,
+        AccessKind::Write => bytes.len() as u64,
+    }
+}
+
+// Either, as a run asks for it: by the kind, a load with its length and a store with its bytes. A load leaves the words.
 pub fn load_or_store(
     allocs: &[u64],
     parents: &[u16],
@@ -223,15 +233,16 @@ pub fn load_or_store(
     bytes: &[u32],
 ) -> Answer
     requires { ⌜ ((m : Memory) × HoldsWords m (now allocs) (now parents) (now words) (now codes)) ⌝ }
-    requires { ⌜ (exponent < 64) × (kind ≡ Write → len ≡ length (now bytes)) ⌝ }
+    requires { ⌜ exponent < 64 ⌝ }
     ensures { λ r. ⌜ ((m : Memory) → kind ≡ Read → HoldsWords m (now (allocs .entry)) (now (parents .entry)) (now (words .entry)) (now (codes .entry))
         → Loaded (loadOf (thinPointerOf p) len exponent) m r (now (codes .exit)) × (now (words .exit) ≡ now (words .entry))) ⌝ }
     ensures { λ r. ⌜ ((m : Memory) → kind ≡ Write → HoldsWords m (now (allocs .entry)) (now (parents .entry)) (now (words .entry)) (now (codes .entry))
         → Stored (storeOf (thinPointerOf p) (now (bytes .entry)) exponent) m r (now (words .exit)) (now (codes .exit))) ⌝ }
 {
-    let done = access(allocs, parents, codes, kind, p, len, exponent);
+    let many = length_of(kind, len, bytes);
+    let done = access(allocs, parents, codes, kind, p, many, exponent);
     match kind {
-        AccessKind::Read => loaded(done, len),
+        AccessKind::Read => loaded(done, many),
         AccessKind::Write => stored(words, done, bytes),
     }
 }

@@ -2,4 +2,5 @@
 pub mod EndCalls
 pub mod Retagging
 pub mod Memories
+pub mod Accesses
 pub mod Requests

@@ -1,9 +1,12 @@
 // The requests that need no frame.
 use answer::Answer;
+use permission::AccessKind;
 use request::Kind;
 use request::Request;
 ghost use mathlib.Core.Path.{_≡_};
 ghost use Rattle.definition.specs.Frame.{State};
+ghost use Rattle.permission.specs.declared.AccessKind.the-variants.{Read, Write};
+ghost use Rattle.request.specs.declared.Kind.the-variants.{Load, Store};
 ghost use Rattle.tables.specs.Held.{buffers};
 ghost use Rattle.perform.specs.Performed.{outcomeOf, Asked, LeftMemory};
 
@@ -11,6 +14,16 @@ fn wide(x: u32) -> u64
     ensures { λ r. ⌜ r ≡ x ⌝ }
 {
     x as u64
+}
+
+// A load reads, a store writes.
+fn access_kind(kind: Kind) -> AccessKind
+    ensures { λ r. ⌜ (kind ≡ Load → r ≡ Read) × (kind ≡ Store → r ≡ Write) ⌝ }
+{
+    match kind {
+        Kind::Store => AccessKind::Write,
+        _ => AccessKind::Read,
+    }
 }
 
 // Kinds 0 to 3 and 7 to 9, each by its core.
@@ -45,8 +58,17 @@ pub(crate) fn in_memory(
             len,
             exponent,
         ),
-        Kind::Load => memory::access::load(allocs, parents, codes, p, len, exponent),
-        Kind::Store => memory::access::store(allocs, parents, words, codes, p, following, exponent),
+        Kind::Load | Kind::Store => memory::access::load_or_store(
+            allocs,
+            parents,
+            words,
+            codes,
+            access_kind(kind),
+            p,
+            len,
+            exponent,
+            following,
+        ),
         Kind::Dereferenceable => bounds::dereferenceable(allocs, p, len),
         Kind::SignedDereferenceable => bounds::signed_dereferenceable(allocs, p, q.signed_length()),
         Kind::LeakCheck => bounds::leak_check(allocs),

@@ -7,9 +7,10 @@ use Rattle.pointer.specs.Pointer.{back, ahead}
 use Rattle.bounds.proofs.Reach.{reach-answers}
 use Rattle.bounds.proofs.Leak.{leak-answer}
 use Rattle.memory.proofs.Afterwards.{holds-bytes}
-use Rattle.parts.proofs.Lent.{holds-trees, holds-marked}
+use Rattle.parts.proofs.Lent.{holds-marked}
 use Rattle.tables.proofs.ReadBack.{holds-records}
-use Rattle.perform.proofs.Memories.{can, allocate-left, deallocate-kind, deallocate-left, load-exponent, store-exponent, load-left, store-left, dereferenceable-left, signed-left, leak-left, not-alone, not-a-kind}
+use Rattle.perform.proofs.Memories.{can, allocate-left, deallocate-kind, deallocate-left, dereferenceable-left, signed-left, leak-left, not-alone, not-a-kind}
+use Rattle.perform.proofs.Accesses.{either, access-exponent, access-left}
 use Rattle.perform.proofs.in_memory.in_memory.Statement.{statement}
 use Rattle.perform.proofs.in_memory.in_memory.Tie as tie
 
@@ -62,27 +63,6 @@ wide2-before-deallocate c = wide2-before-wide3 (c .before .before .before .befor
 abbrev wide3-before-deallocate : tie.After-deallocate → tie.After-wide3
 wide3-before-deallocate c = c .before .before .before .before .before .before
 
-abbrev pointer-before-load : tie.After-load → tie.After-pointer
-pointer-before-load c = c .before .before .before .before .before
-
-abbrev wide3-before-load : tie.After-load → tie.After-wide3
-wide3-before-load c = c .before .before .before .before .before .before
-
-abbrev wide2-before-load : tie.After-load → tie.After-wide2
-wide2-before-load c = wide2-before-wide3 (c .before .before .before .before .before .before)
-
-abbrev pointer-before-store : tie.After-store → tie.After-pointer
-pointer-before-store c = c .before .before .before .before .before .before
-
-abbrev wide3-before-pointer : tie.After-pointer → tie.After-wide3
-wide3-before-pointer c = c .before
-
-abbrev wide3-before-store : tie.After-store → tie.After-wide3
-wide3-before-store c = wide3-before-pointer (c .before .before .before .before .before .before)
-
-abbrev enum-told4-before-store : tie.After-store → tie.After-enum-told4
-enum-told4-before-store c = c .before .before .before .before
-
 abbrev entry-before-wide3 : tie.After-wide3 → tie.Start
 entry-before-wide3 c = entry-before-wide (c .before .before)
 
@@ -113,26 +93,23 @@ enum-told-2 c = search needs
 deallocate-requires : tie.Need-deallocate-requires
 deallocate-requires c κs = let s = entry-before-pointer (c .before .before .before .before) in (s .pre .0 .memory, holds-marked (s .pre .1 .holds))
 
+access-kind-requires : tie.Need-access-kind-requires
+access-kind-requires c κs = search needs
+
+load-or-store-requires : tie.Need-load-or-store-requires
+load-or-store-requires c κs =
+    let at = c .before .before .before .before in
+    let s = entry-before-pointer (at .before) in
+    ((s .pre .0 .memory, holds-bytes (s .pre .1 .holds)), access-exponent (s .pre .1) (either _ (at .match .keys3)) (at .before .before .wide3 .ensures))
+
 enum-told-3 : tie.Need-enum-told-3
 enum-told-3 c = search needs
-
-load-requires : tie.Need-load-requires
-load-requires c κs = let s = entry-before-pointer (c .before .before .before .before) in ((s .pre .0 .memory, holds-trees (s .pre .1 .holds)), load-exponent (s .pre .1) (c .before .before .enum-told3 .given .1) (c .before .before .before .before .before .wide3 .ensures))
-
-enum-told-4 : tie.Need-enum-told-4
-enum-told-4 c = search needs
-
-store-requires : tie.Need-store-requires
-store-requires c κs = let s = entry-before-pointer (c .before .before .before .before .before) in ((s .pre .0 .memory, holds-bytes (s .pre .1 .holds)), store-exponent (s .pre .1) (c .before .before .before .enum-told4 .given .1) (c .before .before .before .before .before .before .wide3 .ensures))
-
-enum-told-5 : tie.Need-enum-told-5
-enum-told-5 c = search needs
 
 dereferenceable-requires : tie.Need-dereferenceable-requires
 dereferenceable-requires c κs = let s = entry-before-pointer (c .before .before .before) in (s .pre .0 .memory, holds-records (s .pre .1 .holds))
 
-enum-told-6 : tie.Need-enum-told-6
-enum-told-6 c = search needs
+enum-told-4 : tie.Need-enum-told-4
+enum-told-4 c = search needs
 
 signed-length-requires : tie.Need-signed-length-requires
 signed-length-requires c κs = search needs
@@ -140,23 +117,23 @@ signed-length-requires c κs = search needs
 signed-dereferenceable-requires : tie.Need-signed-dereferenceable-requires
 signed-dereferenceable-requires c κs = let s = entry-before-signed-length c in (s .pre .0 .memory, holds-records (s .pre .1 .holds))
 
-enum-told-7 : tie.Need-enum-told-7
-enum-told-7 c = search needs
+enum-told-5 : tie.Need-enum-told-5
+enum-told-5 c = search needs
 
 leak-check-requires : tie.Need-leak-check-requires
 leak-check-requires c κs = let s = entry-before-pointer (c .before .before .before) in (s .pre .0 .memory, holds-records (s .pre .1 .holds))
+
+enum-told-6 : tie.Need-enum-told-6
+enum-told-6 c = search needs
+
+enum-told-7 : tie.Need-enum-told-7
+enum-told-7 c = search needs
 
 enum-told-8 : tie.Need-enum-told-8
 enum-told-8 c = search needs
 
 enum-told-9 : tie.Need-enum-told-9
 enum-told-9 c = search needs
-
-enum-told-10 : tie.Need-enum-told-10
-enum-told-10 c = search needs
-
-enum-told-11 : tie.Need-enum-told-11
-enum-told-11 c = search needs
 
 same-length : tie.Need-same-length
 same-length c = search needs
@@ -182,50 +159,46 @@ same-length-5 c = search needs
 same-length-6 : tie.Need-same-length-6
 same-length-6 c = search needs
 
-returns-3 : tie.Need-returns-3
-returns-3 c = λ s h. load-left h (pointer-before-load (c .before .before) .pointer .ensures) (wide3-before-load (c .before .before) .wide3 .ensures) (c .before .before .before .before .before .enum-told3 .given .1) (wide2-before-load (c .before .before) .wide2 .ensures) (c .before .before .load .ensures (s .memory) (holds-trees (h .holds)))
-
 same-length-7 : tie.Need-same-length-7
 same-length-7 c = search needs
+
+returns-3 : tie.Need-returns-3
+returns-3 c = λ s h.
+    let done = c .before .before .before .before in
+    let at = done .before .before .before .before .before in
+    let asked = at .before in
+    access-left h (either _ (at .match .keys3)) (asked .pointer .ensures) (asked .before .before .wide2 .ensures) (asked .before .wide3 .ensures) (done .before .access-kind .ensures)
+    (done .load-or-store .ensures .0) (done .load-or-store .ensures .1)
 
 same-length-8 : tie.Need-same-length-8
 same-length-8 c = search needs
 
+returns-4 : tie.Need-returns-4
+returns-4 c = λ s h. dereferenceable-left h (c .before .before .before .before .pointer .ensures) (c .before .before .enum-told3 .given .1) (c .before .before .before .before .before .before .wide2 .ensures) (reach-answers _ _ _ (s .memory) _ (c .dereferenceable .ensures (s .memory) (holds-records (h .holds))))
+
 same-length-9 : tie.Need-same-length-9
 same-length-9 c = search needs
 
-returns-4 : tie.Need-returns-4
-returns-4 c = λ s h. store-left h (pointer-before-store (c .before .before .before .before) .pointer .ensures) (wide3-before-store (c .before .before .before .before) .wide3 .ensures) (enum-told4-before-store (c .before .before .before .before) .enum-told4 .given .1) (c .before .before .before .before .store .ensures (s .memory) (holds-bytes (h .holds)))
+returns-5 : tie.Need-returns-5
+returns-5 c = λ s h. let a = entry-before-signed-dereferenceable c in let same = toZ-ofZ {w = w64} {z = c .before .signed-length .result} (sfits-of (c .before .signed-length .ok)) in signed-left h (c .before .before .before .before .before .pointer .ensures) (c .before .before .before .enum-told4 .given .1) (c .before .signed-length .result) (c .before .signed-length .ensures) {r = c .signed-dereferenceable .result} (rw (← ap back same, ← ap ahead same) (reach-answers _ _ _ (s .memory) (a .args .words .now) (c .signed-dereferenceable .ensures (s .memory) (holds-records (h .holds)))))
 
 same-length-10 : tie.Need-same-length-10
 same-length-10 c = search needs
 
-returns-5 : tie.Need-returns-5
-returns-5 c = λ s h. dereferenceable-left h (c .before .before .before .before .pointer .ensures) (c .before .before .enum-told5 .given .1) (c .before .before .before .before .before .before .wide2 .ensures) (reach-answers _ _ _ (s .memory) _ (c .dereferenceable .ensures (s .memory) (holds-records (h .holds))))
-
-same-length-11 : tie.Need-same-length-11
-same-length-11 c = search needs
-
 returns-6 : tie.Need-returns-6
-returns-6 c = λ s h. let a = entry-before-signed-dereferenceable c in let same = toZ-ofZ {w = w64} {z = c .before .signed-length .result} (sfits-of (c .before .signed-length .ok)) in signed-left h (c .before .before .before .before .before .pointer .ensures) (c .before .before .before .enum-told6 .given .1) (c .before .signed-length .result) (c .before .signed-length .ensures) {r = c .signed-dereferenceable .result} (rw (← ap back same, ← ap ahead same) (reach-answers _ _ _ (s .memory) (a .args .words .now) (c .signed-dereferenceable .ensures (s .memory) (holds-records (h .holds)))))
-
-same-length-12 : tie.Need-same-length-12
-same-length-12 c = search needs
+returns-6 c = λ s h. leak-left h (c .before .before .enum-told5 .given .1) (leak-answer (s .memory) (c .leak-check .ensures (s .memory) (holds-records (h .holds))))
 
 returns-7 : tie.Need-returns-7
-returns-7 c = λ s h. leak-left h (c .before .before .enum-told7 .given .1) (leak-answer (s .memory) (c .leak-check .ensures (s .memory) (holds-records (h .holds))))
+returns-7 c = λ s h. absurd (not-alone h (c .enum-told6 .given .1) refl)
 
 returns-8 : tie.Need-returns-8
-returns-8 c = λ s h. absurd (not-alone h (c .enum-told8 .given .1) refl)
+returns-8 c = λ s h. absurd (not-alone h (c .enum-told7 .given .1) refl)
 
 returns-9 : tie.Need-returns-9
-returns-9 c = λ s h. absurd (not-alone h (c .enum-told9 .given .1) refl)
+returns-9 c = λ s h. absurd (not-alone h (c .enum-told8 .given .1) refl)
 
 returns-10 : tie.Need-returns-10
-returns-10 c = λ s h. absurd (not-alone h (c .enum-told10 .given .1) refl)
-
-returns-11 : tie.Need-returns-11
-returns-11 c = λ s h. absurd (not-a-kind h (c .enum-told11 .given .1))
+returns-10 c = λ s h. absurd (not-a-kind h (c .enum-told9 .given .1))
 
 pub in-memory-spec : {M : Type 1} → statement M
 in-memory-spec =
@@ -239,21 +212,19 @@ in-memory-spec =
     allocate-requires
     enum-told-2
     deallocate-requires
+    access-kind-requires
+    load-or-store-requires
     enum-told-3
-    load-requires
-    enum-told-4
-    store-requires
-    enum-told-5
     dereferenceable-requires
-    enum-told-6
+    enum-told-4
     signed-length-requires
     signed-dereferenceable-requires
-    enum-told-7
+    enum-told-5
     leak-check-requires
+    enum-told-6
+    enum-told-7
     enum-told-8
     enum-told-9
-    enum-told-10
-    enum-told-11
     same-length
     same-length-2
     returns
@@ -262,18 +233,15 @@ in-memory-spec =
     returns-2
     same-length-5
     same-length-6
-    returns-3
     same-length-7
+    returns-3
     same-length-8
-    same-length-9
     returns-4
-    same-length-10
+    same-length-9
     returns-5
-    same-length-11
+    same-length-10
     returns-6
-    same-length-12
     returns-7
     returns-8
     returns-9
-    returns-10
-    returns-11)
+    returns-10)
