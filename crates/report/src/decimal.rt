@@ -79,7 +79,7 @@ fn put_high(out: &mut [u8], at: usize, n: u64) -> usize
     put_eight(out, p, (n % 100_000_000) as u32)
 }
 
-pub fn put_decimal(out: &mut [u8], at: usize, n: u64) -> usize
+pub(crate) fn put_decimal(out: &mut [u8], at: usize, n: u64) -> usize
     requires { ⌜ Room (now out) at (decimal n) ⌝ }
     ensures { λ r. ⌜ Written (now (out .entry)) at (decimal n) (now (out .exit)) r ⌝ }
 {
@@ -91,7 +91,7 @@ pub fn put_decimal(out: &mut [u8], at: usize, n: u64) -> usize
 }
 
 // A field that is a number.
-pub fn put_number(out: &mut [u8], at: usize, n: u64) -> usize
+pub(crate) fn put_number(out: &mut [u8], at: usize, n: u64) -> usize
     requires { ⌜ Room (now out) at (ascii " " ++ decimal n) ⌝ }
     ensures { λ r. ⌜ Written (now (out .entry)) at (ascii " " ++ decimal n) (now (out .exit)) r ⌝ }
 {

@@ -2,7 +2,7 @@
 // Output.antt of the definition has the texts.
 pub mod allocations;
 pub mod answers;
-pub mod decimal;
-pub mod nodes;
-pub mod text;
-pub mod word;
+mod decimal;
+mod nodes;
+mod text;
+mod word;

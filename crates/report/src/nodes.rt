@@ -89,7 +89,7 @@ fn node_line(
 }
 
 // All nodes of allocation a, whose rows have `size` codes.
-pub fn node_lines(
+pub(crate) fn node_lines(
     out: &mut [u8],
     at: usize,
     a: u64,

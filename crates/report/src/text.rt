@@ -5,7 +5,7 @@ ghost use Prim.Native.Nat.{_<_};
 ghost use Rattle.definition.specs.Output.{digit};
 ghost use Rattle.report.specs.Written.{Room, Written};
 
-pub fn put_byte(out: &mut [u8], at: usize, byte: u8) -> usize
+pub(crate) fn put_byte(out: &mut [u8], at: usize, byte: u8) -> usize
     requires { ⌜ Room (now out) at (byte ∷ []) ⌝ }
     ensures { λ r. ⌜ Written (now (out .entry)) at (byte ∷ []) (now (out .exit)) r ⌝ }
 {
@@ -13,7 +13,7 @@ pub fn put_byte(out: &mut [u8], at: usize, byte: u8) -> usize
     at + 1
 }
 
-pub fn put_bytes(out: &mut [u8], at: usize, bytes: &[u8]) -> usize
+pub(crate) fn put_bytes(out: &mut [u8], at: usize, bytes: &[u8]) -> usize
     requires { ⌜ Room (now out) at (now bytes) ⌝ }
     ensures { λ r. ⌜ Written (now (out .entry)) at (now (bytes .entry)) (now (out .exit)) r ⌝ }
 {
@@ -27,7 +27,7 @@ pub fn put_bytes(out: &mut [u8], at: usize, bytes: &[u8]) -> usize
 }
 
 // 0 to 9, then a to f.
-pub fn digit_of(n: u8) -> u8
+pub(crate) fn digit_of(n: u8) -> u8
     requires { ⌜ n < 16 ⌝ }
     ensures { λ r. ⌜ r ≡ digit n ⌝ }
 {

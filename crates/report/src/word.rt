@@ -58,7 +58,7 @@ fn put_eight_bytes(out: &mut [u8], at: usize, n: u64) -> usize
 }
 
 // A field that is a word. The space comes last, so that the eight bytes before it are one store.
-pub fn put_word(out: &mut [u8], at: usize, w: u32) -> usize
+fn put_word(out: &mut [u8], at: usize, w: u32) -> usize
     requires { ⌜ Room (now out) at (ascii " " ++ word w) ⌝ }
     ensures { λ r. ⌜ Written (now (out .entry)) at (ascii " " ++ word w) (now (out .exit)) r ⌝ }
 {
@@ -68,7 +68,7 @@ pub fn put_word(out: &mut [u8], at: usize, w: u32) -> usize
 }
 
 // The words of a line, and its end.
-pub fn put_words(out: &mut [u8], at: usize, ws: &[u32]) -> usize
+pub(crate) fn put_words(out: &mut [u8], at: usize, ws: &[u32]) -> usize
     requires { ⌜ Room (now out) at (ended (words (now ws))) ⌝ }
     ensures { λ r. ⌜ Written (now (out .entry)) at (ended (words (now (ws .entry)))) (now (out .exit)) r ⌝ }
 {
