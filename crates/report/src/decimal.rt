@@ -1,19 +1,27 @@
 // Numbers in decimal: a number is split in the middle, so that its digits do not wait for one another.
-use crate::text::digit_of;
 use crate::text::put_byte;
+ghost use mathlib.Core.Path.{_≡_};
 ghost use mathlib.Core.List.{_++_};
 ghost use Prim.Native.Nat.{_<_};
-ghost use Rattle.definition.specs.Output.{ascii, decimal};
+ghost use Rattle.definition.specs.Output.{ascii, digit, decimal};
 ghost use Rattle.report.specs.Written.{Room, Written};
 ghost use Rattle.report.specs.Digits.{two, four, eight};
+
+// One digit. `digit_of` would test for the letters, which no decimal number has.
+fn decimal_digit(n: u32) -> u8
+    requires { ⌜ n < 10 ⌝ }
+    ensures { λ r. ⌜ r ≡ digit n ⌝ }
+{
+    n as u8 + b'0'
+}
 
 // Two digits, the first may be 0.
 fn put_two(out: &mut [u8], at: usize, n: u32) -> usize
     requires { ⌜ (n < 100) × Room (now out) at (two n) ⌝ }
     ensures { λ r. ⌜ Written (now (out .entry)) at (two n) (now (out .exit)) r ⌝ }
 {
-    let p = put_byte(out, at, digit_of((n / 10) as u8));
-    put_byte(out, p, digit_of((n % 10) as u8))
+    let p = put_byte(out, at, decimal_digit(n / 10));
+    put_byte(out, p, decimal_digit(n % 10))
 }
 
 fn put_four(out: &mut [u8], at: usize, n: u32) -> usize
@@ -38,7 +46,7 @@ fn put_below_100(out: &mut [u8], at: usize, n: u32) -> usize
     ensures { λ r. ⌜ Written (now (out .entry)) at (decimal n) (now (out .exit)) r ⌝ }
 {
     if n < 10 {
-        return put_byte(out, at, digit_of(n as u8));
+        return put_byte(out, at, decimal_digit(n));
     }
     put_two(out, at, n)
 }

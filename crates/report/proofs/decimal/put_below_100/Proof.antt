@@ -9,11 +9,8 @@ use Rattle.report.proofs.Writes.{byte-room, room-as, written-as}
 use Rattle.report.proofs.decimal.put_below_100.Statement.{statement}
 use Rattle.report.proofs.decimal.put_below_100.Tie as tie
 
-cast-digit-of : tie.Need-cast-digit-of
-cast-digit-of c = search needs
-
-digit-of-requires : tie.Need-digit-of-requires
-digit-of-requires c κs = search needs
+decimal-digit-requires : tie.Need-decimal-digit-requires
+decimal-digit-requires c κs = search needs
 
 put-byte-requires : tie.Need-put-byte-requires
 put-byte-requires c κs = byte-room (room-as (decimal-one (c .before .before .before .before .args .n) (c .before .before .if1 .taken)) (c .before .before .before .before .pre .1))
@@ -22,7 +19,7 @@ same-length : tie.Need-same-length
 same-length c = search needs
 
 returns : tie.Need-returns
-returns c = written-as (ap (λ (b : ℕ). b ∷ []) (c .before .before .before .digit-of .ensures) ∙ sym (decimal-one _ (c .before .before .before .before .before .if1 .taken))) (c .before .before .put-byte .ensures)
+returns c = written-as (ap (λ (b : ℕ). b ∷ []) (c .before .before .before .decimal-digit .ensures) ∙ sym (decimal-one _ (c .before .before .before .before .before .if1 .taken))) (c .before .before .put-byte .ensures)
 
 put-two-requires : tie.Need-put-two-requires
 put-two-requires c κs = (omega arith, room-as (decimal-two _ (c .before .if1 .left) (omega arith)) (c .before .before .before .pre .1))
@@ -37,8 +34,7 @@ pub put-below-100-spec : {M : Type 1} → statement M
 put-below-100-spec =
     tie.close
     (tie.spec
-    cast-digit-of
-    digit-of-requires
+    decimal-digit-requires
     put-byte-requires
     same-length
     returns
