@@ -14,51 +14,63 @@ use Rattle.report.proofs.Writes.{room-as, written-as}
 use Rattle.report.proofs.allocations.allocation_lines.Statement.{statement}
 use Rattle.report.proofs.allocations.allocation_lines.Tie as tie
 
--- where the allocation's parts start and end, in every memory that the buffers hold
-module _ (c : tie.After-starts-at2) {m : Memory}
-    (h : Holds m
-    (buffers (c .before .before .before .before .before .before .before .before .before .args .allocs .now) (c .before .before .before .before .before .before .before .before .before .args .parents .now)
-    (c .before .before .before .before .before .before .before .before .before .args .protectors .now) (c .before .before .before .before .before .before .before .before .before .args .words .now)
-    (c .before .before .before .before .before .before .before .before .before .args .codes .now))) where
-  is-made : c .before .before .before .before .before .before .before .before .before .args .a < length m
-  is-made =
-      let s = c .before .before .before .before .before .before .before .before .before in
-      omega (arith, s .pre .1 .made, same-count (holds-records h) (holds-records (s .pre .1 .holds)))
+-- states by name: at the entry, as it is known behind the lengths of the slices, and behind the record, as it is known behind both starts
+abbrev entry : tie.After-shared-slice-known5 → tie.Start
+entry c = c .before .before .before .before .before .before
 
-  starts : StartsAt m (c .before .before .before .before .before .before .before .before .before .args .a) (c .before .starts-at .result .words) (c .before .starts-at .result .nodes) (c .before .starts-at .result .codes)
+abbrev recorded : tie.After-starts-at2 → tie.After-allocation-at
+recorded c = c .before .before
+
+abbrev entry-before-starts : tie.After-starts-at2 → tie.Start
+entry-before-starts c = entry (recorded c .before)
+
+-- where the allocation's parts start and end, in every memory that the buffers hold
+abbrev Held : tie.Start → Memory → Type 0
+Held s m = let a = s .args in Holds m (buffers (a .allocs .now) (a .parents .now) (a .protectors .now) (a .words .now) (a .codes .now))
+
+module _ (c : tie.After-starts-at2) {m : Memory} (h : Held (entry-before-starts c) m) where
+  is-made : entry-before-starts c .args .a < length m
+  is-made =
+      let fit = entry-before-starts c .pre .1 in
+      omega (arith, fit .made, same-count (holds-records h) (holds-records (fit .holds)))
+
+  starts : let r = c .before .starts-at .result in StartsAt m (entry-before-starts c .args .a) (r .words) (r .nodes) (r .codes)
   starts = c .before .starts-at .ensures m (holds-records h)
 
-  ends : StartsAt m (c .before .before .before .before .before .before .before .before .before .args .a + 1) (c .starts-at2 .result .words) (c .starts-at2 .result .nodes) (c .starts-at2 .result .codes)
+  ends : let r = c .starts-at2 .result in StartsAt m (entry-before-starts c .args .a + 1) (r .words) (r .nodes) (r .codes)
   ends = c .starts-at2 .ensures m (holds-records h)
 
 -- they lie within the buffers
 module _ (c : tie.After-starts-at2) where
-  words-in : (c .before .starts-at .result .words ≤ c .starts-at2 .result .words) × (c .starts-at2 .result .words ≤ length (c .before .before .before .before .before .before .before .before .before .args .words .now))
-  words-in = let h = c .before .before .before .before .before .before .before .before .before .pre .1 .holds in words-within h _ (is-made c h) (starts c h) (ends c h)
+  holds : Held (entry-before-starts c) (entry-before-starts c .pre .0)
+  holds = entry-before-starts c .pre .1 .holds
+
+  words-in : let end = c .starts-at2 .result .words in (c .before .starts-at .result .words ≤ end) × (end ≤ length (entry-before-starts c .args .words .now))
+  words-in = words-within holds _ (is-made c holds) (starts c holds) (ends c holds)
 
   words-end : c .starts-at2 .result .words ≤ 4096
-  words-end = let h = c .before .before .before .before .before .before .before .before .before .pre .1 .holds in words-small h _ (is-made c h) (starts c h) (ends c h)
+  words-end = words-small holds _ (is-made c holds) (starts c holds) (ends c holds)
 
-  parents-in : (c .before .starts-at .result .nodes ≤ c .starts-at2 .result .nodes) × (c .starts-at2 .result .nodes ≤ length (c .before .before .before .before .before .before .before .before .before .args .parents .now))
-  parents-in = let h = c .before .before .before .before .before .before .before .before .before .pre .1 .holds in parents-within h _ (is-made c h) (starts c h) (ends c h)
+  parents-in : let end = c .starts-at2 .result .nodes in (c .before .starts-at .result .nodes ≤ end) × (end ≤ length (entry-before-starts c .args .parents .now))
+  parents-in = parents-within holds _ (is-made c holds) (starts c holds) (ends c holds)
 
-  protectors-in : (c .before .starts-at .result .nodes ≤ c .starts-at2 .result .nodes) × (c .starts-at2 .result .nodes ≤ length (c .before .before .before .before .before .before .before .before .before .args .protectors .now))
-  protectors-in = let h = c .before .before .before .before .before .before .before .before .before .pre .1 .holds in protectors-within h _ (is-made c h) (starts c h) (ends c h)
+  protectors-in : let end = c .starts-at2 .result .nodes in (c .before .starts-at .result .nodes ≤ end) × (end ≤ length (entry-before-starts c .args .protectors .now))
+  protectors-in = protectors-within holds _ (is-made c holds) (starts c holds) (ends c holds)
 
-  codes-in : (c .before .starts-at .result .codes ≤ c .starts-at2 .result .codes) × (c .starts-at2 .result .codes ≤ length (c .before .before .before .before .before .before .before .before .before .args .codes .now))
-  codes-in = let h = c .before .before .before .before .before .before .before .before .before .pre .1 .holds in codes-within h _ (is-made c h) (starts c h) (ends c h)
+  codes-in : let end = c .starts-at2 .result .codes in (c .before .starts-at .result .codes ≤ end) × (end ≤ length (entry-before-starts c .args .codes .now))
+  codes-in = codes-within holds _ (is-made c holds) (starts c holds) (ends c holds)
 
 allocation-at-requires : tie.Need-allocation-at-requires
-allocation-at-requires c κs = record-in (holds-records (c .before .before .before .before .before .before .pre .1 .holds)) _ (c .before .before .before .before .before .before .pre .1 .made)
+allocation-at-requires c κs = let fit = entry c .pre .1 in record-in (holds-records (fit .holds)) _ (fit .made)
 
 starts-at-requires : tie.Need-starts-at-requires
-starts-at-requires c κs = let fit = c .before .before .before .before .before .before .before .pre .1 in (c .before .before .before .before .before .before .before .pre .0, (holds-records (fit .holds), omega (arith, fit .made)))
+starts-at-requires c κs = let (m, fit) = entry (c .before) .pre in (m, (holds-records (fit .holds), omega (arith, fit .made)))
 
 add-starts-at : tie.Need-add-starts-at
 add-starts-at c = search needs
 
 starts-at-requires-2 : tie.Need-starts-at-requires-2
-starts-at-requires-2 c κs = let fit = c .before .before .before .before .before .before .before .before .pre .1 in (c .before .before .before .before .before .before .before .before .pre .0, (holds-records (fit .holds), omega (arith, fit .made)))
+starts-at-requires-2 c κs = let (m, fit) = entry (c .before .before) .pre in (m, (holds-records (fit .holds), omega (arith, fit .made)))
 
 mul-put-allocation : tie.Need-mul-put-allocation
 mul-put-allocation c = omega (arith, words-in (c .before) .0, words-end (c .before))
@@ -105,9 +117,9 @@ part-put-allocation-end-4 c = omega (arith, codes-in (c .before .before .before 
 put-allocation-requires : tie.Need-put-allocation-requires
 put-allocation-requires c κs =
     let at = c .before .before .before .before .before in
-    let s = c .before .before .before .before .before .before .before .before .before .before .before .before .before .before in
+    let s = entry-before-starts at in
     let h = s .pre .1 .holds in
-    let read = c .before .before .before .before .before .before .before .allocation-at .ensures in (
+    let read = recorded at .allocation-at .ensures in (
       found-size h _ (is-made at h) (starts at h) (ends at h) read,
       (
         found-nodes h _ (is-made at h) (starts at h) (ends at h),
@@ -120,9 +132,10 @@ same-length c = search needs
 
 returns : tie.Need-returns
 returns c = λ m h.
-    let at = c .before .before .before .before .before .before .before .before in
-    written-as (ap (allocationLines (c .before .before .before .before .before .before .before .before .before .before .before .before .before .before .before .before .before .args .a)) (found-allocation h _ (is-made at h) (starts at h) (ends at h) (c .before .before .before .before .before .before .before .before .before .before .allocation-at .ensures)))
-    (c .before .before .put-allocation .ensures)
+    let put = c .before .before in
+    let at = put .before .before .before .before .before .before in
+    let found = found-allocation h _ (is-made at h) (starts at h) (ends at h) (recorded at .allocation-at .ensures) in
+    written-as (ap (allocationLines (entry-before-starts at .args .a)) found) (put .put-allocation .ensures)
 
 pub allocation-lines-spec : {M : Type 1} → statement M
 allocation-lines-spec =

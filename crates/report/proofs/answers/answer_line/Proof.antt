@@ -1,5 +1,5 @@
 -- The index, the refusal, and what is given; no number has more than twenty digits.
-use Prim.Native.Nat.{ℕ}
+use Prim.Native.Nat.{ℕ, _+_, _≤_}
 use mathlib.Core.List.{[], _++_}
 use mathlib.Core.Path.{ap}
 use native.Mathlib.Omega.{arith}
@@ -10,6 +10,23 @@ use Rattle.report.proofs.Numbers.{decimal-length}
 use Rattle.report.proofs.Writes.{both-inside, written-as}
 use Rattle.report.proofs.answers.answer_line.Statement.{statement}
 use Rattle.report.proofs.answers.answer_line.Tie as tie
+
+-- states by name: at the entry, behind the refusal and behind the index, as each is known behind a number that is written later
+abbrev entry : tie.After-put-decimal → tie.Start
+entry c = c .before .before .before .before .before
+
+abbrev refused : tie.After-put-decimal → tie.After-refusal
+refused c = c .before .before
+
+abbrev indexed : tie.After-put-number → tie.After-put-decimal
+indexed c = c .before .before .before .before
+
+-- where each number ends
+index-end : (c : tie.After-put-decimal) → c .put-decimal .result ≤ entry c .args .at + 20
+index-end c = omega (arith, decimal-length (entry c .args .index) (omega arith), c .put-decimal .ensures .place)
+
+refusal-end : (c : tie.After-put-number) → c .put-number .result ≤ entry (indexed c) .args .at + 41
+refusal-end c = omega (arith, decimal-length (refused (indexed c) .refusal .result) (omega arith), index-end (indexed c), c .put-number .ensures .place)
 
 refusal-requires : tie.Need-refusal-requires
 refusal-requires c κs = search needs
@@ -24,36 +41,13 @@ cast-put-number c = search needs
 
 put-number-requires : tie.Need-put-number-requires
 put-number-requires c κs =
-    let s = c .before .before .before .before .before .before .before .before in
-    let index = c .before .before .before .put-decimal in
-    let refusal = c .before .before .before .before .before .refusal .result in
-    record {
-      fits = omega (
-        arith,
-        decimal-length (s .args .index) (omega arith),
-        decimal-length refusal (omega arith),
-        s .pre,
-        index .ensures .place,
-        index .kept .0,
-      );
-    }
+    let put = c .before .before .before in
+    record { fits = omega (arith, decimal-length (refused put .refusal .result) (omega arith), index-end put, put .put-decimal .kept .0, entry put .pre) }
 
 put-given-requires : tie.Need-put-given-requires
 put-given-requires c κs =
-    let s = c .before .before .before .before .before .before .before .before .before .before .before .before in
-    let index = c .before .before .before .before .before .before .before .put-decimal in
-    let number = c .before .before .before .put-number in
-    let refusal = c .before .before .before .before .before .before .before .before .before .refusal .result in
-    omega (
-      arith,
-      decimal-length (s .args .index) (omega arith),
-      decimal-length refusal (omega arith),
-      s .pre,
-      index .ensures .place,
-      index .kept .0,
-      number .ensures .place,
-      number .kept .0,
-    )
+    let put = c .before .before .before in
+    omega (arith, refusal-end put, put .put-number .kept .0, indexed put .put-decimal .kept .0, entry (indexed put) .pre)
 
 same-length : tie.Need-same-length
 same-length c = search needs
@@ -61,10 +55,11 @@ same-length c = search needs
 returns : tie.Need-returns
 unfolding answerLine ended
 returns c =
-    let s = c .before .before .before .before .before .before .before .before .before .before .before .before .before .before .before in
-    both-inside _ _ (c .before .before .before .before .before .before .before .before .before .before .put-decimal .ensures)
-    (both-inside (ascii " " ++ decimal (answerOf (s .args .answer) [] .refusal)) _
-    (written-as (ap (λ (n : ℕ). ascii " " ++ decimal n) (c .before .before .before .before .before .before .before .before .before .before .before .before .refusal .ensures [])) (c .before .before .before .before .before .before .put-number .ensures)) (c .before .before .put-given .ensures))
+    let put = c .before .before .before .before .before .before in
+    let index = indexed put in
+    both-inside _ _ (index .put-decimal .ensures)
+    (both-inside (ascii " " ++ decimal (answerOf (entry index .args .answer) [] .refusal)) _
+    (written-as (ap (λ (n : ℕ). ascii " " ++ decimal n) (refused index .refusal .ensures [])) (put .put-number .ensures)) (c .before .before .put-given .ensures))
 
 pub answer-line-spec : {M : Type 1} → statement M
 answer-line-spec =

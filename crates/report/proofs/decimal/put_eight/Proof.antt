@@ -1,7 +1,5 @@
 -- The one half, and the other behind it.
-use Prim.Native.Nat.{_/_, _%_}
 use borrow.Author.Needs.{needs}
-use Rattle.report.specs.Digits.{four}
 use Rattle.report.proofs.Writes.{both-written}
 use Rattle.report.proofs.decimal.put_eight.Statement.{statement}
 use Rattle.report.proofs.decimal.put_eight.Tie as tie
@@ -16,7 +14,7 @@ same-length : tie.Need-same-length
 same-length c = search needs
 
 returns : tie.Need-returns
-returns c = let n = c .before .before .before .before .before .before .before .before .before .args .n in both-written (four (n / 10000)) (four (n % 10000)) (c .before .before .before .before .before .before .put-four .ensures) (c .before .before .put-four2 .ensures)
+returns c = both-written _ _ (c .before .before .before .before .before .before .put-four .ensures) (c .before .before .put-four2 .ensures)
 
 pub put-eight-spec : {M : Type 1} → statement M
 put-eight-spec = tie.close (tie.spec put-four-requires put-four-requires-2 same-length returns)

@@ -1,7 +1,5 @@
 -- The one half, and the other behind it.
-use Prim.Native.Nat.{_/_, _%_}
 use borrow.Author.Needs.{needs}
-use Rattle.report.specs.Digits.{two}
 use Rattle.report.proofs.Writes.{both-written}
 use Rattle.report.proofs.decimal.put_four.Statement.{statement}
 use Rattle.report.proofs.decimal.put_four.Tie as tie
@@ -16,7 +14,7 @@ same-length : tie.Need-same-length
 same-length c = search needs
 
 returns : tie.Need-returns
-returns c = let n = c .before .before .before .before .before .before .before .before .before .args .n in both-written (two (n / 100)) (two (n % 100)) (c .before .before .before .before .before .before .put-two .ensures) (c .before .before .put-two2 .ensures)
+returns c = both-written _ _ (c .before .before .before .before .before .before .put-two .ensures) (c .before .before .put-two2 .ensures)
 
 pub put-four-spec : {M : Type 1} → statement M
 put-four-spec = tie.close (tie.spec put-two-requires put-two-requires-2 same-length returns)

@@ -1,10 +1,30 @@
 -- One byte behind the other.
-use Prim.Native.Nat.{_/_, _%_}
-use mathlib.Core.List.{[], _∷_}
 use borrow.Author.Needs.{needs}
 use Rattle.report.proofs.Writes.{both-written}
 use Rattle.report.proofs.word.put_eight_bytes.Statement.{statement}
 use Rattle.report.proofs.word.put_eight_bytes.Tie as tie
+
+-- the state behind a byte, as it is known behind the next
+abbrev first : tie.After-put-byte2 → tie.After-put-byte
+first c = c .before .before .before .before
+
+abbrev second : tie.After-put-byte3 → tie.After-put-byte2
+second c = c .before .before .before .before
+
+abbrev third : tie.After-put-byte4 → tie.After-put-byte3
+third c = c .before .before .before .before
+
+abbrev fourth : tie.After-put-byte5 → tie.After-put-byte4
+fourth c = c .before .before .before .before
+
+abbrev fifth : tie.After-put-byte6 → tie.After-put-byte5
+fifth c = c .before .before .before .before
+
+abbrev sixth : tie.After-put-byte7 → tie.After-put-byte6
+sixth c = c .before .before .before .before
+
+abbrev seventh : tie.After-put-byte8 → tie.After-put-byte7
+seventh c = c .before .before .before .before
 
 cast-put-byte : tie.Need-cast-put-byte
 cast-put-byte c = search needs
@@ -58,7 +78,23 @@ same-length : tie.Need-same-length
 same-length c = search needs
 
 returns : tie.Need-returns
-returns c = let n = c .before .before .before .before .before .before .before .before .before .before .before .before .before .before .before .before .before .before .before .before .before .before .before .before .before .before .before .before .before .before .before .before .before .args .n in both-written (n / 72057594037927936 ∷ []) (n / 281474976710656 % 256 ∷ n / 1099511627776 % 256 ∷ n / 4294967296 % 256 ∷ n / 16777216 % 256 ∷ n / 65536 % 256 ∷ n / 256 % 256 ∷ n % 256 ∷ []) (c .before .before .before .before .before .before .before .before .before .before .before .before .before .before .before .before .before .before .before .before .before .before .before .before .before .before .before .before .before .before .put-byte .ensures) (both-written (n / 281474976710656 % 256 ∷ []) (n / 1099511627776 % 256 ∷ n / 4294967296 % 256 ∷ n / 16777216 % 256 ∷ n / 65536 % 256 ∷ n / 256 % 256 ∷ n % 256 ∷ []) (c .before .before .before .before .before .before .before .before .before .before .before .before .before .before .before .before .before .before .before .before .before .before .before .before .before .before .put-byte2 .ensures) (both-written (n / 1099511627776 % 256 ∷ []) (n / 4294967296 % 256 ∷ n / 16777216 % 256 ∷ n / 65536 % 256 ∷ n / 256 % 256 ∷ n % 256 ∷ []) (c .before .before .before .before .before .before .before .before .before .before .before .before .before .before .before .before .before .before .before .before .before .before .put-byte3 .ensures) (both-written (n / 4294967296 % 256 ∷ []) (n / 16777216 % 256 ∷ n / 65536 % 256 ∷ n / 256 % 256 ∷ n % 256 ∷ []) (c .before .before .before .before .before .before .before .before .before .before .before .before .before .before .before .before .before .before .put-byte4 .ensures) (both-written (n / 16777216 % 256 ∷ []) (n / 65536 % 256 ∷ n / 256 % 256 ∷ n % 256 ∷ []) (c .before .before .before .before .before .before .before .before .before .before .before .before .before .before .put-byte5 .ensures) (both-written (n / 65536 % 256 ∷ []) (n / 256 % 256 ∷ n % 256 ∷ []) (c .before .before .before .before .before .before .before .before .before .before .put-byte6 .ensures) (both-written (n / 256 % 256 ∷ []) (n % 256 ∷ []) (c .before .before .before .before .before .before .put-byte7 .ensures) (c .before .before .put-byte8 .ensures)))))))
+returns c =
+    let eight = c .before .before in
+    let seven = seventh eight in
+    let six = sixth seven in
+    let five = fifth six in
+    let four = fourth five in
+    let three = third four in
+    let two = second three in
+    let one = first two in
+    both-written _ _ (one .put-byte .ensures)
+    (both-written _ _ (two .put-byte2 .ensures)
+    (both-written _ _ (three .put-byte3 .ensures)
+    (both-written _ _ (four .put-byte4 .ensures)
+    (both-written _ _ (five .put-byte5 .ensures)
+    (both-written _ _ (six .put-byte6 .ensures)
+    (both-written _ _ (seven .put-byte7 .ensures)
+    (eight .put-byte8 .ensures)))))))
 
 pub put-eight-bytes-spec : {M : Type 1} → statement M
 put-eight-bytes-spec =
