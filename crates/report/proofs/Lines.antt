@@ -10,32 +10,24 @@ use Rattle.definition.specs.Output.{Text, ascii, decimal, word, words, pointed,
 use Rattle.definition.proofs.Parts.{drop-next}
 use Rattle.report.specs.Written.{Room, Written}
 use Rattle.report.proofs.Numbers.{decimal-length, hex-length}
-use Rattle.report.proofs.Writes.{both-written, room-front, room-behind}
+use Rattle.report.proofs.Writes.{Left, room-next, less-left}
 
--- ---- a field, and those behind it
-module _ {out : List ℕ} {at : ℕ} {f : Text} (fs : List Text) where
-  pub field-room : Room out at (ended (f ∷ fs)) → Room out at (ascii " " ++ f)
+-- ---- the fields that are left of a line, and its end
+module _ {before : List ℕ} {at : ℕ} {whole out : List ℕ} {p : ℕ} where
+  pub field-room : {f : Text} (fs : List Text) → Left before at whole out p (ended (f ∷ fs)) → Room out p (ascii " " ++ f)
   unfolding ended
-  field-room r = room-front (ascii " " ++ f) (ended fs) r
+  field-room {f} fs l = room-next (ascii " " ++ f) (ended fs) l
 
-  pub field-behind : {mid : List ℕ} {p : ℕ} → Room out at (ended (f ∷ fs)) → Written out at (ascii " " ++ f) mid p → Room mid p (ended fs)
+  -- a field was written
+  pub field-left : {f : Text} (fs : List Text) {out′ : List ℕ} {p′ : ℕ}
+      → Left before at whole out p (ended (f ∷ fs)) → Written out p (ascii " " ++ f) out′ p′ → Left before at whole out′ p′ (ended fs)
   unfolding ended
-  field-behind r w = room-behind (ascii " " ++ f) (ended fs) r w
+  field-left {f} fs l w = less-left (ascii " " ++ f) (ended fs) l w
 
-  pub field-written : {mid : List ℕ} {p : ℕ} {after : List ℕ} {end : ℕ}
-      → Written out at (ascii " " ++ f) mid p → Written mid p (ended fs) after end → Written out at (ended (f ∷ fs)) after end
+  -- only the end is
+  pub end-left : Left before at whole out p (ended []) → Left before at whole out p (ascii "\n")
   unfolding ended
-  field-written v w = both-written (ascii " " ++ f) (ended fs) v w
-
--- the end of a line
-module _ {out : List ℕ} {at : ℕ} where
-  pub end-room : Room out at (ended []) → Room out at (ascii "\n")
-  unfolding ended
-  end-room r = r
-
-  pub end-written : {after : List ℕ} {end : ℕ} → Written out at (ascii "\n") after end → Written out at (ended []) after end
-  unfolding ended
-  end-written w = w
+  end-left l = l
 
 -- ---- words
 pub words-none : (ws : List ℕ) → length ws ≡ 0 → ascii " -\n" ≡ ended (words ws)

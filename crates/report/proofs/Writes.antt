@@ -15,6 +15,9 @@ byte-written out at x = record { contents = write-one at x out; place = refl }
 pub written-as : {out : List ℕ} {at : ℕ} {text text′ after : List ℕ} {end : ℕ} → text ≡ text′ → Written out at text after end → Written out at text′ after end
 written-as {out} {at} {text} {text′} {after} {end} e w = subst (λ (t : List ℕ). Written out at t after end) e w
 
+pub byte-as : {out : List ℕ} {at x y : ℕ} {after : List ℕ} {end : ℕ} → x ≡ y → Written out at (x ∷ []) after end → Written out at (y ∷ []) after end
+byte-as e w = written-as (ap (λ (b : ℕ). b ∷ []) e) w
+
 -- one text, and another behind it
 pub both-written : {out : List ℕ} {at : ℕ} (s t : List ℕ) {mid : List ℕ} {p : ℕ} {after : List ℕ} {end : ℕ}
     → Written out at s mid p → Written mid p t after end → Written out at (s ++ t) after end
@@ -32,14 +35,6 @@ front-written {out} {at} x text {after} {end} w = record {
   contents = ap (λ (o : List ℕ). set o at x) (w .contents) ∙ write-front at x text out;
   place = omega (arith, w .place);
 }
-
--- there is room for both: so there is for the one, and then for the other
-pub room-front : {out : List ℕ} {at : ℕ} (s t : List ℕ) → Room out at (s ++ t) → Room out at s
-room-front s t r = record { fits = omega (arith, r .fits, length-append s t) }
-
-pub room-behind : {out : List ℕ} {at : ℕ} (s t : List ℕ) {mid : List ℕ} {p : ℕ} → Room out at (s ++ t) → Written out at s mid p → Room mid p t
-room-behind {out} {at} s t {mid} {p} r w =
-    record { fits = omega (arith, r .fits, w .place, length-append s t, ap length (w .contents) ∙ write-length at s out) }
 
 pub room-as : {out : List ℕ} {at : ℕ} {text text′ : List ℕ} → text ≡ text′ → Room out at text → Room out at text′
 room-as {out} {at} e r = subst (λ (t : List ℕ). Room out at t) e r
@@ -59,44 +54,48 @@ pub both-inside : {out : List ℕ} {at : ℕ} (s t : List ℕ) {mid : List ℕ} 
     → Written out at s mid p → WrittenInside mid p t after end → WrittenInside out at (s ++ t) after end
 both-inside s t v w = record { written = both-written s t v (w .written); fits = w .fits }
 
--- ---- of `whole`, which goes into `before` at `at`, `rest` is left; it goes into `out` at p
+-- ---- of `whole`, which goes into `before` at `at`, `rest` is left; it goes into `out` at p, where there is room for it
 pub record Left (before : List ℕ) (at : ℕ) (whole out : List ℕ) (p : ℕ) (rest : List ℕ) : Type 0 where
   pub contents : writeAt p rest out ≡ writeAt at whole before
   pub place : p + length rest ≡ at + length whole
   pub kept : length out ≡ length before
+  pub room : Room out p rest
 
-pub all-left : (before : List ℕ) (at : ℕ) (whole : List ℕ) → Left before at whole before at whole
-all-left before at whole = record { contents = refl; place = refl; kept = refl }
+pub all-left : {before : List ℕ} {at : ℕ} {whole : List ℕ} → Room before at whole → Left before at whole before at whole
+all-left r = record { contents = refl; place = refl; kept = refl; room = r }
 
 module _ {before : List ℕ} {at : ℕ} {whole out : List ℕ} {p : ℕ} where
   -- the same text, said in another way
   pub left-as : {rest rest′ : List ℕ} → rest ≡ rest′ → Left before at whole out p rest → Left before at whole out p rest′
   left-as e l = subst (λ (r : List ℕ). Left before at whole out p r) e l
 
+  -- there is room for its front
+  pub room-next : (text rest : List ℕ) → Left before at whole out p (text ++ rest) → Room out p text
+  room-next text rest l = record { fits = omega (arith, l .room .fits, length-append text rest) }
+
   -- a text was written
   pub less-left : (text rest : List ℕ) {out′ : List ℕ} {p′ : ℕ} → Left before at whole out p (text ++ rest) → Written out p text out′ p′ → Left before at whole out′ p′ rest
-  less-left text rest {out′} {p′} l w = record {
-    contents =
-        ap (λ (q : ℕ). writeAt q rest out′) (w .place) ∙ ap (λ (o : List ℕ). writeAt (p + length text) rest o) (w .contents)
-        ∙ write-more p text rest out ∙ l .contents;
-    place = omega (arith, w .place, l .place, length-append text rest);
-    kept = ap length (w .contents) ∙ write-length p text out ∙ l .kept;
-  }
+  less-left text rest {out′} {p′} l w =
+      let same : length out′ ≡ length out = ap length (w .contents) ∙ write-length p text out in
+      record {
+        contents =
+            ap (λ (q : ℕ). writeAt q rest out′) (w .place) ∙ ap (λ (o : List ℕ). writeAt (p + length text) rest o) (w .contents)
+            ∙ write-more p text rest out ∙ l .contents;
+        place = omega (arith, w .place, l .place, length-append text rest);
+        kept = same ∙ l .kept;
+        room = record { fits = omega (arith, l .room .fits, w .place, same, length-append text rest) };
+      }
 
   -- nothing is left
   pub none-left : Left before at whole out p [] → Written before at whole out p
   none-left l = record { contents = sym (write-none p out) ∙ l .contents; place = sym (add-zero p) ∙ l .place }
 
   -- the last text
-  pub last-written : (text : List ℕ) {out′ : List ℕ} {p′ : ℕ} → Left before at whole out p text → Written out p text out′ p′ → Written before at whole out′ p′
-  last-written text {out′} {p′} l w = record {
+  pub last-written : {text out′ : List ℕ} {p′ : ℕ} → Left before at whole out p text → Written out p text out′ p′ → Written before at whole out′ p′
+  last-written l w = record {
     contents = w .contents ∙ l .contents;
     place = w .place ∙ l .place;
   }
 
-  -- there is room for what is left, and for its front
-  pub room-left : {rest : List ℕ} → Left before at whole out p rest → Room before at whole → Room out p rest
-  room-left l r = record { fits = omega (arith, l .place, l .kept, r .fits) }
-
-  pub room-next : (text rest : List ℕ) → Left before at whole out p (text ++ rest) → Room before at whole → Room out p text
-  room-next text rest l r = record { fits = omega (arith, l .place, l .kept, r .fits, length-append text rest) }
+  pub last-inside : {text out′ : List ℕ} {p′ : ℕ} → Left before at whole out p text → Written out p text out′ p′ → WrittenInside before at whole out′ p′
+  last-inside {text} l w = record { written = last-written l w; fits = inside text (l .room) w .fits }

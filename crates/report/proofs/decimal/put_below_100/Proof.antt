@@ -1,11 +1,9 @@
 -- One digit or two.
-use Prim.Native.Nat.{ℕ}
-use mathlib.Core.List.{[], _∷_}
-use mathlib.Core.Path.{ap, sym, _∙_}
+use mathlib.Core.Path.{sym}
 use native.Mathlib.Omega.{arith}
 use borrow.Author.Needs.{needs}
 use Rattle.report.proofs.Numbers.{decimal-one, decimal-two}
-use Rattle.report.proofs.Writes.{byte-room, room-as, written-as}
+use Rattle.report.proofs.Writes.{byte-room, byte-as, room-as, written-as}
 use Rattle.report.proofs.decimal.put_below_100.Statement.{statement}
 use Rattle.report.proofs.decimal.put_below_100.Tie as tie
 
@@ -19,7 +17,7 @@ same-length : tie.Need-same-length
 same-length c = search needs
 
 returns : tie.Need-returns
-returns c = written-as (ap (λ (b : ℕ). b ∷ []) (c .before .before .before .decimal-digit .ensures) ∙ sym (decimal-one _ (c .before .before .before .before .before .if1 .taken))) (c .before .before .put-byte .ensures)
+returns c = written-as (sym (decimal-one _ (c .before .before .before .before .before .if1 .taken))) (byte-as (c .before .before .before .decimal-digit .ensures) (c .before .before .put-byte .ensures))
 
 put-two-requires : tie.Need-put-two-requires
 put-two-requires c κs = (omega arith, room-as (decimal-two _ (c .before .if1 .left) (omega arith)) (c .before .before .before .pre .1))

@@ -1,12 +1,12 @@
 -- One digit, and the other behind it.
-use Prim.Native.Nat.{ℕ, _/_, _%_}
-use mathlib.Core.List.{[], _∷_}
-use mathlib.Core.Path.{ap}
 use borrow.Author.Needs.{needs}
-use Rattle.definition.specs.Output.{digit}
-use Rattle.report.proofs.Writes.{both-written, written-as}
+use Rattle.report.proofs.Writes.{both-written, byte-as}
 use Rattle.report.proofs.decimal.put_two.Statement.{statement}
 use Rattle.report.proofs.decimal.put_two.Tie as tie
+
+-- the state behind the first digit, as it is known behind the second
+abbrev first : tie.After-put-byte2 → tie.After-put-byte
+first c = c .before .before .before .before .before
 
 decimal-digit-requires : tie.Need-decimal-digit-requires
 decimal-digit-requires c κs = search needs
@@ -24,7 +24,9 @@ same-length : tie.Need-same-length
 same-length c = search needs
 
 returns : tie.Need-returns
-returns c = both-written (digit (c .before .before .before .before .before .before .before .before .before .before .before .args .n / 10) ∷ []) (digit (c .before .before .before .before .before .before .before .before .before .before .before .args .n % 10) ∷ []) (written-as (ap (λ (b : ℕ). b ∷ []) (c .before .before .before .before .before .before .before .before .decimal-digit .ensures)) (c .before .before .before .before .before .before .before .put-byte .ensures)) (written-as (ap (λ (b : ℕ). b ∷ []) (c .before .before .before .decimal-digit2 .ensures)) (c .before .before .put-byte2 .ensures))
+returns c =
+    let second = c .before .before in
+    both-written _ _ (byte-as (first second .before .decimal-digit .ensures) (first second .put-byte .ensures)) (byte-as (second .before .decimal-digit2 .ensures) (second .put-byte2 .ensures))
 
 pub put-two-spec : {M : Type 1} → statement M
 put-two-spec =
