@@ -5,7 +5,7 @@ ghost use Rattle.definition.specs.Notation.{any};
 ghost use Rattle.definition.specs.Memory.{wrappingOffset};
 ghost use Rattle.definition.specs.Request.{badByte};
 ghost use Rattle.pointer.specs.Pointer.{provenanceOf, thinPointerOf, back, ahead};
-ghost use Rattle.pointer.specs.Byte.{initialised, hasProvenance, positionOf, allocationOf, nodeOf, valueOf};
+ghost use Rattle.pointer.specs.Byte.{initialised, hasProvenance};
 
 // What a pointer may access: nothing, or an allocation, through one of its nodes.
 pub enum Provenance {
@@ -58,7 +58,7 @@ pub fn bytes_ahead(offset: i64) -> u64
 
 // ---- a byte is a word (specs/Byte.antt)
 // A word that is no byte: "An uninitialised byte is 0; without provenance the middle fields are 0."
-pub fn bad_byte(word: u32) -> bool
+fn bad_byte(word: u32) -> bool
     ensures { λ r. ⌜ r ≡ badByte word ⌝ }
 {
     if !is_initialised(word) {
@@ -83,38 +83,14 @@ pub fn any_bad_byte(bytes: &[u32]) -> bool
     bad
 }
 
-pub fn is_initialised(word: u32) -> bool
+fn is_initialised(word: u32) -> bool
     ensures { λ r. ⌜ r ≡ initialised word ⌝ }
 {
     (word >> 31) % 2 == 1
 }
 
-pub fn has_provenance(word: u32) -> bool
+fn has_provenance(word: u32) -> bool
     ensures { λ r. ⌜ r ≡ hasProvenance word ⌝ }
 {
     (word >> 30) % 2 == 1
-}
-
-pub fn position(word: u32) -> u32
-    ensures { λ r. ⌜ r ≡ positionOf word ⌝ }
-{
-    (word >> 27) % 0x8
-}
-
-pub fn allocation(word: u32) -> u32
-    ensures { λ r. ⌜ r ≡ allocationOf word ⌝ }
-{
-    (word >> 20) % 0x80
-}
-
-pub fn node(word: u32) -> u32
-    ensures { λ r. ⌜ r ≡ nodeOf word ⌝ }
-{
-    (word >> 8) % 0x1000
-}
-
-pub fn value(word: u32) -> u8
-    ensures { λ r. ⌜ r ≡ valueOf word ⌝ }
-{
-    (word % 0x100) as u8
 }

@@ -152,14 +152,14 @@ impl Request {
     }
 
     // ---- a retag's fourth word
-    pub fn function_entry(self) -> bool
+    fn function_entry(self) -> bool
         ensures { λ r. ⌜ r ≡ functionEntry (fieldsOf self) ⌝ }
     {
         let fourth = self.fourth;
         (fourth >> 31) % 2 == 1
     }
 
-    pub fn unpin(self) -> bool
+    fn unpin(self) -> bool
         ensures { λ r. ⌜ r ≡ unpin (fieldsOf self) ⌝ }
     {
         let fourth = self.fourth;
@@ -187,7 +187,7 @@ impl Request {
         wide((fourth >> 23) % 0x20)
     }
 
-    pub fn layout_length(self) -> usize
+    fn layout_length(self) -> usize
         ensures { λ r. ⌜ r ≡ layoutLength (fieldsOf self) ⌝ }
     {
         let fourth = self.fourth;
@@ -196,14 +196,14 @@ impl Request {
 
     // ---- a retag's pointer
     // A reference or a box.
-    pub fn is_safe(self) -> bool
+    fn is_safe(self) -> bool
         ensures { λ r. ⌜ r ≡ isSafe (fieldsOf self) ⌝ }
     {
         self.extra < 3
     }
 
     // "a mutable reference that isn't unpin"
-    pub fn is_pinned(self) -> bool
+    fn is_pinned(self) -> bool
         ensures { λ r. ⌜ r ≡ isPinned (fieldsOf self) ⌝ }
     {
         (self.extra == 1) & !self.unpin()
@@ -225,27 +225,6 @@ impl Request {
     }
 
     // ---- a signed length, "in two's complement"
-    pub fn bytes_back(self) -> u64
-        ensures { λ r. ⌜ r ≡ bytesBack (self .fourth) ⌝ }
-    {
-        let fourth = self.fourth;
-        if fourth < 0x8000_0000 {
-            return 0;
-        }
-        0x1_0000_0000 - (fourth as u64)
-    }
-
-    pub fn bytes_ahead(self) -> u64
-        ensures { λ r. ⌜ r ≡ bytesAhead (self .fourth) ⌝ }
-    {
-        let fourth = self.fourth;
-        if fourth < 0x8000_0000 {
-            return fourth as u64;
-        }
-        0
-    }
-
-    // The length itself.
     pub fn signed_length(self) -> i64
         ensures { λ r. ⌜ (back r ≡ bytesBack (self .fourth)) × (ahead r ≡ bytesAhead (self .fourth)) ⌝ }
     {
