@@ -46,12 +46,6 @@ pub struct Request {
 }
 
 // ---- the words
-fn wide(x: u32) -> usize
-    ensures { λ r. ⌜ r ≡ x ⌝ }
-{
-    x as usize
-}
-
 // A word that is missing reads as 0; `is_miscounted` finds that it is missing.
 fn word_at(words: &[u32], i: usize) -> u32
     ensures { λ r. ⌜ r ≡ getD (now (words .entry)) i 0 ⌝ }
@@ -184,14 +178,14 @@ impl Request {
         ensures { λ r. ⌜ r ≡ frameNumber (fieldsOf self) ⌝ }
     {
         let fourth = self.fourth;
-        wide((fourth >> 23) % 0x20)
+        ((fourth >> 23) % 0x20) as usize
     }
 
     fn layout_length(self) -> usize
         ensures { λ r. ⌜ r ≡ layoutLength (fieldsOf self) ⌝ }
     {
         let fourth = self.fourth;
-        wide(fourth % 0x80_0000)
+        (fourth % 0x80_0000) as usize
     }
 
     // ---- a retag's pointer
@@ -241,7 +235,7 @@ impl Request {
     {
         let kind = self.kind;
         match kind {
-            Kind::Store => wide(self.fourth),
+            Kind::Store => self.fourth as usize,
             Kind::Retag => {
                 if self.is_safe() {
                     self.layout_length()
@@ -260,7 +254,7 @@ impl Request {
         let kind = self.kind;
         match kind {
             Kind::Retag => self.frame_number(),
-            _ => wide(self.fourth % 32),
+            _ => (self.fourth % 32) as usize,
         }
     }
 }

@@ -7,17 +7,11 @@ ghost use lib.ListN.{length, drop};
 ghost use Rattle.definition.specs.Run.{wordsOf};
 ghost use Rattle.stream.specs.Stream.{wordFrom, WordsRead, HeadOf, CutOf, moved};
 
-fn wide(byte: u8) -> u32
-    ensures { λ r. ⌜ r ≡ byte ⌝ }
-{
-    byte as u32
-}
-
 // "stored most significant byte first"
 fn word_from(a: u8, b: u8, c: u8, d: u8) -> u32
     ensures { λ r. ⌜ r ≡ wordFrom a b c d ⌝ }
 {
-    wide(a) * 0x100_0000 + wide(b) * 0x1_0000 + wide(c) * 0x100 + wide(d)
+    (a as u32) * 0x100_0000 + (b as u32) * 0x1_0000 + (c as u32) * 0x100 + (d as u32)
 }
 
 // The word whose bytes start at a place.

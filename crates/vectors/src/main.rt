@@ -19,12 +19,6 @@ struct Record {
     end: usize,
 }
 
-fn wide(x: u32) -> usize
-    ensures { λ r. ⌜ r ≡ x ⌝ }
-{
-    x as usize
-}
-
 fn one_if(b: bool) -> u64
     ensures { λ r. ⌜ r ≡ one b ⌝ }
 {
@@ -46,8 +40,8 @@ fn record_at(file: &[u8], at: usize) -> Record
     if total - at < 8 {
         return none;
     }
-    let run_length = wide(stream::word_at(file, at));
-    let text_length = wide(stream::word_at(file, at + 4));
+    let run_length = stream::word_at(file, at) as usize;
+    let text_length = stream::word_at(file, at + 4) as usize;
     let run = at + 8;
     if total - run < run_length {
         return none;

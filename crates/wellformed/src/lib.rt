@@ -128,12 +128,6 @@ fn any_bad_code(live: bool, protector: u8, row: &[u8]) -> bool
     false
 }
 
-fn wide(x: u16) -> usize
-    ensures { λ r. ⌜ r ≡ x ⌝ }
-{
-    x as usize
-}
-
 // The first `count` nodes, with rows of `size` codes.
 fn bad_nodes(
     live: bool,
@@ -150,7 +144,7 @@ fn bad_nodes(
     let mut row: usize = 0;
     while n < count {
         let protector = protectors[n];
-        if bad_place(n, wide(parents[n]), protector) {
+        if bad_place(n, parents[n] as usize, protector) {
             return true;
         }
         let end = row + size;

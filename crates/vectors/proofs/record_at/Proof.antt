@@ -1,7 +1,7 @@
 -- The record is there if the file has all of it (Counting).
 use Prim.Native.Nat.{ℕ, _+_}
 use mathlib.Core.List.{List}
-use mathlib.Core.Path.{_≡_, sym, ap, _∙_}
+use mathlib.Core.Path.{_≡_, sym, ap}
 use native.Mathlib.Omega.{arith}
 use borrow.Author.Needs.{needs}
 use denote.Ref.{now}
@@ -12,15 +12,15 @@ use Rattle.vectors.proofs.record_at.Statement.{statement}
 use Rattle.vectors.proofs.record_at.Tie as tie
 
 -- the entry
-abbrev entry : tie.After-wide2 → tie.Start
-entry c = c .before .before .before .before .before .before
+abbrev entry : tie.After-word-at2 → tie.Start
+entry c = c .before .before .before .before
 
 -- the two words
-first : (c : tie.After-wide2) → c .before .before .wide .result ≡ wordAt (now (entry c .args .file)) (entry c .args .at)
-first c = c .before .before .wide .ensures ∙ sym (ap (λ (l : List ℕ). getD l 0 0) (c .before .before .before .word-at .ensures))
+first : (c : tie.After-word-at2) → c .before .word-at .result ≡ wordAt (now (entry c .args .file)) (entry c .args .at)
+first c = sym (ap (λ (l : List ℕ). getD l 0 0) (c .before .word-at .ensures))
 
-second : (c : tie.After-wide2) → c .wide2 .result ≡ wordAt (now (entry c .args .file)) (entry c .args .at + 4)
-second c = c .wide2 .ensures ∙ sym (ap (λ (l : List ℕ). getD l 0 0) (c .before .word-at2 .ensures))
+second : (c : tie.After-word-at2) → c .word-at2 .result ≡ wordAt (now (entry c .args .file)) (entry c .args .at + 4)
+second c = sym (ap (λ (l : List ℕ). getD l 0 0) (c .word-at2 .ensures))
 
 sub-if1 : tie.Need-sub-if1
 sub-if1 c = search needs
@@ -31,8 +31,8 @@ returns c = let s = c .before .before in missing (now (s .args .file)) (s .args 
 word-at-requires : tie.Need-word-at-requires
 word-at-requires c κs = search needs
 
-wide-requires : tie.Need-wide-requires
-wide-requires c κs = search needs
+cast-run-length : tie.Need-cast-run-length
+cast-run-length c = search needs
 
 add-word-at : tie.Need-add-word-at
 add-word-at c = search needs
@@ -40,8 +40,8 @@ add-word-at c = search needs
 word-at-requires-2 : tie.Need-word-at-requires-2
 word-at-requires-2 c κs = search needs
 
-wide-requires-2 : tie.Need-wide-requires-2
-wide-requires-2 c κs = search needs
+cast-text-length : tie.Need-cast-text-length
+cast-text-length c = search needs
 
 add-run : tie.Need-add-run
 add-run c = search needs
@@ -65,7 +65,7 @@ add-t9 : tie.Need-add-t9
 add-t9 c = search needs
 
 returns-4 : tie.Need-returns-4
-returns-4 c = let w = c .before .before in let s = entry w in placed (now (s .args .file)) (s .args .at) (w .before .before .wide .result) (w .wide2 .result) (first w) (second w) (omega arith)
+returns-4 c = let w = c .before .before in let s = entry w in placed (now (s .args .file)) (s .args .at) (w .before .word-at .result) (w .word-at2 .result) (first w) (second w) (omega arith)
 
 pub record-at-spec : {M : Type 1} → statement M
 record-at-spec =
@@ -74,10 +74,10 @@ record-at-spec =
     sub-if1
     returns
     word-at-requires
-    wide-requires
+    cast-run-length
     add-word-at
     word-at-requires-2
-    wide-requires-2
+    cast-text-length
     add-run
     sub-if2
     returns-2

@@ -32,22 +32,22 @@ loop-holds c =
 shared-slice-read-protector : tie.Need-shared-slice-read-protector Inv-loop μ-loop
 shared-slice-read-protector c = search needs
 
-mul-wide : tie.Need-mul-wide Inv-loop μ-loop
-mul-wide c = search needs
+mul-bad-place : tie.Need-mul-bad-place Inv-loop μ-loop
+mul-bad-place c = search needs
 
-shared-slice-read-wide : tie.Need-shared-slice-read-wide Inv-loop μ-loop
-shared-slice-read-wide c = search needs
+shared-slice-read-bad-place : tie.Need-shared-slice-read-bad-place Inv-loop μ-loop
+shared-slice-read-bad-place c = search needs
 
-wide-requires : tie.Need-wide-requires Inv-loop μ-loop
-wide-requires c κs = search needs
+cast-bad-place : tie.Need-cast-bad-place Inv-loop μ-loop
+cast-bad-place c = record { fits = omega (arith, c .shared-slice-known5 .given (c .before .before .before .loop .n)) }
 
 bad-place-requires : tie.Need-bad-place-requires Inv-loop μ-loop
 bad-place-requires c κs = search needs
 
 returns : tie.Need-returns Inv-loop μ-loop
 returns c =
-    let at = c .before .before .before .before .before .before in
-    let a = c .before .before .before .before .before .before .before .before .before .before .args in
+    let at = c .before .before .before .before .before in
+    let a = c .before .before .before .before .before .before .before .before .before .args in
     let n = at .loop .n in
     let row = at .loop .row in
     let P = a .parents .now in
@@ -55,13 +55,13 @@ returns c =
     let C = a .codes .now in
     let turn = nodes-turn (a .live) (a .size) (a .count) n row P R C (omega arith) in
     let place : badPlace n (getD P n 0) (getD R n 0) ≡ true =
-    ap (λ (t : ℕ). badPlace n t (getD R n 0)) (sym (c .before .before .wide .ensures)) ∙ sym (c .before .bad-place .ensures) ∙ c .if1 .taken in
+    sym (c .before .bad-place .ensures) ∙ c .if1 .taken in
     sym (turn ∙ or-taken _ _ (or-taken _ _ place)) ∙ at .loop .inv .2
 
 add-end : tie.Need-add-end Inv-loop μ-loop
 add-end c =
-    let s = c .before .before .before .before .before .before .before .before .before .before in
-    omega (arith, row-fits (c .before .before .before .before .before .before .loop .n) (s .args .count) (s .args .size) (omega arith))
+    let s = c .before .before .before .before .before .before .before .before .before in
+    omega (arith, row-fits (c .before .before .before .before .before .loop .n) (s .args .count) (s .args .size) (omega arith))
 
 sub-any-bad-code : tie.Need-sub-any-bad-code Inv-loop μ-loop
 sub-any-bad-code c = search needs
@@ -71,16 +71,16 @@ part-any-bad-code-start c = search needs
 
 part-any-bad-code-end : tie.Need-part-any-bad-code-end Inv-loop μ-loop
 part-any-bad-code-end c =
-    let s = c .before .before .before .before .before .before .before .before .before .before in
-    omega (arith, row-fits (c .before .before .before .before .before .before .loop .n) (s .args .count) (s .args .size) (omega arith))
+    let s = c .before .before .before .before .before .before .before .before .before in
+    omega (arith, row-fits (c .before .before .before .before .before .loop .n) (s .args .count) (s .args .size) (omega arith))
 
 any-bad-code-requires : tie.Need-any-bad-code-requires Inv-loop μ-loop
 any-bad-code-requires c κs = search needs
 
 returns-2 : tie.Need-returns-2 Inv-loop μ-loop
 returns-2 c =
-    let at = c .before .before .before .before .before .before .before .before .before in
-    let a = c .before .before .before .before .before .before .before .before .before .before .before .before .before .args in
+    let at = c .before .before .before .before .before .before .before .before in
+    let a = c .before .before .before .before .before .before .before .before .before .before .before .before .args in
     let n = at .loop .n in
     let row = at .loop .row in
     let P = a .parents .now in
@@ -88,7 +88,7 @@ returns-2 c =
     let C = a .codes .now in
     let turn = nodes-turn (a .live) (a .size) (a .count) n row P R C (omega arith) in
     let place : badPlace n (getD P n 0) (getD R n 0) ≡ false =
-    ap (λ (t : ℕ). badPlace n t (getD R n 0)) (sym (c .before .before .before .before .before .wide .ensures)) ∙ sym (c .before .before .before .before .bad-place .ensures) ∙ c .before .before .before .if1 .left in
+    sym (c .before .before .before .before .bad-place .ensures) ∙ c .before .before .before .if1 .left in
     let wide : row + a .size - row ≡ a .size = omega arith in
     let codes : any (badCode (a .live) (getD R n 0)) (take (a .size) (drop row C)) ≡ true =
     ap (λ (k : ℕ). any (badCode (a .live) (getD R n 0)) (take k (drop row C))) (sym wide) ∙ sym (c .before .any-bad-code .ensures) ∙ c .if2 .taken in
@@ -102,8 +102,8 @@ loop-less c = search needs
 
 loop-again : tie.Need-loop-again Inv-loop μ-loop
 loop-again c =
-    let at = c .before .before .before .before .before .before .before .before .before in
-    let a = c .before .before .before .before .before .before .before .before .before .before .before .before .before .args in
+    let at = c .before .before .before .before .before .before .before .before in
+    let a = c .before .before .before .before .before .before .before .before .before .before .before .before .args in
     let n = at .loop .n in
     let row = at .loop .row in
     let P = a .parents .now in
@@ -111,7 +111,7 @@ loop-again c =
     let C = a .codes .now in
     let turn = nodes-turn (a .live) (a .size) (a .count) n row P R C (omega arith) in
     let place : badPlace n (getD P n 0) (getD R n 0) ≡ false =
-    ap (λ (t : ℕ). badPlace n t (getD R n 0)) (sym (c .before .before .before .before .before .wide .ensures)) ∙ sym (c .before .before .before .before .bad-place .ensures) ∙ c .before .before .before .if1 .left in
+    sym (c .before .before .before .before .bad-place .ensures) ∙ c .before .before .before .if1 .left in
     let wide : row + a .size - row ≡ a .size = omega arith in
     let codes : any (badCode (a .live) (getD R n 0)) (take (a .size) (drop row C)) ≡ false =
     ap (λ (k : ℕ). any (badCode (a .live) (getD R n 0)) (take k (drop row C))) (sym wide) ∙ sym (c .before .any-bad-code .ensures) ∙ c .if2 .left in (
@@ -133,9 +133,9 @@ bad-nodes-spec =
     μ-loop
     loop-holds
     shared-slice-read-protector
-    mul-wide
-    shared-slice-read-wide
-    wide-requires
+    mul-bad-place
+    shared-slice-read-bad-place
+    cast-bad-place
     bad-place-requires
     returns
     add-end

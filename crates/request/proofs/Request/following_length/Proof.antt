@@ -12,8 +12,8 @@ use Rattle.request.proofs.Request.following_length.Tie as tie
 enum-told : tie.Need-enum-told
 enum-told c = search needs
 
-wide-requires : tie.Need-wide-requires
-wide-requires c κs = search needs
+cast-result : tie.Need-cast-result
+cast-result c = search needs
 
 enum-told-2 : tie.Need-enum-told-2
 enum-told-2 c = search needs
@@ -26,7 +26,7 @@ layout-length-requires c κs = search needs
 
 returns : tie.Need-returns
 unfolding followingLength
-returns c = (λ ws. rw (c .before .enum-told .given .1) (c .wide .ensures), omega arith)
+returns c = (λ ws. rw (c .before .enum-told .given .1), omega arith)
 
 returns-2 : tie.Need-returns-2
 unfolding followingLength
@@ -50,7 +50,7 @@ following-length-spec =
     tie.close
     (tie.spec
     enum-told
-    wide-requires
+    cast-result
     enum-told-2
     is-safe-requires
     layout-length-requires
