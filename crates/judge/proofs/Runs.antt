@@ -27,7 +27,7 @@ use Rattle.report.specs.Written.{Written}
 use Rattle.report.proofs.Lengths.{memory-length}
 use Rattle.stream.specs.Stream.{requestSize, nextRequest, programFrom}
 use Rattle.stream.proofs.Cuts.{program-from, program-end, program-more, program-last}
-use Rattle.judge.specs.declared.Place.{Place}
+use Rattle.judge.specs.declared.Advance.{Advance}
 use Rattle.judge.specs.declared.Judged.{Judged}
 use Rattle.judge.specs.declared.Judged.the-variants.{Text, TooLong}
 use Rattle.judge.specs.Turn.{lineRoom, NamesLeak, nameIn, requestEnd, Turned, Taken}
@@ -93,7 +93,7 @@ text-behind {before} {at} text {after} {end} w fits =
 
 -- ---- the run
 -- before the first request
-pub performing-start : (run : List ℕ) (p : Place) {b : Buffers} {F : List ℕ} → HoldsState empty b F → p .from ≡ 0 → p .index ≡ 0 → p .refused ≡ false → Performing run p [] b F
+pub performing-start : (run : List ℕ) (p : Advance) {b : Buffers} {F : List ℕ} → HoldsState empty b F → p .from ≡ 0 → p .index ≡ 0 → p .refused ≡ false → Performing run p [] b F
 performing-start run p h from index going =
     let left : leftAt empty run p ≡ program run =
     ap (λ (t : Bool). if t then ([], empty) else programFrom empty (drop (p .from) run)) going
@@ -121,14 +121,14 @@ pub record LineAdded (s : State) (ws : List ℕ) (index : ℕ) (lines : List ℕ
   pub line : lines′ ≡ lines ++ answerLine index (nameIn (step s ws .0) leak) (step s ws .0)
   pub told : refused ≡ not (eqb (step s ws .0 .refusal) 0)
 
--- the request at place p of a run, and the place behind it
-pub record Advanced (s : State) (run : List ℕ) (p : Place) (lines : List ℕ) (r : Place) (lines′ : List ℕ) (b : Buffers) (F : List ℕ) : Type 0 where
+-- the request of a run at p, and how far the run is behind it
+pub record Advanced (s : State) (run : List ℕ) (p : Advance) (lines : List ℕ) (r : Advance) (lines′ : List ℕ) (b : Buffers) (F : List ℕ) : Type 0 where
   pub added : LineAdded s (nextRequest (drop (p .from) run)) (p .index) lines (r .refused) lines′ b F
   pub from : r .from ≡ requestEnd run (p .from)
   pub index : r .index ≡ p .index + 1
 
 -- the line stands in the buffer, behind the others
-pub advanced : {s : State} {run : List ℕ} {p : Place} {before : List ℕ} {r : Place} {after : List ℕ} {b : Buffers} {F : List ℕ} → Taken s run p before r after b F
+pub advanced : {s : State} {run : List ℕ} {p : Advance} {before : List ℕ} {r : Advance} {after : List ℕ} {b : Buffers} {F : List ℕ} → Taken s run p before r after b F
     → Advanced s run p (take (p .at) before) r (take (r .at) after) b F
 advanced {s} {run} {p} k =
     let w = k .turned .line .written in
@@ -146,7 +146,7 @@ advanced {s} {run} {p} k =
     }
 
 -- one request more
-module _ {s : State} {run : List ℕ} {p : Place} {lines : List ℕ} {r : Place} {lines′ : List ℕ} {b′ : Buffers} {F′ : List ℕ}
+module _ {s : State} {run : List ℕ} {p : Advance} {lines : List ℕ} {r : Advance} {lines′ : List ℕ} {b′ : Buffers} {F′ : List ℕ}
     (going : p .refused ≡ false) (more : p .from < length run) (k : Advanced s run p lines r lines′ b′ F′) where
   abbrev bytes : List ℕ
   bytes = drop (p .from) run
@@ -198,8 +198,8 @@ module _ {s : State} {run : List ℕ} {p : Place} {lines : List ℕ} {r : Place}
       ∙ ap (λ (n : ℕ). lines ++ (line (nameIn (outcome .0) l) ++ later n)) one
       ∙ ap (λ (o : List Answer × State). lines ++ answerLines l (p .index) (o .0)) (sym left-more)
 
-pub performing-next : {run : List ℕ} {p : Place} {lines : List ℕ} {b : Buffers} {F : List ℕ} (h : Performing run p lines b F)
-    {r : Place} {lines′ : List ℕ} {b′ : Buffers} {F′ : List ℕ} → p .refused ≡ false → p .from < length run → Advanced (h .state) run p lines r lines′ b′ F′
+pub performing-next : {run : List ℕ} {p : Advance} {lines : List ℕ} {b : Buffers} {F : List ℕ} (h : Performing run p lines b F)
+    {r : Advance} {lines′ : List ℕ} {b′ : Buffers} {F′ : List ℕ} → p .refused ≡ false → p .from < length run → Advanced (h .state) run p lines r lines′ b′ F′
     → Performing run r lines′ b′ F′
 performing-next {run} {p} h {r} going more k =
     record {
@@ -219,7 +219,7 @@ pub record Performed (run lines : List ℕ) (s : State) (leak : ℕ) : Type 0 wh
   pub text : lines ≡ answerLines leak 0 (program run .0)
   pub final : s ≡ program run .1
 
-pub performing-end : {run : List ℕ} {p : Place} {lines : List ℕ} {b : Buffers} {F : List ℕ} (h : Performing run p lines b F)
+pub performing-end : {run : List ℕ} {p : Advance} {lines : List ℕ} {b : Buffers} {F : List ℕ} (h : Performing run p lines b F)
     → (p .refused ≡ false → p .from < length run → ⊥) → Performed run lines (h .state) (h .leak)
 unfolding answerLines
 performing-end {run} {p} {lines} h over =
@@ -243,7 +243,7 @@ performing-end {run} {p} {lines} h over =
         ∙ program-end (h .state)
 
 -- an allocation that 25 may name in the end: the one that is written, where the last request was refused
-pub right-leak : {run : List ℕ} {p : Place} {lines : List ℕ} {b : Buffers} {F : List ℕ} (h : Performing run p lines b F)
+pub right-leak : {run : List ℕ} {p : Advance} {lines : List ℕ} {b : Buffers} {F : List ℕ} (h : Performing run p lines b F)
     → (leak : ℕ) × (NamesLeak (program run .1 .memory) leak × (p .refused ≡ true → leak ≡ h .leak))
 right-leak {run} {p} h = by (p .refused) refl
   where
@@ -252,7 +252,7 @@ right-leak {run} {p} h = by (p .refused) refl
     by false e = let l = some-leak (program run .1 .memory) in (l .0, (l .1, λ t. absurd (false≢true (sym e ∙ t))))
 
 -- the lines so far are no longer than the whole
-pub text-short : {run : List ℕ} {p : Place} {lines : List ℕ} {b : Buffers} {F : List ℕ} (h : Performing run p lines b F) (leak : ℕ) → (p .refused ≡ true → leak ≡ h .leak)
+pub text-short : {run : List ℕ} {p : Advance} {lines : List ℕ} {b : Buffers} {F : List ℕ} (h : Performing run p lines b F) (leak : ℕ) → (p .refused ≡ true → leak ≡ h .leak)
     → length lines ≤ length (output leak run)
 unfolding output
 text-short {run} {p} {lines} h leak same =
@@ -295,7 +295,7 @@ pub turned-as : {s : State} {ws ws′ : List ℕ} {index : ℕ} {before : List �
 turned-as {s} {ws} {ws′} {index} {before} {at} {after} {end} {refused} {b} {F} e k =
     subst (λ (l : List ℕ). Turned s l index before at after end refused b F) e k
 
-pub taken : {s : State} {run : List ℕ} {p : Place} {before : List ℕ} {r : Place} {after : List ℕ} {b : Buffers} {F : List ℕ} {ws : List ℕ}
+pub taken : {s : State} {run : List ℕ} {p : Advance} {before : List ℕ} {r : Advance} {after : List ℕ} {b : Buffers} {F : List ℕ} {ws : List ℕ}
     → ws ≡ nextRequest (drop (p .from) run) → Turned s ws (p .index) before (p .at) after (r .at) (r .refused) b F
     → r .from ≡ requestEnd run (p .from) → r .index ≡ p .index + 1 → Taken s run p before r after b F
 taken {s} {run} {p} {before} {r} {after} {b} {F} e k from index =
@@ -306,7 +306,7 @@ taken {s} {run} {p} {before} {r} {after} {b} {F} e k from index =
     }
 
 -- a request is left, and there is room for its line
-pub goes : (p : Place) (bytes room : ℕ) → goesOn p bytes room ≡ true → (p .refused ≡ false) × ((p .from < bytes) × (p .at + lineRoom ≤ room))
+pub goes : (p : Advance) (bytes room : ℕ) → goesOn p bytes room ≡ true → (p .refused ≡ false) × ((p .from < bytes) × (p .at + lineRoom ≤ room))
 goes p bytes room e =
     let left : not (p .refused) && ltb (p .from) bytes ≡ true = and-left (not (p .refused) && ltb (p .from) bytes) (leb (p .at + lineRoom) room) e in (
       not-true (p .refused) (and-left (not (p .refused)) (ltb (p .from) bytes) left),

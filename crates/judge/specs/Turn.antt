@@ -20,7 +20,7 @@ use Rattle.state.specs.State.{HoldsState}
 use Rattle.report.specs.Written.{WrittenInside}
 use Rattle.report.specs.Answer.{named}
 use Rattle.stream.specs.Stream.{requestSize, nextRequest}
-use Rattle.judge.specs.declared.Place.{Place}
+use Rattle.judge.specs.declared.Advance.{Advance}
 
 -- no line of an answer is longer: 4,096 words of nine characters, and some numbers
 abbrev pub lineRoom : ℕ
@@ -57,8 +57,8 @@ pub record Turned (s : State) (ws : List ℕ) (index : ℕ) (before : List ℕ) 
 abbrev pub requestEnd : List ℕ → ℕ → ℕ
 requestEnd run from = from + min (requestSize (drop from run)) (length run - from)
 
--- the next request of a run, from place p to place r
-pub record Taken (s : State) (run : List ℕ) (p : Place) (before : List ℕ) (r : Place) (after : List ℕ) (b : Buffers) (F : List ℕ) : Type 0 where
+-- the next request of a run, from p to r
+pub record Taken (s : State) (run : List ℕ) (p : Advance) (before : List ℕ) (r : Advance) (after : List ℕ) (b : Buffers) (F : List ℕ) : Type 0 where
   pub turned : Turned s (nextRequest (drop (p .from) run)) (p .index) before (p .at) after (r .at) (r .refused) b F
   pub from : r .from ≡ requestEnd run (p .from)
   pub index : r .index ≡ p .index + 1

@@ -13,20 +13,20 @@ use Rattle.definition.specs.Output.{answerLines, output}
 use Rattle.tables.specs.Encoding.{Buffers}
 use Rattle.state.specs.State.{HoldsState}
 use Rattle.stream.specs.Stream.{programFrom}
-use Rattle.judge.specs.declared.Place.{Place}
+use Rattle.judge.specs.declared.Advance.{Advance}
 use Rattle.judge.specs.declared.Judged.{Judged}
 use Rattle.judge.specs.declared.Judged.the-variants.{Text, TooLong}
 use Rattle.judge.specs.Turn.{lineRoom, NamesLeak}
 
-abbrev pub goesOn : Place → ℕ → ℕ → Bool
+abbrev pub goesOn : Advance → ℕ → ℕ → Bool
 goesOn p bytes room = (not (p .refused) && ltb (p .from) bytes) && leb (p .at + lineRoom) room
 
--- what is left of the run at place p, in state s: no request behind the one that is refused
-abbrev pub leftAt : State → List ℕ → Place → List Answer × State
+-- what is left of the run at p, in state s: no request behind the one that is refused
+abbrev pub leftAt : State → List ℕ → Advance → List Answer × State
 leftAt s run p = if p .refused then ([], s) else programFrom s (drop (p .from) run)
 
--- the run came to place p: the lines so far, and those of what is left, are the definition's
-pub record Performing (run : List ℕ) (p : Place) (lines : List ℕ) (b : Buffers) (F : List ℕ) : Type 0 where
+-- the run came to p: the lines so far, and those of what is left, are the definition's
+pub record Performing (run : List ℕ) (p : Advance) (lines : List ℕ) (b : Buffers) (F : List ℕ) : Type 0 where
   pub state : State
   pub holds : HoldsState state b F
   pub leak : ℕ
@@ -38,7 +38,7 @@ pub record Performing (run : List ℕ) (p : Place) (lines : List ℕ) (b : Buffe
   pub counted : p .index ≤ p .from
 
 -- so it is, and the lines are those in front of the buffer
-pub record PerformingIn (run : List ℕ) (p : Place) (out : List ℕ) (b : Buffers) (F : List ℕ) : Type 0 where
+pub record PerformingIn (run : List ℕ) (p : Advance) (out : List ℕ) (b : Buffers) (F : List ℕ) : Type 0 where
   pub performing : Performing run p (take (p .at) out) b F
   pub fits : p .at ≤ length out
 

@@ -3,7 +3,7 @@ pub mod turn;
 pub mod whole;
 
 // How far a run was performed: the next request starts at `from`, its line goes to `at`, it has the number `index`; the last was refused.
-pub struct Place {
+pub struct Advance {
     pub from: usize,
     pub at: usize,
     pub index: u64,

@@ -1,5 +1,5 @@
 // One request of a run: performed, and the line of its answer written.
-use crate::Place;
+use crate::Advance;
 use answer::Answer;
 use request::Request;
 use stream::Cut;
@@ -162,9 +162,9 @@ pub fn next(
     run: &[u8],
     request: &mut [u32],
     out: &mut [u8],
-    p: Place,
+    p: Advance,
     cut: Cut,
-) -> Place
+) -> Advance
     requires { ⌜ ((s : State) × HoldsState s (buffers (now allocs) (now parents) (now protectors) (now words) (now codes)) (now frames)) ⌝ }
     requires { ⌜ (p .at + lineRoom ≤ length (now out)) × ((length (now request) ≡ 4100) × ((p .from < length (now run)) × (p .index + 1 < 2 ^ 64))) ⌝ }
     requires { ⌜ CutOf (drop (p .from) (now run)) cut ⌝ }
@@ -189,7 +189,7 @@ pub fn next(
         p.at,
         p.index,
     );
-    Place {
+    Advance {
         from: end,
         at: line.at,
         index: p.index + 1,

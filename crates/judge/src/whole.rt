@@ -1,6 +1,6 @@
 // A whole run at hand, and the text of its verdict.
+use crate::Advance;
 use crate::Judged;
-use crate::Place;
 ghost use Prim.Native.Nat.{ℕ, _+_};
 ghost use mathlib.Core.List.{List};
 ghost use mathlib.Core.Path.{_≡_};
@@ -23,7 +23,7 @@ fn has_room(at: usize, more: usize, room: usize) -> bool
 }
 
 // There is a request left, and room for its line.
-fn goes_on(p: Place, bytes: usize, room: usize) -> bool
+fn goes_on(p: Advance, bytes: usize, room: usize) -> bool
     ensures { λ r. ⌜ r ≡ goesOn p bytes room ⌝ }
 {
     !p.refused & (p.from < bytes) & has_room(p.at, 36992, room)
@@ -40,14 +40,14 @@ fn answer_all(
     run: &[u8],
     request: &mut [u32],
     out: &mut [u8],
-) -> Place
+) -> Advance
     requires { ⌜ HoldsState empty (buffers (now allocs) (now parents) (now protectors) (now words) (now codes)) (now frames) ⌝ }
     requires { ⌜ length (now request) ≡ 4100 ⌝ }
     ensures { λ r. ⌜ PerformingIn (now (run .entry)) r (now (out .exit))
         (buffers (now (allocs .exit)) (now (parents .exit)) (now (protectors .exit)) (now (words .exit)) (now (codes .exit))) (now (frames .exit)) ⌝ }
     ensures { λ r. ⌜ goesOn r (length (now (run .entry))) (length (now (out .exit))) ≡ false ⌝ }
 {
-    let mut p = Place {
+    let mut p = Advance {
         from: 0,
         at: 0,
         index: 0,
@@ -82,7 +82,7 @@ fn finish(
     codes: &[u8],
     run: &[u8],
     out: &mut [u8],
-    p: Place,
+    p: Advance,
 ) -> Judged
     requires { ⌜ ((F : List ℕ) × PerformingIn (now run) p (now out) (buffers (now allocs) (now parents) (now protectors) (now words) (now codes)) F) ⌝ }
     requires { ⌜ goesOn p (length (now run)) (length (now out)) ≡ false ⌝ }

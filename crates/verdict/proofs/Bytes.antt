@@ -25,12 +25,12 @@ by-tests : (ended : Bool) (from end : ℕ) (bytes : List ℕ) → length bytes �
 by-tests true from end bytes h g l = ltb-true from end g
 by-tests false from end bytes h g l = omega (arith, size-some bytes, ltb-false (length bytes) (requestSize bytes) (whole (ltb (length bytes) (requestSize bytes)) l))
 
-pub some-request : (p : Progress) (input : List ℕ) → goesOn p ≡ true → lacks (atHand p input) (p .ended) ≡ false → p .place .from < p .end
+pub some-request : (p : Progress) (input : List ℕ) → goesOn p ≡ true → lacks (atHand p input) (p .ended) ≡ false → p .advance .from < p .end
 some-request p input g l =
-    let from : ℕ = p .place .from in
+    let from : ℕ = p .advance .from in
     by-tests (p .ended) from (p .end) (take (p .end - from) (drop from input))
     (omega (arith, length-take (p .end - from) (drop from input)))
-    (and-right (not (p .failed) && not (p .place .refused)) (not (p .ended) || ltb from (p .end)) g) l
+    (and-right (not (p .failed) && not (p .advance .refused)) (not (p .ended) || ltb from (p .end)) g) l
 
 -- the bytes up to the end, from a place on
 pub same-bytes : (from end : ℕ) (input : List ℕ) → from ≤ end → end ≤ length input → drop from (take end input) ≡ take (end - from) (drop from input)
@@ -41,11 +41,11 @@ same-bytes from end input h k =
     ∙ drop-at (take from input) (take (end - from) (drop from input)) from (length-take-le from input (omega arith))
 
 -- they are as many as the places say
-pub hand-length : (p : Progress) (input : List ℕ) → Ready p input → length (atHand p input) ≡ p .end - p .place .from
-hand-length p input h = length-take-le (p .end - p .place .from) (drop (p .place .from) input) (omega (arith, length-drop (p .place .from) input))
+pub hand-length : (p : Progress) (input : List ℕ) → Ready p input → length (atHand p input) ≡ p .end - p .advance .from
+hand-length p input h = length-take-le (p .end - p .advance .from) (drop (p .advance .from) input) (omega (arith, length-drop (p .advance .from) input))
 
 -- a request that is lacking leaves room in the buffer
-pub lacks-room : (p : Progress) (input : List ℕ) → Ready p input → lacks (atHand p input) (p .ended) ≡ true → p .end - p .place .from < 16400
+pub lacks-room : (p : Progress) (input : List ℕ) → Ready p input → lacks (atHand p input) (p .ended) ≡ true → p .end - p .advance .from < 16400
 lacks-room p input h e =
     let hand : List ℕ = atHand p input in
     omega (arith, hand-length p input h, size-most hand, ltb-true (length hand) (requestSize hand) (and-left (ltb (length hand) (requestSize hand)) (not (p .ended)) e))
@@ -55,24 +55,24 @@ pub read-failed : (p : Progress) (input : List ℕ) (r : Progress) (input′ : L
 read-failed p input r input′ e = subst (λ (q : Progress). ReadOn (q .failed) p input q input′) (sym e) refl
 
 -- the bytes at hand are moved to the front, and n bytes stand behind them
-pub has-read : (p : Progress) (input : List ℕ) → Ready p input → (kept n : ℕ) (front input′ : List ℕ) → kept ≡ p .end - p .place .from → front ≡ moved (p .place .from) (p .end - p .place .from) input
+pub has-read : (p : Progress) (input : List ℕ) → Ready p input → (kept n : ℕ) (front input′ : List ℕ) → kept ≡ p .end - p .advance .from → front ≡ moved (p .advance .from) (p .end - p .advance .from) input
     → take kept input′ ≡ take kept front → kept + n ≤ length input′
-    → HasRead p input (record { place = record { from = 0; at = 0; index = p .place .index; refused = p .place .refused }; end = kept + n; ended = eqb n 0; failed = false }) input′
+    → HasRead p input (record { advance = record { from = 0; at = 0; index = p .advance .index; refused = p .advance .refused }; end = kept + n; ended = eqb n 0; failed = false }) input′
 has-read p input ready kept n front input′ e f g fits =
     let new : List ℕ = take n (drop kept input′) in
     let all : kept + n - 0 ≡ kept + n = omega arith in
     let hand : take kept input′ ≡ atHand p input =
     g
     ∙ ap (take kept) f
-    ∙ ap (λ (m : ℕ). take m (moved (p .place .from) (p .end - p .place .from) input)) e
-    ∙ take-at (atHand p input) (drop (p .end - p .place .from) input) (p .end - p .place .from) (hand-length p input ready) in
+    ∙ ap (λ (m : ℕ). take m (moved (p .advance .from) (p .end - p .advance .from) input)) e
+    ∙ take-at (atHand p input) (drop (p .end - p .advance .from) input) (p .end - p .advance .from) (hand-length p input ready) in
     record {
       new = new;
       hand =
           ap (λ (m : ℕ). take m input′) all
           ∙ take-add kept n input′
           ∙ ap (λ (l : List ℕ). l ++ new) hand;
-      place = refl;
+      advance = refl;
       filled = fits;
       told = ap (λ (m : ℕ). eqb m 0) (sym (length-take-le n (drop kept input′) (omega (arith, length-drop kept input′))));
     }

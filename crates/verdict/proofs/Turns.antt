@@ -18,22 +18,22 @@ use Rattle.tables.specs.Held.{Holds, WellFormed}
 use Rattle.state.specs.State.{HoldsState}
 use Rattle.report.specs.Written.{Written}
 use Rattle.stream.specs.Stream.{requestSize, nextRequest}
-use Rattle.judge.specs.declared.Place.{Place}
+use Rattle.judge.specs.declared.Advance.{Advance}
 use Rattle.judge.specs.Turn.{requestEnd, Taken}
 use Rattle.judge.specs.Whole.{Performing}
 use Rattle.state.proofs.Held.{memory-held}
 use Rattle.judge.proofs.Runs.{LineAdded, advanced, performing-start, performing-next, performing-end, text-behind, text-whole, memory-inside}
 use Rattle.verdict.specs.declared.Progress.{Progress}
 use Rattle.verdict.specs.Progress.{lacks, goesOn, atHand, textAtHand, mostText, Ready, HasRead, ReadOn, isLong, flushedAs, withTextTo}
-use Rattle.verdict.specs.Came.{MayFollow, placeIn, Came, startAt, Reached, ByTurn, Made, TurnMade, AllMade, TurnsMade, IsPrinted, Printed}
+use Rattle.verdict.specs.Came.{MayFollow, advanceIn, Came, startAt, Reached, ByTurn, Made, TurnMade, AllMade, TurnsMade, IsPrinted, Printed}
 use Rattle.verdict.specs.Came.Reached.{at-start, after-turn}
 use Rattle.verdict.proofs.Bytes.{same-bytes, hand-length, SameNext, same-next, some-request}
 
 -- ---- the same, by other names
-performing-same : {run run′ : List ℕ} {p p′ : Place} {lines lines′ : List ℕ} {b : Buffers} {F : List ℕ} → run ≡ run′ → p ≡ p′ → lines ≡ lines′ → Performing run p lines b F
+performing-same : {run run′ : List ℕ} {p p′ : Advance} {lines lines′ : List ℕ} {b : Buffers} {F : List ℕ} → run ≡ run′ → p ≡ p′ → lines ≡ lines′ → Performing run p lines b F
     → Performing run′ p′ lines′ b F
 performing-same {run} {run′} {p} {p′} {lines} {lines′} {b} {F} e f g h =
-    subst (λ (l : List ℕ). Performing run′ p′ l b F) g (subst (λ (q : Place). Performing run′ q lines b F) f (subst (λ (l : List ℕ). Performing l p lines b F) e h))
+    subst (λ (l : List ℕ). Performing run′ p′ l b F) g (subst (λ (q : Advance). Performing run′ q lines b F) f (subst (λ (l : List ℕ). Performing l p lines b F) e h))
 
 came-same : {bytes bytes′ written written′ : List ℕ} {p : Progress} {input out : List ℕ} {b : Buffers} {F : List ℕ} → bytes ≡ bytes′ → written ≡ written′ → Came bytes written p input out b F
     → Came bytes′ written′ p input out b F
@@ -41,33 +41,33 @@ came-same {bytes} {bytes′} {written} {written′} {p} {input} {out} {b} {F} e 
     subst (λ (l : List ℕ). Came bytes′ l p input out b F) f (subst (λ (l : List ℕ). Came l written p input out b F) e k)
 
 -- a test that goes on
-pub going : (p : Progress) → goesOn p ≡ true → (p .failed ≡ false) × (p .place .refused ≡ false)
+pub going : (p : Progress) → goesOn p ≡ true → (p .failed ≡ false) × (p .advance .refused ≡ false)
 going p g =
-    let e : not (p .failed) && not (p .place .refused) ≡ true = and-left (not (p .failed) && not (p .place .refused)) (not (p .ended) || ltb (p .place .from) (p .end)) g in
-    (not-true (p .failed) (and-left (not (p .failed)) (not (p .place .refused)) e), not-true (p .place .refused) (and-right (not (p .failed)) (not (p .place .refused)) e))
+    let e : not (p .failed) && not (p .advance .refused) ≡ true = and-left (not (p .failed) && not (p .advance .refused)) (not (p .ended) || ltb (p .advance .from) (p .end)) g in
+    (not-true (p .failed) (and-left (not (p .failed)) (not (p .advance .refused)) e), not-true (p .advance .refused) (and-right (not (p .failed)) (not (p .advance .refused)) e))
 
 -- ---- before the first turn
 came-start : (p : Progress) (input out : List ℕ) {b : Buffers} {F : List ℕ} → HoldsState empty b F
-    → p .place ≡ record { from = 0; at = 0; index = 0; refused = false } → p .end ≡ 0 → Came [] [] p input out b F
+    → p .advance ≡ record { from = 0; at = 0; index = 0; refused = false } → p .end ≡ 0 → Came [] [] p input out b F
 came-start p input out h e f =
-    let from : p .place .from ≡ 0 = ap (λ (q : Place). q .from) e in
-    let at : p .place .at ≡ 0 = ap (λ (q : Place). q .at) e in
-    let none : p .end - p .place .from ≡ 0 = omega arith in
+    let from : p .advance .from ≡ 0 = ap (λ (q : Advance). q .from) e in
+    let at : p .advance .at ≡ 0 = ap (λ (q : Advance). q .at) e in
+    let none : p .end - p .advance .from ≡ 0 = omega arith in
     record {
       ready = record { ordered = omega arith; filled = omega arith; short = omega arith };
       done = [];
-      parts = ap (λ (n : ℕ). take n (drop (p .place .from) input)) (sym none);
+      parts = ap (λ (n : ℕ). take n (drop (p .advance .from) input)) (sym none);
       performing = λ rest _.
           performing-same refl refl (ap (λ (n : ℕ). take n out) (sym at))
-          (performing-start rest (placeIn [] p) h refl (ap (λ (q : Place). q .index) e) (ap (λ (q : Place). q .refused) e));
+          (performing-start rest (advanceIn [] p) h refl (ap (λ (q : Advance). q .index) e) (ap (λ (q : Advance). q .refused) e));
     }
 
 -- ---- a turn that reads
 pub came-read : {bytes written : List ℕ} {p : Progress} {input out : List ℕ} {b : Buffers} {F : List ℕ} (k : Came bytes written p input out b F)
     {r : Progress} {input′ : List ℕ} → p .ended ≡ false → (h : HasRead p input r input′) → Came (bytes ++ h .new) (written ++ textAtHand p out) r input′ out b F
 came-read {bytes} {written} {p} {input} {out} k {r} {input′} more h =
-    let from : r .place .from ≡ 0 = ap (λ (q : Place). q .from) (h .place) in
-    let at : r .place .at ≡ 0 = ap (λ (q : Place). q .at) (h .place) in
+    let from : r .advance .from ≡ 0 = ap (λ (q : Advance). q .from) (h .advance) in
+    let at : r .advance .at ≡ 0 = ap (λ (q : Advance). q .at) (h .advance) in
     record {
       ready = record { ordered = omega arith; filled = h .filled; short = omega arith };
       done = k .done;
@@ -78,7 +78,7 @@ came-read {bytes} {written} {p} {input} {out} k {r} {input′} more h =
       performing = λ rest _.
           performing-same
           (sym (append-assoc bytes (h .new) rest))
-          (ap (λ (q : Place). record { from = length (k .done); at = 0; index = q .index; refused = q .refused }) (sym (h .place)))
+          (ap (λ (q : Advance). record { from = length (k .done); at = 0; index = q .index; refused = q .refused }) (sym (h .advance)))
           (sym (append-nil (written ++ textAtHand p out)) ∙ ap (λ (n : ℕ). (written ++ textAtHand p out) ++ take n out) (sym at))
           (k .performing (h .new ++ rest) (λ e. absurd (false≢true (sym more ∙ e))));
     }
@@ -96,7 +96,7 @@ made-read {p = p} {input = input} {out = out} k e false r input′ h =
       came = came-read k (unended (atHand p input) (p .ended) e) h;
       turn =
           subst (λ (t : Bool). ByTurn t p out r (h .new) (textAtHand p out)) (sym e)
-          (record { index = ap (λ (q : Place). q .index) (h .place); told = h .told; handed = refl });
+          (record { index = ap (λ (q : Advance). q .index) (h .advance); told = h .told; handed = refl });
     }
 
 -- ---- a turn that performs a request
@@ -112,20 +112,20 @@ added-behind front {lines = lines} k =
       told = k .told;
     }
 
-pub flushed-short : (p : Progress) (next : Place) → next .at ≤ mostText → record { place = next; end = p .end; ended = p .ended; failed = false } ≡ flushedAs p next false
+pub flushed-short : (p : Progress) (next : Advance) → next .at ≤ mostText → record { advance = next; end = p .end; ended = p .ended; failed = false } ≡ flushedAs p next false
 flushed-short p next h =
-    ap (λ (t : Bool). record { place = if t then record { from = next .from; at = 0; index = next .index; refused = next .refused } else next; end = p .end; ended = p .ended; failed = false })
+    ap (λ (t : Bool). record { advance = if t then record { from = next .from; at = 0; index = next .index; refused = next .refused } else next; end = p .end; ended = p .ended; failed = false })
     (sym (le-ltb mostText (next .at) h))
 
-pub flushed-long : (p : Progress) (next : Place) (failed : Bool) → mostText < next .at
-    → record { place = record { from = next .from; at = 0; index = next .index; refused = next .refused }; end = p .end; ended = p .ended; failed = failed } ≡ flushedAs p next failed
+pub flushed-long : (p : Progress) (next : Advance) (failed : Bool) → mostText < next .at
+    → record { advance = record { from = next .from; at = 0; index = next .index; refused = next .refused }; end = p .end; ended = p .ended; failed = failed } ≡ flushedAs p next failed
 flushed-long p next failed h =
-    ap (λ (t : Bool). record { place = if t then record { from = next .from; at = 0; index = next .index; refused = next .refused } else next; end = p .end; ended = p .ended; failed = failed })
+    ap (λ (t : Bool). record { advance = if t then record { from = next .from; at = 0; index = next .index; refused = next .refused } else next; end = p .end; ended = p .ended; failed = failed })
     (sym (lt-ltb mostText (next .at) h))
 
 module _ {bytes written : List ℕ} {p : Progress} {input out : List ℕ} {b : Buffers} {F : List ℕ} (k : Came bytes written p input out b F)
-    (next : Place) (out′ : List ℕ) {b′ : Buffers} {F′ : List ℕ}
-    (taken : (s : State) → HoldsState s b F → Taken s (take (p .end) input) (p .place) out next out′ b′ F′)
+    (next : Advance) (out′ : List ℕ) {b′ : Buffers} {F′ : List ℕ}
+    (taken : (s : State) → HoldsState s b F → Taken s (take (p .end) input) (p .advance) out next out′ b′ F′)
     (goes : goesOn p ≡ true) (enough : lacks (atHand p input) (p .ended) ≡ false) where
   abbrev hand : List ℕ
   hand = atHand p input
@@ -137,21 +137,21 @@ module _ {bytes written : List ℕ} {p : Progress} {input out : List ℕ} {b : B
   abbrev doneNow : List ℕ
   doneNow = k .done ++ take size hand
 
-  some-left : p .place .from < p .end
+  some-left : p .advance .from < p .end
   some-left = some-request p input goes enough
 
-  hand-is : drop (p .place .from) (take (p .end) input) ≡ hand
-  hand-is = same-bytes (p .place .from) (p .end) input (k .ready .ordered) (k .ready .filled)
+  hand-is : drop (p .advance .from) (take (p .end) input) ≡ hand
+  hand-is = same-bytes (p .advance .from) (p .end) input (k .ready .ordered) (k .ready .filled)
 
   -- where the next one starts
-  next-from : next .from ≡ p .place .from + size
+  next-from : next .from ≡ p .advance .from + size
   next-from =
       let h = k .performing [] (λ _. refl) in
       let all : length (take (p .end) input) ≡ p .end = length-take-le (p .end) input (k .ready .filled) in
-      let left : length (take (p .end) input) - p .place .from ≡ length hand = omega (arith, hand-length p input (k .ready)) in
+      let left : length (take (p .end) input) - p .advance .from ≡ length hand = omega (arith, hand-length p input (k .ready)) in
       taken (h .state) (h .holds) .from
-      ∙ ap (λ (l : List ℕ). p .place .from + min (requestSize l) (length (take (p .end) input) - p .place .from)) hand-is
-      ∙ ap (λ (n : ℕ). p .place .from + min (requestSize hand) n) left
+      ∙ ap (λ (l : List ℕ). p .advance .from + min (requestSize l) (length (take (p .end) input) - p .advance .from)) hand-is
+      ∙ ap (λ (n : ℕ). p .advance .from + min (requestSize hand) n) left
 
   done-length : length doneNow ≡ length (k .done) + size
   done-length = omega (arith, length-append (k .done) (take size hand), length-take-le size hand (omega arith))
@@ -160,7 +160,7 @@ module _ {bytes written : List ℕ} {p : Progress} {input out : List ℕ} {b : B
   parts-now =
       let behind : drop size hand ≡ take (p .end - next .from) (drop (next .from) input) =
       ap (drop size) (sym hand-is)
-      ∙ drop-drop size (p .place .from) (take (p .end) input)
+      ∙ drop-drop size (p .advance .from) (take (p .end) input)
       ∙ ap (λ (n : ℕ). drop n (take (p .end) input)) (sym next-from)
       ∙ same-bytes (next .from) (p .end) input (omega (arith, next-from, hand-length p input (k .ready), k .ready .ordered)) (k .ready .filled) in
       k .parts
@@ -168,22 +168,22 @@ module _ {bytes written : List ℕ} {p : Progress} {input out : List ℕ} {b : B
       ∙ sym (append-assoc (k .done) (take size hand) (drop size hand))
       ∙ ap (λ (l : List ℕ). doneNow ++ l) behind
 
-  -- the bytes from the place on, and whatever follows
+  -- the bytes from `from` on, and whatever follows
   behind-done : (rest : List ℕ) → drop (length (k .done)) (bytes ++ rest) ≡ hand ++ rest
   behind-done rest =
       ap (λ (l : List ℕ). drop (length (k .done)) (l ++ rest)) (k .parts)
       ∙ ap (drop (length (k .done))) (append-assoc (k .done) hand rest)
       ∙ drop-append-seam (k .done) (hand ++ rest)
 
-  abbrev placeNow : Place
-  placeNow = record { from = length doneNow; at = 0; index = next .index; refused = next .refused }
+  abbrev advanceNow : Advance
+  advanceNow = record { from = length doneNow; at = 0; index = next .index; refused = next .refused }
 
-  performing-now : (rest : List ℕ) → MayFollow p rest → Performing (bytes ++ rest) placeNow (written ++ take (next .at) out′) b′ F′
+  performing-now : (rest : List ℕ) → MayFollow p rest → Performing (bytes ++ rest) advanceNow (written ++ take (next .at) out′) b′ F′
   performing-now rest f =
       let h = k .performing rest f in
       let same : SameNext hand rest = same-next (p .ended) hand rest enough f in
       let a = advanced (taken (h .state) (h .holds)) in
-      let words : nextRequest (drop (p .place .from) (take (p .end) input)) ≡ nextRequest (drop (length (k .done)) (bytes ++ rest)) =
+      let words : nextRequest (drop (p .advance .from) (take (p .end) input)) ≡ nextRequest (drop (length (k .done)) (bytes ++ rest)) =
       ap nextRequest hand-is ∙ sym (same .words) ∙ ap nextRequest (sym (behind-done rest)) in
       let total : length (bytes ++ rest) ≡ length (k .done) + length (hand ++ rest) =
       ap (λ (l : List ℕ). length (l ++ rest)) (k .parts) ∙ ap length (append-assoc (k .done) hand rest) ∙ length-append (k .done) (hand ++ rest) in
@@ -194,25 +194,25 @@ module _ {bytes written : List ℕ} {p : Progress} {input out : List ℕ} {b : B
       (record {
         added =
             added-behind written
-            (subst (λ (ws : List ℕ). LineAdded (h .state) ws (p .place .index) (textAtHand p out) (next .refused) (take (next .at) out′) b′ F′) words (a .added));
+            (subst (λ (ws : List ℕ). LineAdded (h .state) ws (p .advance .index) (textAtHand p out) (next .refused) (take (next .at) out′) b′ F′) words (a .added));
         from = sym end;
         index = a .index;
       })
 
-  turn-index : next .index ≡ p .place .index + 1
+  turn-index : next .index ≡ p .advance .index + 1
   turn-index = let h = k .performing [] (λ _. refl) in taken (h .state) (h .holds) .index
 
   inside : next .at ≤ length out′
   inside = let h = k .performing [] (λ _. refl) in taken (h .state) (h .holds) .turned .line .written .fits
 
-  turn-by : (r : Progress) → r .place .index ≡ next .index → r .ended ≡ p .ended → (said : List ℕ) → (length said ≤ mostText → said ≡ [])
+  turn-by : (r : Progress) → r .advance .index ≡ next .index → r .ended ≡ p .ended → (said : List ℕ) → (length said ≤ mostText → said ≡ [])
       → ByTurn (lacks hand (p .ended)) p out r [] said
   turn-by r i e said long =
       subst (λ (t : Bool). ByTurn t p out r [] said) (sym enough)
       (record { index = i ∙ turn-index; told = e; none = refl; long = long })
 
   made-by : (t : Bool) → isLong next ≡ t
-      → let r : Progress = record { place = if t then record { from = next .from; at = 0; index = next .index; refused = next .refused } else next; end = p .end; ended = p .ended; failed = false } in Made bytes written p input out r input out′ b′ F′
+      → let r : Progress = record { advance = if t then record { from = next .from; at = 0; index = next .index; refused = next .refused } else next; end = p .end; ended = p .ended; failed = false } in Made bytes written p input out r input out′ b′ F′
   made-by true e =
       record {
         new = [];
@@ -256,8 +256,8 @@ pub record Going (p : Progress) (turns : ℕ) (input out : List ℕ) (b : Buffer
   pub written : List ℕ
   pub reached : Reached p input out b F bytes written
   pub came : Came bytes written p input out b F
-  pub made : 2 ^ 64 ≤ turns + 2 + (p .place .index + (length bytes + one (p .ended)))
-  pub fits : p .place .index + turns < 2 ^ 64
+  pub made : 2 ^ 64 ≤ turns + 2 + (p .advance .index + (length bytes + one (p .ended)))
+  pub fits : p .advance .index + turns < 2 ^ 64
 
 pub going-start : (turns : ℕ) (input out : List ℕ) {b : Buffers} {F : List ℕ} → HoldsState empty b F → turns + 2 ≡ 2 ^ 64 → Going startAt turns input out b F
 going-start turns input out h e =
@@ -304,7 +304,7 @@ going-again g some goes true m e = absurd (false≢true (sym e))
 going-again g some goes false m e = going-next g some goes m
 
 -- a request has bytes, so there were no more of them than bytes
-counted : {bytes written : List ℕ} {p : Progress} {input out : List ℕ} {b : Buffers} {F : List ℕ} (k : Came bytes written p input out b F) → p .place .index ≤ length bytes
+counted : {bytes written : List ℕ} {p : Progress} {input out : List ℕ} {b : Buffers} {F : List ℕ} (k : Came bytes written p input out b F) → p .advance .index ≤ length bytes
 counted {bytes} {p = p} {input = input} k = omega (arith, k .performing [] (λ _. refl) .counted, ap length (k .parts), length-append (k .done) (atHand p input))
 
 all-made : {p : Progress} {turns : ℕ} {input out : List ℕ} {b : Buffers} {F : List ℕ} → Going p turns input out b F → ltb 0 turns && goesOn p ≡ false → AllMade p input out b F
@@ -321,7 +321,7 @@ all-made {p} {turns} g e =
     and-true true y h e = absurd (false≢true (sym e ∙ h))
     and-true false y h e = refl
 
-    by : (ended : Bool) → turns ≤ 0 → 2 ^ 64 ≤ turns + 2 + (p .place .index + (length (g .bytes) + one ended)) → 2 ^ 63 ≤ length (g .bytes) + 1
+    by : (ended : Bool) → turns ≤ 0 → 2 ^ 64 ≤ turns + 2 + (p .advance .index + (length (g .bytes) + one ended)) → 2 ^ 63 ≤ length (g .bytes) + 1
     by true z h = omega (arith, counted (g .came))
     by false z h = omega (arith, counted (g .came))
 
@@ -333,12 +333,12 @@ turns-made false g e = all-made (g refl) e
 -- ---- the whole
 -- where the program stops nothing is left
 stops : {bytes written : List ℕ} {p : Progress} {input out : List ℕ} {b : Buffers} {F : List ℕ} (k : Came bytes written p input out b F) → p .failed ≡ false → goesOn p ≡ false
-    → (rest : List ℕ) → MayFollow p rest → p .place .refused ≡ false → length (k .done) < length (bytes ++ rest) → ⊥
+    → (rest : List ℕ) → MayFollow p rest → p .advance .refused ≡ false → length (k .done) < length (bytes ++ rest) → ⊥
 stops {bytes} {p = p} {input = input} k fine e rest f kept h =
-    let left : not (p .ended) || ltb (p .place .from) (p .end) ≡ false =
-    sym (ap (λ (t : Bool). (not t && not (p .place .refused)) && (not (p .ended) || ltb (p .place .from) (p .end))) fine
-    ∙ ap (λ (t : Bool). not t && (not (p .ended) || ltb (p .place .from) (p .end))) kept) ∙ e in
-    let n = or-neither (not (p .ended)) (ltb (p .place .from) (p .end)) left in
+    let left : not (p .ended) || ltb (p .advance .from) (p .end) ≡ false =
+    sym (ap (λ (t : Bool). (not t && not (p .advance .refused)) && (not (p .ended) || ltb (p .advance .from) (p .end))) fine
+    ∙ ap (λ (t : Bool). not t && (not (p .ended) || ltb (p .advance .from) (p .end))) kept) ∙ e in
+    let n = or-neither (not (p .ended)) (ltb (p .advance .from) (p .end)) left in
     let none : rest ≡ [] = f (not-not-false (p .ended) (n .0)) in
     omega (
       arith,
@@ -348,11 +348,11 @@ stops {bytes} {p = p} {input = input} k fine e rest f kept h =
       ap length (k .parts),
       length-append (k .done) (atHand p input),
       hand-length p input (k .ready),
-      ltb-false (p .place .from) (p .end) (n .1),
+      ltb-false (p .advance .from) (p .end) (n .1),
     )
 
-printed : {p : Progress} {input out : List ℕ} {b : Buffers} {F : List ℕ} → AllMade p input out b F → p .failed ≡ false → p .place .at + 0x28000 ≤ length out → (end : ℕ) {out′ : List ℕ}
-    → ((m : Memory) → Holds m b → Written out (p .place .at) (memoryLines 0 m) out′ end) → IsPrinted (withTextTo end p) out′
+printed : {p : Progress} {input out : List ℕ} {b : Buffers} {F : List ℕ} → AllMade p input out b F → p .failed ≡ false → p .advance .at + 0x28000 ≤ length out → (end : ℕ) {out′ : List ℕ}
+    → ((m : Memory) → Holds m b → Written out (p .advance .at) (memoryLines 0 m) out′ end) → IsPrinted (withTextTo end p) out′
 printed {p} {input} {out} {b} {F} a fine room end {out′} w =
     record {
       last = p;
@@ -395,20 +395,20 @@ module _ (p : Progress) (input out : List ℕ) (b : Buffers) (F : List ℕ) wher
   well-formed true a e = absurd (false≢true (sym e))
   well-formed false a e = let h = a .came .performing [] (λ _. refl) in (h .state .memory, memory-held (h .holds))
 
-  pub text-room : (failed : Bool) → TurnsMade failed p input out b F → length out ≡ 0x38000 → failed ≡ false → p .place .at + 0x28000 ≤ length out
+  pub text-room : (failed : Bool) → TurnsMade failed p input out b F → length out ≡ 0x38000 → failed ≡ false → p .advance .at + 0x28000 ≤ length out
   text-room true a l e = absurd (false≢true (sym e))
   text-room false a l e = omega (arith, a .came .ready .short)
 
   printed-by : (failed : Bool) → p .failed ≡ failed → TurnsMade failed p input out b F → length out ≡ 0x38000 → (end : ℕ) (out′ : List ℕ)
-      → (failed ≡ false → (m : Memory) → Holds m b → Written out (p .place .at) (memoryLines 0 m) out′ end) → Printed failed (withTextTo end p) out′
+      → (failed ≡ false → (m : Memory) → Holds m b → Written out (p .advance .at) (memoryLines 0 m) out′ end) → Printed failed (withTextTo end p) out′
   printed-by true f a l end out′ w = tt
   printed-by false f a l end out′ w = printed a f (text-room false a l refl) end (w refl)
 
-  pub printed-whole : TurnsMade (p .failed) p input out b F → length out ≡ 0x38000 → (r : Progress) (out′ : List ℕ) → r ≡ withTextTo (r .place .at) p
-      → (p .failed ≡ false → (m : Memory) → Holds m b → Written out (p .place .at) (memoryLines 0 m) out′ (r .place .at)) → Printed (r .failed) r out′
+  pub printed-whole : TurnsMade (p .failed) p input out b F → length out ≡ 0x38000 → (r : Progress) (out′ : List ℕ) → r ≡ withTextTo (r .advance .at) p
+      → (p .failed ≡ false → (m : Memory) → Holds m b → Written out (p .advance .at) (memoryLines 0 m) out′ (r .advance .at)) → Printed (r .failed) r out′
   printed-whole a l r out′ e w =
-      subst (λ (q : Progress). Printed (q .failed) q out′) (sym e) (printed-by (p .failed) refl a l (r .place .at) out′ w)
+      subst (λ (q : Progress). Printed (q .failed) q out′) (sym e) (printed-by (p .failed) refl a l (r .advance .at) out′ w)
 
-pub text-inside : (failed : Bool) (r : Progress) (out : List ℕ) → Printed failed r out → failed ≡ false → r .place .at ≤ length out
+pub text-inside : (failed : Bool) (r : Progress) (out : List ℕ) → Printed failed r out → failed ≡ false → r .advance .at ≤ length out
 text-inside true r out k e = absurd (false≢true (sym e))
 text-inside false r out k e = k .fits

@@ -10,7 +10,7 @@ use Rattle.definition.specs.Frame.{empty}
 use Rattle.definition.specs.Output.{IsOutput}
 use Rattle.tables.specs.Encoding.{Buffers}
 use Rattle.state.specs.State.{HoldsState}
-use Rattle.judge.specs.declared.Place.{Place}
+use Rattle.judge.specs.declared.Advance.{Advance}
 use Rattle.judge.specs.Whole.{Performing}
 use Rattle.verdict.specs.declared.Progress.{Progress}
 use Rattle.verdict.specs.Progress.{lacks, goesOn, atHand, textAtHand, mostText, Ready, withTextTo}
@@ -19,9 +19,9 @@ use Rattle.verdict.specs.Progress.{lacks, goesOn, atHand, textAtHand, mo
 abbrev pub MayFollow : Progress → List ℕ → Type 0
 MayFollow p rest = p .ended ≡ true → rest ≡ []
 
--- the place in all bytes, behind those that are done; the lines are said apart
-abbrev pub placeIn : List ℕ → Progress → Place
-placeIn done p = record { from = length done; at = 0; index = p .place .index; refused = p .place .refused }
+-- how far the run is in all bytes: behind those that are done; the lines are said apart
+abbrev pub advanceIn : List ℕ → Progress → Advance
+advanceIn done p = record { from = length done; at = 0; index = p .advance .index; refused = p .advance .refused }
 
 -- the bytes are those done and those at hand. The lines that were written and those at hand, with the buffers, are the definition's `program` so far, up to
 -- the first refusal and not beyond it (`Performing`), whatever follows
@@ -30,18 +30,18 @@ pub record Came (bytes written : List ℕ) (p : Progress) (input out : List ℕ)
   pub done : List ℕ
   pub parts : bytes ≡ done ++ atHand p input
   pub performing : (rest : List ℕ) → MayFollow p rest
-      → Performing (bytes ++ rest) (placeIn done p) (written ++ textAtHand p out) b F
+      → Performing (bytes ++ rest) (advanceIn done p) (written ++ textAtHand p out) b F
 
 -- ---- a turn
 -- it reads: all text at hand is written before
 pub record Reads (p : Progress) (out : List ℕ) (r : Progress) (new said : List ℕ) : Type 0 where
-  pub index : r .place .index ≡ p .place .index
+  pub index : r .advance .index ≡ p .advance .index
   pub told : r .ended ≡ eqb (length new) 0
   pub handed : said ≡ textAtHand p out
 
 -- it performs a request, and reads nothing; only a long text is written
 pub record Performs (p r : Progress) (new said : List ℕ) : Type 0 where
-  pub index : r .place .index ≡ p .place .index + 1
+  pub index : r .advance .index ≡ p .advance .index + 1
   pub told : r .ended ≡ p .ended
   pub none : new ≡ []
   pub long : length said ≤ mostText → said ≡ []
@@ -64,7 +64,7 @@ TurnMade false bytes written p input out r input′ out′ b F = Made bytes writ
 
 -- ---- all turns
 abbrev pub startAt : Progress
-startAt = record { place = record { from = 0; at = 0; index = 0; refused = false }; end = 0; ended = false; failed = false }
+startAt = record { advance = record { from = 0; at = 0; index = 0; refused = false }; end = 0; ended = false; failed = false }
 
 -- from the start by turns alone: `bytes` is what these read, and `written` what they wrote
 pub data Reached : Progress → (input out : List ℕ) → Buffers → List ℕ → (bytes written : List ℕ) → Type 0 where
@@ -96,8 +96,8 @@ pub record IsPrinted (r : Progress) (out : List ℕ) : Type 0 where
   pub bytes : List ℕ
   pub written : List ℕ
   pub reached : Reached last input before buffers frames bytes written
-  pub same : r ≡ withTextTo (r .place .at) last
-  pub fits : r .place .at ≤ length out
+  pub same : r ≡ withTextTo (r .advance .at) last
+  pub fits : r .advance .at ≤ length out
   pub output : length bytes + 1 < 2 ^ 63 → (rest : List ℕ) → MayFollow r rest → IsOutput (bytes ++ rest) (written ++ textAtHand r out)
 
 abbrev pub Printed : Bool → Progress → List ℕ → Type 0

@@ -7,7 +7,7 @@ use lib.Dec.{eqb, ltb}
 use lib.ListN.{length, take, drop}
 use Rattle.definition.specs.Notation.{if_then_else_}
 use Rattle.stream.specs.Stream.{requestSize}
-use Rattle.judge.specs.declared.Place.{Place}
+use Rattle.judge.specs.declared.Advance.{Advance}
 use Rattle.verdict.specs.declared.Progress.{Progress}
 
 -- of a request of `size` bytes fewer are at hand, and more may come
@@ -20,34 +20,34 @@ lacks bytes ended = lacksSome (requestSize bytes) (length bytes) ended
 
 -- the program goes on: no request was refused, nothing failed, and there may be another request
 abbrev pub goesOn : Progress → Bool
-goesOn p = (not (p .failed) && not (p .place .refused)) && (not (p .ended) || ltb (p .place .from) (p .end))
+goesOn p = (not (p .failed) && not (p .advance .refused)) && (not (p .ended) || ltb (p .advance .from) (p .end))
 
 -- the bytes at hand that are not yet performed
 abbrev pub atHand : Progress → List ℕ → List ℕ
-atHand p input = take (p .end - p .place .from) (drop (p .place .from) input)
+atHand p input = take (p .end - p .advance .from) (drop (p .advance .from) input)
 
 -- the text at hand that is not yet written
 abbrev pub textAtHand : Progress → List ℕ → List ℕ
-textAtHand p out = take (p .place .at) out
+textAtHand p out = take (p .advance .at) out
 
 -- more text than this is written before the next turn
 abbrev pub mostText : ℕ
 mostText = 0x10000
 
 pub record Ready (p : Progress) (input : List ℕ) : Type 0 where
-  pub ordered : p .place .from ≤ p .end
+  pub ordered : p .advance .from ≤ p .end
   pub filled : p .end ≤ length input
-  pub short : p .place .at ≤ mostText
+  pub short : p .advance .at ≤ mostText
 
 -- ---- reading
 abbrev pub failedAt : Progress → Progress
-failedAt p = record { place = p .place; end = p .end; ended = p .ended; failed = true }
+failedAt p = record { advance = p .advance; end = p .end; ended = p .ended; failed = true }
 
 -- behind the bytes at hand stand new ones, and none where the input has ended; the text at hand is written
 pub record HasRead (p : Progress) (input : List ℕ) (r : Progress) (input′ : List ℕ) : Type 0 where
   pub new : List ℕ
   pub hand : atHand r input′ ≡ atHand p input ++ new
-  pub place : r .place ≡ record { from = 0; at = 0; index = p .place .index; refused = p .place .refused }
+  pub advance : r .advance ≡ record { from = 0; at = 0; index = p .advance .index; refused = p .advance .refused }
   pub filled : r .end ≤ length input′
   pub told : r .ended ≡ eqb (length new) 0
 
@@ -56,14 +56,14 @@ ReadOn true p input r input′ = r ≡ failedAt p
 ReadOn false p input r input′ = HasRead p input r input′
 
 -- ---- writing
-abbrev pub isLong : Place → Bool
+abbrev pub isLong : Advance → Bool
 isLong next = ltb mostText (next .at)
 
 -- a long text is written, and then none is at hand
-abbrev pub flushedAs : Progress → Place → Bool → Progress
+abbrev pub flushedAs : Progress → Advance → Bool → Progress
 flushedAs p next failed =
     record {
-      place = if isLong next then record { from = next .from; at = 0; index = next .index; refused = next .refused } else next;
+      advance = if isLong next then record { from = next .from; at = 0; index = next .index; refused = next .refused } else next;
       end = p .end;
       ended = p .ended;
       failed = failed;
@@ -73,7 +73,7 @@ flushedAs p next failed =
 abbrev pub withTextTo : ℕ → Progress → Progress
 withTextTo n p =
     record {
-      place = record { from = p .place .from; at = n; index = p .place .index; refused = p .place .refused };
+      advance = record { from = p .advance .from; at = n; index = p .advance .index; refused = p .advance .refused };
       end = p .end;
       ended = p .ended;
       failed = p .failed;

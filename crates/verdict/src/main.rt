@@ -1,5 +1,5 @@
 // Reads a run from standard input and prints its verdict: the line of each request up to the first that is refused, and the memory that is left.
-use judge::Place;
+use judge::Advance;
 ghost use Prim.Native.Nat.{ℕ, _+_, _-_, _≤_, _<_, _^_};
 ghost use mathlib.Core.Path.{_≡_};
 ghost use mathlib.Core.Bool.{true, false};
@@ -15,9 +15,9 @@ ghost use Rattle.report.specs.Written.{Written};
 ghost use Rattle.verdict.specs.Progress.{lacksSome, goesOn, Ready, failedAt, isLong, flushedAs, withTextTo, ReadOn};
 ghost use Rattle.verdict.specs.Came.{Came, TurnMade, TurnsMade, Printed};
 
-// The input buffer holds bytes up to `end`, of which those from the place on are not yet performed; the text up to the place is not yet written.
+// The input buffer holds bytes up to `end`, of which those from `advance.from` on are not yet performed; the text up to `advance.at` is not yet written.
 struct Progress {
-    place: Place,
+    advance: Advance,
     end: usize,
     ended: bool,
     failed: bool,
@@ -26,8 +26,8 @@ struct Progress {
 fn goes_on(p: Progress) -> bool
     ensures { λ r. ⌜ r ≡ goesOn p ⌝ }
 {
-    let place = p.place;
-    !p.failed & !place.refused & (!p.ended | (place.from < p.end))
+    let advance = p.advance;
+    !p.failed & !advance.refused & (!p.ended | (advance.from < p.end))
 }
 
 // Of the next request, of `size` bytes, fewer are at hand, and more may come.
@@ -41,9 +41,9 @@ fn lacks(size: usize, hand: usize, ended: bool) -> bool
 fn failure(p: Progress) -> Progress
     ensures { λ r. ⌜ r ≡ failedAt p ⌝ }
 {
-    let place = p.place;
+    let advance = p.advance;
     Progress {
-        place,
+        advance,
         end: p.end,
         ended: p.ended,
         failed: true,
@@ -60,30 +60,30 @@ fn write_text(text: &[u8]) -> bool {
 
 // Whoever feeds the program has every answer before more is read.
 fn read_more(input: &mut [u8], out: &[u8], p: Progress) -> Progress
-    requires { ⌜ Ready p (now input) × (p .place .at ≤ length (now out)) ⌝ }
-    requires { ⌜ p .end - p .place .from < length (now input) ⌝ }
+    requires { ⌜ Ready p (now input) × (p .advance .at ≤ length (now out)) ⌝ }
+    requires { ⌜ p .end - p .advance .from < length (now input) ⌝ }
     ensures { λ r. ⌜ ReadOn (r .failed) p (now (input .entry)) r (now (input .exit)) ⌝ }
 {
-    let place = p.place;
-    let at = place.at;
+    let advance = p.advance;
+    let at = advance.at;
     if !write_text(&out[..at]) {
         return failure(p);
     }
-    let kept = stream::move_to_front(input, place.from, p.end);
+    let kept = stream::move_to_front(input, advance.from, p.end);
     let got = libc::read(0, &mut input[kept..]);
     if got < 0 {
         os::fail(b"read");
         return failure(p);
     }
     let n = io::count(got, &input[kept..]);
-    let next = Place {
+    let next = Advance {
         from: 0,
         at: 0,
-        index: place.index,
-        refused: place.refused,
+        index: advance.index,
+        refused: advance.refused,
     };
     Progress {
-        place: next,
+        advance: next,
         end: kept + n,
         ended: n == 0,
         failed: false,
@@ -91,28 +91,28 @@ fn read_more(input: &mut [u8], out: &[u8], p: Progress) -> Progress
 }
 
 // Writes the text where there may be no room for another line and the memory.
-fn flushed(out: &[u8], p: Progress, next: Place) -> Progress
+fn flushed(out: &[u8], p: Progress, next: Advance) -> Progress
     requires { ⌜ next .at ≤ length (now out) ⌝ }
     ensures { λ r. ⌜ (r ≡ flushedAs p next (r .failed)) × (isLong next ≡ false → r .failed ≡ false) ⌝ }
 {
     let at = next.at;
     if at <= 0x10000 {
         return Progress {
-            place: next,
+            advance: next,
             end: p.end,
             ended: p.ended,
             failed: false,
         };
     }
     let failed = !write_text(&out[..at]);
-    let place = Place {
+    let advance = Advance {
         from: next.from,
         at: 0,
         index: next.index,
         refused: next.refused,
     };
     Progress {
-        place,
+        advance,
         end: p.end,
         ended: p.ended,
         failed,
@@ -135,15 +135,15 @@ fn turn(
     requires { ⌜ ((bytes : List ℕ) × ((written : List ℕ)
         × Came bytes written p (now input) (now out) (buffers (now allocs) (now parents) (now protectors) (now words) (now codes)) (now frames))) ⌝ }
     requires { ⌜ (length (now request) ≡ 4100) × ((length (now input) ≡ 65536) × (length (now out) ≡ 0x38000)) ⌝ }
-    requires { ⌜ (goesOn p ≡ true) × (p .place .index + 1 < 2 ^ 64) ⌝ }
+    requires { ⌜ (goesOn p ≡ true) × (p .advance .index + 1 < 2 ^ 64) ⌝ }
     ensures { λ r. ⌜ ((bytes written : List ℕ)
         → Came bytes written p (now (input .entry)) (now (out .entry))
         (buffers (now (allocs .entry)) (now (parents .entry)) (now (protectors .entry)) (now (words .entry)) (now (codes .entry))) (now (frames .entry))
         → TurnMade (r .failed) bytes written p (now (input .entry)) (now (out .entry)) r (now (input .exit)) (now (out .exit))
         (buffers (now (allocs .exit)) (now (parents .exit)) (now (protectors .exit)) (now (words .exit)) (now (codes .exit))) (now (frames .exit))) ⌝ }
 {
-    let place = p.place;
-    let from = place.from;
+    let advance = p.advance;
+    let from = advance.from;
     let end = p.end;
     let cut = stream::next_cut(&input[from..end]);
     if lacks(cut.size, end - from, p.ended) {
@@ -159,7 +159,7 @@ fn turn(
         &input[..end],
         request,
         out,
-        place,
+        advance,
         cut,
     );
     flushed(out, p, next)
@@ -182,14 +182,14 @@ fn take_turns(
     ensures { λ r. ⌜ TurnsMade (r .failed) r (now (input .exit)) (now (out .exit))
         (buffers (now (allocs .exit)) (now (parents .exit)) (now (protectors .exit)) (now (words .exit)) (now (codes .exit))) (now (frames .exit)) ⌝ }
 {
-    let place = Place {
+    let advance = Advance {
         from: 0,
         at: 0,
         index: 0,
         refused: false,
     };
     let mut p = Progress {
-        place,
+        advance,
         end: 0,
         ended: false,
         failed: false,
@@ -224,33 +224,33 @@ fn finish(
     p: Progress,
 ) -> Progress
     requires { ⌜ (p .failed ≡ false → WellFormed (buffers (now allocs) (now parents) (now protectors) (now words) (now codes))) ⌝ }
-    requires { ⌜ (p .failed ≡ false → p .place .at + 0x28000 ≤ length (now out)) ⌝ }
-    ensures { λ r. ⌜ r ≡ withTextTo (r .place .at) p ⌝ }
+    requires { ⌜ (p .failed ≡ false → p .advance .at + 0x28000 ≤ length (now out)) ⌝ }
+    ensures { λ r. ⌜ r ≡ withTextTo (r .advance .at) p ⌝ }
     ensures { λ r. ⌜ (p .failed ≡ false → (m : Memory)
         → Holds m (buffers (now (allocs .entry)) (now (parents .entry)) (now (protectors .entry)) (now (words .entry)) (now (codes .entry)))
-        → Written (now (out .entry)) (p .place .at) (memoryLines 0 m) (now (out .exit)) (r .place .at)) ⌝ }
+        → Written (now (out .entry)) (p .advance .at) (memoryLines 0 m) (now (out .exit)) (r .advance .at)) ⌝ }
 {
     if p.failed {
         return p;
     }
-    let place = p.place;
+    let advance = p.advance;
     let end = report::allocations::memory_lines(
         out,
-        place.at,
+        advance.at,
         allocs,
         parents,
         protectors,
         words,
         codes,
     );
-    let last = Place {
-        from: place.from,
+    let last = Advance {
+        from: advance.from,
         at: end,
-        index: place.index,
-        refused: place.refused,
+        index: advance.index,
+        refused: advance.refused,
     };
     Progress {
-        place: last,
+        advance: last,
         end: p.end,
         ended: p.ended,
         failed: p.failed,
@@ -290,13 +290,13 @@ fn judge_input(
 
 // The end of the text.
 fn write_rest(out: &[u8], p: Progress)
-    requires { ⌜ (p .failed ≡ false → p .place .at ≤ length (now out)) ⌝ }
+    requires { ⌜ (p .failed ≡ false → p .advance .at ≤ length (now out)) ⌝ }
 {
     if p.failed {
         return;
     }
-    let place = p.place;
-    let at = place.at;
+    let advance = p.advance;
+    let at = advance.at;
     write_text(&out[..at]);
 }
 

@@ -1,4 +1,4 @@
--- The lines of the memory are written behind the text, and the place is behind them.
+-- The lines of the memory are written behind the text, and `at` is behind them.
 use mathlib.Core.Bool.{Bool, false, false≢true}
 use mathlib.Core.Path.{_≡_, refl, sym, _∙_}
 use borrow.Author.Needs.{needs}

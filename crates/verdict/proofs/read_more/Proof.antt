@@ -23,7 +23,7 @@ abbrev start : tie.After-move-to-front → tie.Start
 start c = entry (c .before .before .before .before)
 
 slice-aggregate-write-text : tie.Need-slice-aggregate-write-text
-slice-aggregate-write-text c = sym (length-take-le (entry c .args .p .place .at) (now (entry c .args .out)) (entry c .pre .0 .1))
+slice-aggregate-write-text c = sym (length-take-le (entry c .args .p .advance .at) (now (entry c .args .out)) (entry c .pre .0 .1))
 
 write-text-requires : tie.Need-write-text-requires
 write-text-requires c κs = search needs

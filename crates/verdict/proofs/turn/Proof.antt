@@ -101,7 +101,7 @@ next-requires c κs = let t = tested c in
     let k = s .pre .0 .1 .1 in
     let h = k .performing _ (λ _. refl) in
     let some = some-request p (now (s .args .input)) (s .pre .1 .1 .0) (enough t) in
-    let found = subst⁻¹ (λ (bytes : List ℕ). CutOf bytes (t .before .before .next-cut .result)) (same-bytes (p .place .from) (p .end) (now (s .args .input)) (k .ready .ordered) (k .ready .filled)) (t .before .before .next-cut .ensures) in
+    let found = subst⁻¹ (λ (bytes : List ℕ). CutOf bytes (t .before .before .next-cut .result)) (same-bytes (p .advance .from) (p .end) (now (s .args .input)) (k .ready .ordered) (k .ready .filled)) (t .before .before .next-cut .ensures) in
     ((h .state, h .holds), ((omega (arith, s .pre .1 .0, k .ready .short), (s .pre .1 .0 .0, (omega (arith, some, length-take-le (p .end) (now (s .args .input)) (k .ready .filled)), s .pre .1 .1 .1))), found))
 
 flushed-requires : tie.Need-flushed-requires

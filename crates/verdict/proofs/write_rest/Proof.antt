@@ -10,7 +10,7 @@ returns : tie.Need-returns
 returns c = search needs
 
 slice-aggregate-write-text : tie.Need-slice-aggregate-write-text
-slice-aggregate-write-text c = let t = c .before .before in let s = t .before .before in sym (length-take-le (s .args .p .place .at) (now (s .args .out)) (s .pre (t .if1 .left)))
+slice-aggregate-write-text c = let t = c .before .before in let s = t .before .before in sym (length-take-le (s .args .p .advance .at) (now (s .args .out)) (s .pre (t .if1 .left)))
 
 write-text-requires : tie.Need-write-text-requires
 write-text-requires c κs = search needs
