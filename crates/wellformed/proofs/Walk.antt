@@ -12,6 +12,13 @@ use Rattle.wellformed.specs.WellFormed.{Front, badAllocationAt, badRest,
 use Rattle.wellformed.proofs.Turns.{allocations-turn, allocations-end}
 use Rattle.wellformed.proofs.Sound.{Tested, tested-at}
 
+-- there is room for the parts of allocation i
+pub record PartsFit (A P R W C : List ℕ) (i node word code : ℕ) : Type 0 where
+  pub parents : node + getD A (i * 9 + 5) 0 ≤ length P
+  pub protectors : node + getD A (i * 9 + 5) 0 ≤ length R
+  pub words : word + getD A (i * 9 + 4) 0 ≤ length W
+  pub codes : code + getD A (i * 9 + 5) 0 * getD A (i * 9 + 4) 0 ≤ length C
+
 module _ (A P R W C : List ℕ) (i node word code : ℕ) where
   -- a part that goes on to the end, as the callee has it
   part : List ℕ → ℕ → List ℕ
@@ -29,7 +36,7 @@ module _ (A P R W C : List ℕ) (i node word code : ℕ) where
       rw (part-rest (i * 9) A, part-rest node P, part-rest word W)
       (record { allocs = simp length-drop (omega arith); parents = simp length-drop (omega arith); words = simp length-drop (omega arith) })
 
-  module _ (count : ℕ) (r : Bool)
+  module _ (r : Bool)
       (answer : r
       ≡ badAllocationAt word node code (take (length A - i * 9) (drop (i * 9) A)) (take (length P - node) (drop node P)) (take (length R - node) (drop node R))
       (take (length W - word) (drop word W)) (take (length C - code) (drop code C))) where
@@ -37,31 +44,27 @@ module _ (A P R W C : List ℕ) (i node word code : ℕ) where
     unfolding part
     front = sym (answer ∙ parts-allocation)
 
-    pub walk-bad : i < count → r ≡ true → badAllocations (count - i) word node code (drop (i * 9) A) (drop node P) (drop node R) (drop word W) (drop code C) ≡ true
-    walk-bad h e = allocations-turn count i node word code A P R W C h ∙ or-taken _ _ (front ∙ e)
+    pub walk-bad : (count : ℕ) → i < count → r ≡ true → badAllocations (count - i) word node code (drop (i * 9) A) (drop node P) (drop node R) (drop word W) (drop code C) ≡ true
+    walk-bad count h e = allocations-turn count i node word code A P R W C h ∙ or-taken _ _ (front ∙ e)
 
-    pub walk-on : i < count → r ≡ false
+    pub walk-on : (count : ℕ) → i < count → r ≡ false
         → badAllocations (count - (i + 1)) (word + getD A (i * 9 + 4) 0) (node + getD A (i * 9 + 5) 0) (code + getD A (i * 9 + 5) 0 * getD A (i * 9 + 4) 0) (drop ((i + 1) * 9) A) (drop (node + getD A (i * 9 + 5) 0) P) (drop (node + getD A (i * 9 + 5) 0) R)
         (drop (word + getD A (i * 9 + 4) 0) W) (drop (code + getD A (i * 9 + 5) 0 * getD A (i * 9 + 4) 0) C)
         ≡ badAllocations (count - i) word node code (drop (i * 9) A) (drop node P) (drop node R) (drop word W) (drop code C)
-    walk-on h e = sym (allocations-turn count i node word code A P R W C h ∙ or-skip _ _ (front ∙ e))
+    walk-on count h e = sym (allocations-turn count i node word code A P R W C h ∙ or-skip _ _ (front ∙ e))
 
-    -- there is room for its parts
     module _ (e : r ≡ false) where
       test : Tested (drop (i * 9) A) (drop node P) (drop node R) (drop word W) (drop code C)
       test = tested-at word node code (drop (i * 9) A) (drop node P) (drop node R) (drop word W) (drop code C) (front ∙ e) .1
 
-      pub walk-parents : node ≤ length P → node + getD A (i * 9 + 5) 0 ≤ length P
-      walk-parents h = omega (arith, front-at A i 5, test .room-parents, length-drop node P)
-
-      pub walk-protectors : node ≤ length R → node + getD A (i * 9 + 5) 0 ≤ length R
-      walk-protectors h = omega (arith, front-at A i 5, test .room-protectors, length-drop node R)
-
-      pub walk-words : word ≤ length W → word + getD A (i * 9 + 4) 0 ≤ length W
-      walk-words h = omega (arith, front-at A i 4, test .room-words, length-drop word W)
-
-      pub walk-codes : code ≤ length C → code + getD A (i * 9 + 5) 0 * getD A (i * 9 + 4) 0 ≤ length C
-      walk-codes h = omega (arith, ap₂ _*_ (front-at A i 5) (front-at A i 4), test .room-codes, length-drop code C)
+      pub walk-fits : node ≤ length P → node ≤ length R → word ≤ length W → code ≤ length C → PartsFit A P R W C i node word code
+      walk-fits hp hr hw hc =
+          record {
+            parents = omega (arith, front-at A i 5, test .room-parents, length-drop node P);
+            protectors = omega (arith, front-at A i 5, test .room-protectors, length-drop node R);
+            words = omega (arith, front-at A i 4, test .room-words, length-drop word W);
+            codes = omega (arith, ap₂ _*_ (front-at A i 5) (front-at A i 4), test .room-codes, length-drop code C);
+          }
 
   -- behind the last
   pub walk-rest : (count : ℕ) → count ≤ i

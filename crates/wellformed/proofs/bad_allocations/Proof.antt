@@ -3,8 +3,9 @@ use Prim.Native.Nat.{ℕ, _≤_, _-_, _*_}
 use mathlib.Core.Path.{_≡_, sym, ap, _∙_}
 use native.Mathlib.Nat.{sub-zero}
 use native.Mathlib.Omega.{arith}
+use denote.Ref.{now}
 use lib.ListN.{length, drop}
-use Rattle.wellformed.proofs.Walk.{walk-front, walk-bad, walk-on, walk-parents, walk-protectors, walk-words, walk-codes, walk-rest}
+use Rattle.wellformed.proofs.Walk.{walk-front, walk-bad, walk-on, PartsFit, walk-fits, walk-rest}
 use Rattle.wellformed.specs.WellFormed.{badAllocations}
 use Rattle.wellformed.proofs.bad_allocations.Statement.{statement}
 use Rattle.wellformed.proofs.bad_allocations.Tie as tie
@@ -14,6 +15,20 @@ Inv-loop allocs parents protectors words codes count i₀ node₀ word₀ code�
 
 abbrev μ-loop : tie.MeasureT-loop
 μ-loop allocs parents protectors words codes count i₀ node₀ word₀ code₀ i node word code = count - i
+
+-- the state at the entry, as it is known at the loop; and the turn of the loop, where the parts of its allocation are lent
+abbrev entry : tie.At-loop Inv-loop μ-loop → tie.Start Inv-loop μ-loop
+entry c = c .before .before .before .before .before .before
+
+abbrev turn : tie.After-bad-allocation-at-arg5 Inv-loop μ-loop → tie.At-loop Inv-loop μ-loop
+turn c = c .before .before .before .before .before .before
+
+-- an allocation that passed has room for its parts
+parts-fit : (c : tie.Else1 Inv-loop μ-loop)
+    → let at = turn (c .before .before) in
+    let a = entry at .args in
+    PartsFit (now (a .allocs)) (now (a .parents)) (now (a .protectors)) (now (a .words)) (now (a .codes)) (at .loop .i) (at .loop .node) (at .loop .word) (at .loop .code)
+parts-fit c = let k = turn (c .before .before) .loop .inv in walk-fits _ _ _ _ _ _ _ _ _ _ (c .before .bad-allocation-at .ensures) (c .if1 .left) (k .1) (k .2) (k .3) (k .4)
 
 loop-holds : tie.Need-loop-holds Inv-loop μ-loop
 loop-holds c = let a = c .before .before .before .before .before .args in (
@@ -84,15 +99,15 @@ part-bad-allocation-at-end-5 c = omega arith
 
 bad-allocation-at-requires : tie.Need-bad-allocation-at-requires Inv-loop μ-loop
 bad-allocation-at-requires c κs =
-    let s = c .before .before .before .before .before .before .before .before .before .before .before .before in
-    let at = c .before .before .before .before .before .before in
-    walk-front (s .args .allocs .now) (s .args .parents .now) (s .args .protectors .now) (s .args .words .now) (s .args .codes .now) (at .loop .i) (at .loop .node) (at .loop .word) (at .loop .code) (omega (arith, s .pre .0)) (s .pre .1 .0) (s .pre .1 .1)
+    let at = turn c in
+    let s = entry at in
+    walk-front (now (s .args .allocs)) (now (s .args .parents)) (now (s .args .protectors)) (now (s .args .words)) (now (s .args .codes)) (at .loop .i) (at .loop .node) (at .loop .word) (at .loop .code) (omega (arith, s .pre .0)) (s .pre .1 .0) (s .pre .1 .1)
 
 returns : tie.Need-returns Inv-loop μ-loop
 returns c =
-    let s = c .before .before .before .before .before .before .before .before .before .before .before .before .before .before in
-    let at = c .before .before .before .before .before .before .before .before in
-    sym (walk-bad (s .args .allocs .now) (s .args .parents .now) (s .args .protectors .now) (s .args .words .now) (s .args .codes .now) (at .loop .i) (at .loop .node) (at .loop .word) (at .loop .code) (s .args .count) _ (c .before .bad-allocation-at .ensures) (omega arith) (c .if1 .taken)) ∙ at .loop .inv .5
+    let at = turn (c .before .before) in
+    let a = entry at .args in
+    sym (walk-bad (now (a .allocs)) (now (a .parents)) (now (a .protectors)) (now (a .words)) (now (a .codes)) (at .loop .i) (at .loop .node) (at .loop .word) (at .loop .code) _ (c .before .bad-allocation-at .ensures) (a .count) (omega arith) (c .if1 .taken)) ∙ at .loop .inv .5
 
 add-size : tie.Need-add-size Inv-loop μ-loop
 add-size c = omega arith
@@ -113,28 +128,16 @@ shared-slice-read-nodes : tie.Need-shared-slice-read-nodes Inv-loop μ-loop
 shared-slice-read-nodes c = omega arith
 
 add-node : tie.Need-add-node Inv-loop μ-loop
-add-node c =
-    let s = c .before .before .before .before .before .before .before .before .before .before .before .before .before .before .before .before in
-    let at = c .before .before .before .before .before .before .before .before .before .before in
-    omega (arith, walk-parents (s .args .allocs .now) (s .args .parents .now) (s .args .protectors .now) (s .args .words .now) (s .args .codes .now) (at .loop .i) (at .loop .node) (at .loop .word) (at .loop .code) (s .args .count) _ (c .before .before .before .bad-allocation-at .ensures) (c .before .before .if1 .left) (at .loop .inv .1))
+add-node c = omega (arith, parts-fit (c .before .before) .parents)
 
 add-word : tie.Need-add-word Inv-loop μ-loop
-add-word c =
-    let s = c .before .before .before .before .before .before .before .before .before .before .before .before .before .before .before .before in
-    let at = c .before .before .before .before .before .before .before .before .before .before in
-    omega (arith, walk-words (s .args .allocs .now) (s .args .parents .now) (s .args .protectors .now) (s .args .words .now) (s .args .codes .now) (at .loop .i) (at .loop .node) (at .loop .word) (at .loop .code) (s .args .count) _ (c .before .before .before .bad-allocation-at .ensures) (c .before .before .if1 .left) (at .loop .inv .3))
+add-word c = omega (arith, parts-fit (c .before .before) .words)
 
 mul-code : tie.Need-mul-code Inv-loop μ-loop
-mul-code c =
-    let s = c .before .before .before .before .before .before .before .before .before .before .before .before .before .before .before .before in
-    let at = c .before .before .before .before .before .before .before .before .before .before in
-    omega (arith, walk-codes (s .args .allocs .now) (s .args .parents .now) (s .args .protectors .now) (s .args .words .now) (s .args .codes .now) (at .loop .i) (at .loop .node) (at .loop .word) (at .loop .code) (s .args .count) _ (c .before .before .before .bad-allocation-at .ensures) (c .before .before .if1 .left) (at .loop .inv .4))
+mul-code c = omega (arith, parts-fit (c .before .before) .codes)
 
 add-code : tie.Need-add-code Inv-loop μ-loop
-add-code c =
-    let s = c .before .before .before .before .before .before .before .before .before .before .before .before .before .before .before .before in
-    let at = c .before .before .before .before .before .before .before .before .before .before in
-    omega (arith, walk-codes (s .args .allocs .now) (s .args .parents .now) (s .args .protectors .now) (s .args .words .now) (s .args .codes .now) (at .loop .i) (at .loop .node) (at .loop .word) (at .loop .code) (s .args .count) _ (c .before .before .before .bad-allocation-at .ensures) (c .before .before .if1 .left) (at .loop .inv .4))
+add-code c = omega (arith, parts-fit (c .before .before) .codes)
 
 add-i : tie.Need-add-i Inv-loop μ-loop
 add-i c = omega arith
@@ -144,14 +147,16 @@ loop-less c = omega arith
 
 loop-again : tie.Need-loop-again Inv-loop μ-loop
 loop-again c =
-    let s = c .before .before .before .before .before .before .before .before .before .before .before .before .before .before .before .before in
-    let at = c .before .before .before .before .before .before .before .before .before .before in (
+    let passed = c .before .before in
+    let at = turn (passed .before .before) in
+    let a = entry at .args in
+    let fits = parts-fit passed in (
       omega arith,
-      walk-parents (s .args .allocs .now) (s .args .parents .now) (s .args .protectors .now) (s .args .words .now) (s .args .codes .now) (at .loop .i) (at .loop .node) (at .loop .word) (at .loop .code) (s .args .count) _ (c .before .before .before .bad-allocation-at .ensures) (c .before .before .if1 .left) (at .loop .inv .1),
-      walk-protectors (s .args .allocs .now) (s .args .parents .now) (s .args .protectors .now) (s .args .words .now) (s .args .codes .now) (at .loop .i) (at .loop .node) (at .loop .word) (at .loop .code) (s .args .count) _ (c .before .before .before .bad-allocation-at .ensures) (c .before .before .if1 .left) (at .loop .inv .2),
-      walk-words (s .args .allocs .now) (s .args .parents .now) (s .args .protectors .now) (s .args .words .now) (s .args .codes .now) (at .loop .i) (at .loop .node) (at .loop .word) (at .loop .code) (s .args .count) _ (c .before .before .before .bad-allocation-at .ensures) (c .before .before .if1 .left) (at .loop .inv .3),
-      walk-codes (s .args .allocs .now) (s .args .parents .now) (s .args .protectors .now) (s .args .words .now) (s .args .codes .now) (at .loop .i) (at .loop .node) (at .loop .word) (at .loop .code) (s .args .count) _ (c .before .before .before .bad-allocation-at .ensures) (c .before .before .if1 .left) (at .loop .inv .4),
-      walk-on (s .args .allocs .now) (s .args .parents .now) (s .args .protectors .now) (s .args .words .now) (s .args .codes .now) (at .loop .i) (at .loop .node) (at .loop .word) (at .loop .code) (s .args .count) _ (c .before .before .before .bad-allocation-at .ensures) (omega arith) (c .before .before .if1 .left) ∙ at .loop .inv .5,
+      fits .parents,
+      fits .protectors,
+      fits .words,
+      fits .codes,
+      walk-on (now (a .allocs)) (now (a .parents)) (now (a .protectors)) (now (a .words)) (now (a .codes)) (at .loop .i) (at .loop .node) (at .loop .word) (at .loop .code) _ (passed .before .bad-allocation-at .ensures) (a .count) (omega arith) (passed .if1 .left) ∙ at .loop .inv .5,
     )
 
 mul-p-2 : tie.Need-mul-p-2 Inv-loop μ-loop
@@ -216,9 +221,10 @@ bad-rest-requires c κs = omega arith
 
 returns-2 : tie.Need-returns-2 Inv-loop μ-loop
 returns-2 c =
-    let s = c .before .before .before .before .before .before .before .before .before .before .before .before .before in
-    let at = c .before .before .before .before .before .before .before in
-    c .bad-rest .ensures ∙ walk-rest (s .args .allocs .now) (s .args .parents .now) (s .args .protectors .now) (s .args .words .now) (s .args .codes .now) (at .loop .i) (at .loop .node) (at .loop .word) (at .loop .code) (s .args .count) (omega arith) ∙ at .loop .inv .5
+    let left = c .before .before .before .before .before .before in
+    let at = left .before in
+    let a = entry at .args in
+    c .bad-rest .ensures ∙ walk-rest (now (a .allocs)) (now (a .parents)) (now (a .protectors)) (now (a .words)) (now (a .codes)) (at .loop .i) (at .loop .node) (at .loop .word) (at .loop .code) (a .count) (omega arith) ∙ at .loop .inv .5
 
 pub bad-allocations-spec : {M : Type 1} → statement M
 bad-allocations-spec =

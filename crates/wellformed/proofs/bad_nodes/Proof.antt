@@ -1,16 +1,17 @@
 -- At n the answer is that for the nodes from n on.
 use Prim.Native.Nat.{ℕ, _≤_, _+_, _-_, _*_}
-use mathlib.Core.Bool.{true, false}
+use mathlib.Core.Bool.{_||_}
 use mathlib.Core.Path.{_≡_, sym, ap, _∙_}
 use native.Mathlib.Numerals.{add-one}
 use native.Mathlib.Nat.{sub-zero, zero-mul, suc-mul}
 use native.Mathlib.Omega.{arith}
 use borrow.Author.Needs.{needs}
+use denote.Ref.{now}
 use lib.ListN.{take, getD, drop}
 use Rattle.definition.specs.Notation.{any}
 use Rattle.definition.proofs.Booleans.{or-taken, or-skip}
 use Rattle.definition.proofs.Parts.{row-fits}
-use Rattle.wellformed.specs.WellFormed.{badPlace, badCode, badNodes}
+use Rattle.wellformed.specs.WellFormed.{badCode, badNodes}
 use Rattle.wellformed.proofs.Turns.{nodes-turn, nodes-end}
 use Rattle.wellformed.proofs.bad_nodes.Statement.{statement}
 use Rattle.wellformed.proofs.bad_nodes.Tie as tie
@@ -20,6 +21,40 @@ Inv-loop live size count parents protectors codes n₀ row₀ n row = (n ≤ cou
 
 abbrev μ-loop : tie.MeasureT-loop
 μ-loop live size count parents protectors codes n₀ row₀ n row = count - n
+
+-- the state at the entry, as it is known at the loop; and the turn of the loop, where the place of its node was tested
+abbrev entry : tie.At-loop Inv-loop μ-loop → tie.Start Inv-loop μ-loop
+entry c = c .before .before .before .before
+
+abbrev turn : tie.After-bad-place Inv-loop μ-loop → tie.At-loop Inv-loop μ-loop
+turn c = c .before .before .before .before
+
+-- there the answer is that for node n, or for those behind it
+split : (c : tie.After-bad-place Inv-loop μ-loop)
+    → let at = turn c in
+    let a = entry at .args in
+    let n = at .loop .n in
+    let row = at .loop .row in
+    (c .bad-place .result || any (badCode (a .live) (getD (now (a .protectors)) n 0)) (take (a .size) (drop row (now (a .codes)))))
+    || badNodes (a .live) (a .size) (n + 1) (a .count - (n + 1)) (drop (n + 1) (now (a .parents))) (drop (n + 1) (now (a .protectors))) (drop (row + a .size) (now (a .codes)))
+    ≡ badNodes (a .live) (a .size) 0 (a .count) (now (a .parents)) (now (a .protectors)) (now (a .codes))
+split c =
+    let at = turn c in
+    let a = entry at .args in
+    rw (sym (c .bad-place .ensures)) at
+    (sym (nodes-turn (a .live) (a .size) (a .count) (at .loop .n) (at .loop .row) (now (a .parents)) (now (a .protectors)) (now (a .codes)) (omega arith)) ∙ at .loop .inv .2)
+
+-- its codes are those of its row
+codes : (c : tie.After-any-bad-code Inv-loop μ-loop)
+    → let at = turn (c .before .before .before) in
+    let a = entry at .args in
+    any (badCode (a .live) (getD (now (a .protectors)) (at .loop .n) 0)) (take (a .size) (drop (at .loop .row) (now (a .codes)))) ≡ c .any-bad-code .result
+codes c =
+    let at = turn (c .before .before .before) in
+    let a = entry at .args in
+    let row = at .loop .row in
+    let wide : row + a .size - row ≡ a .size = omega arith in
+    ap (λ (k : ℕ). any (badCode (a .live) (getD (now (a .protectors)) (at .loop .n) 0)) (take k (drop row (now (a .codes))))) (sym wide) ∙ sym (c .any-bad-code .ensures)
 
 loop-holds : tie.Need-loop-holds Inv-loop μ-loop
 loop-holds c =
@@ -45,23 +80,13 @@ bad-place-requires : tie.Need-bad-place-requires Inv-loop μ-loop
 bad-place-requires c κs = search needs
 
 returns : tie.Need-returns Inv-loop μ-loop
-returns c =
-    let at = c .before .before .before .before .before in
-    let a = c .before .before .before .before .before .before .before .before .before .args in
-    let n = at .loop .n in
-    let row = at .loop .row in
-    let P = a .parents .now in
-    let R = a .protectors .now in
-    let C = a .codes .now in
-    let turn = nodes-turn (a .live) (a .size) (a .count) n row P R C (omega arith) in
-    let place : badPlace n (getD P n 0) (getD R n 0) ≡ true =
-    sym (c .before .bad-place .ensures) ∙ c .if1 .taken in
-    sym (turn ∙ or-taken _ _ (or-taken _ _ place)) ∙ at .loop .inv .2
+returns c = sym (or-taken _ _ (or-taken _ _ (c .if1 .taken))) ∙ split (c .before)
 
 add-end : tie.Need-add-end Inv-loop μ-loop
 add-end c =
-    let s = c .before .before .before .before .before .before .before .before .before in
-    omega (arith, row-fits (c .before .before .before .before .before .loop .n) (s .args .count) (s .args .size) (omega arith))
+    let at = turn (c .before) in
+    let a = entry at .args in
+    omega (arith, row-fits (at .loop .n) (a .count) (a .size) (omega arith))
 
 sub-any-bad-code : tie.Need-sub-any-bad-code Inv-loop μ-loop
 sub-any-bad-code c = search needs
@@ -71,28 +96,17 @@ part-any-bad-code-start c = search needs
 
 part-any-bad-code-end : tie.Need-part-any-bad-code-end Inv-loop μ-loop
 part-any-bad-code-end c =
-    let s = c .before .before .before .before .before .before .before .before .before in
-    omega (arith, row-fits (c .before .before .before .before .before .loop .n) (s .args .count) (s .args .size) (omega arith))
+    let at = turn (c .before) in
+    let a = entry at .args in
+    omega (arith, row-fits (at .loop .n) (a .count) (a .size) (omega arith))
 
 any-bad-code-requires : tie.Need-any-bad-code-requires Inv-loop μ-loop
 any-bad-code-requires c κs = search needs
 
 returns-2 : tie.Need-returns-2 Inv-loop μ-loop
 returns-2 c =
-    let at = c .before .before .before .before .before .before .before .before in
-    let a = c .before .before .before .before .before .before .before .before .before .before .before .before .args in
-    let n = at .loop .n in
-    let row = at .loop .row in
-    let P = a .parents .now in
-    let R = a .protectors .now in
-    let C = a .codes .now in
-    let turn = nodes-turn (a .live) (a .size) (a .count) n row P R C (omega arith) in
-    let place : badPlace n (getD P n 0) (getD R n 0) ≡ false =
-    sym (c .before .before .before .before .bad-place .ensures) ∙ c .before .before .before .if1 .left in
-    let wide : row + a .size - row ≡ a .size = omega arith in
-    let codes : any (badCode (a .live) (getD R n 0)) (take (a .size) (drop row C)) ≡ true =
-    ap (λ (k : ℕ). any (badCode (a .live) (getD R n 0)) (take k (drop row C))) (sym wide) ∙ sym (c .before .any-bad-code .ensures) ∙ c .if2 .taken in
-    sym (turn ∙ or-taken _ _ (or-skip _ _ place ∙ codes)) ∙ at .loop .inv .2
+    let placed = c .before .before .before in
+    sym (or-taken _ _ (or-skip _ _ (placed .if1 .left) ∙ codes (c .before) ∙ c .if2 .taken)) ∙ split (placed .before)
 
 add-n : tie.Need-add-n Inv-loop μ-loop
 add-n c = search needs
@@ -102,28 +116,18 @@ loop-less c = search needs
 
 loop-again : tie.Need-loop-again Inv-loop μ-loop
 loop-again c =
-    let at = c .before .before .before .before .before .before .before .before in
-    let a = c .before .before .before .before .before .before .before .before .before .before .before .before .args in
-    let n = at .loop .n in
-    let row = at .loop .row in
-    let P = a .parents .now in
-    let R = a .protectors .now in
-    let C = a .codes .now in
-    let turn = nodes-turn (a .live) (a .size) (a .count) n row P R C (omega arith) in
-    let place : badPlace n (getD P n 0) (getD R n 0) ≡ false =
-    sym (c .before .before .before .before .bad-place .ensures) ∙ c .before .before .before .if1 .left in
-    let wide : row + a .size - row ≡ a .size = omega arith in
-    let codes : any (badCode (a .live) (getD R n 0)) (take (a .size) (drop row C)) ≡ false =
-    ap (λ (k : ℕ). any (badCode (a .live) (getD R n 0)) (take k (drop row C))) (sym wide) ∙ sym (c .before .any-bad-code .ensures) ∙ c .if2 .left in (
+    let placed = c .before .before .before in
+    let at = turn (placed .before) in (
       omega arith,
-      rw (add-one n) (omega (arith, suc-mul n (a .size), at .loop .inv .1)),
-      sym (turn ∙ or-skip _ _ (or-skip _ _ place ∙ codes)) ∙ at .loop .inv .2,
+      rw (add-one (at .loop .n)) (omega (arith, suc-mul (at .loop .n) (entry at .args .size), at .loop .inv .1)),
+      sym (or-skip _ _ (or-skip _ _ (placed .if1 .left) ∙ codes (c .before) ∙ c .if2 .left)) ∙ split (placed .before),
     )
 
 returns-3 : tie.Need-returns-3 Inv-loop μ-loop
 returns-3 c =
-    let s = c .before .before .before .before .before in
-    sym (nodes-end (s .args .live) (s .args .size) (s .args .count) (c .before .loop .n) _ _ _ (omega arith)) ∙ c .before .loop .inv .2
+    let at = c .before in
+    let a = entry at .args in
+    sym (nodes-end (a .live) (a .size) (a .count) (at .loop .n) _ _ _ (omega arith)) ∙ at .loop .inv .2
 
 pub bad-nodes-spec : {M : Type 1} → statement M
 bad-nodes-spec =

@@ -3,6 +3,7 @@ use Prim.Native.Nat.{_+_, _-_, _*_}
 use mathlib.Core.Path.{_≡_, refl, sym, _∙_}
 use native.Mathlib.Omega.{arith}
 use borrow.Author.Needs.{needs}
+use denote.Ref.{now}
 use lib.ListN.{getD, drop}
 use Rattle.definition.proofs.Booleans.{or-taken, or-skip}
 use Rattle.wellformed.proofs.Turns.{later-turn, later-end, first-dead, first-live}
@@ -15,6 +16,13 @@ Inv-loop allocs i count p address size j₀ j = clashesLater (count - j) address
 
 abbrev μ-loop : tie.MeasureT-loop
 μ-loop allocs i count p address size j₀ j = count - j
+
+-- the state at the entry, as it is known at the loop; and that allocation i is live there
+abbrev entry : tie.At-loop Inv-loop μ-loop → tie.Start Inv-loop μ-loop
+entry c = c .before .before .before .before .before .before
+
+live : (c : tie.At-loop Inv-loop μ-loop) → getD (now (entry c .args .allocs)) (entry c .args .i * 9) 0 ≡ 1
+live c = c .before .before .before .if1 .left
 
 mul-p : tie.Need-mul-p Inv-loop μ-loop
 mul-p c = search needs
@@ -59,16 +67,17 @@ clashes-at-requires c κs = search needs
 
 returns-2 : tie.Need-returns-2 Inv-loop μ-loop
 returns-2 c =
-    let s = c .before .before .before .before .before .before .before .before .before in
+    let at = c .before .before .before in
+    let s = entry at in
     let A = s .args .allocs .now in
     let i = s .args .i in
     let count = s .args .count in
     let address = getD A (i * 9 + 3) 0 in
     let size = getD A (i * 9 + 4) 0 in
-    let j = c .before .before .before .loop .j in
+    let j = at .loop .j in
     sym (later-turn count j address size A (omega arith) ∙ or-taken _ _ (sym (c .before .clashes-at .ensures) ∙ c .if2 .taken))
-    ∙ c .before .before .before .loop .inv
-    ∙ sym (first-live (count - (i + 1)) i A (c .before .before .before .before .before .before .if1 .left))
+    ∙ at .loop .inv
+    ∙ sym (first-live (count - (i + 1)) i A (live at))
 
 add-j-2 : tie.Need-add-j-2 Inv-loop μ-loop
 add-j-2 c = search needs
@@ -78,24 +87,26 @@ loop-less c = search needs
 
 loop-again : tie.Need-loop-again Inv-loop μ-loop
 loop-again c =
-    let s = c .before .before .before .before .before .before .before .before .before in
+    let at = c .before .before .before in
+    let s = entry at in
     let A = s .args .allocs .now in
     let i = s .args .i in
     let count = s .args .count in
     let address = getD A (i * 9 + 3) 0 in
     let size = getD A (i * 9 + 4) 0 in
-    let j = c .before .before .before .loop .j in
-    sym (later-turn count j address size A (omega arith) ∙ or-skip _ _ (sym (c .before .clashes-at .ensures) ∙ c .if2 .left)) ∙ c .before .before .before .loop .inv
+    let j = at .loop .j in
+    sym (later-turn count j address size A (omega arith) ∙ or-skip _ _ (sym (c .before .clashes-at .ensures) ∙ c .if2 .left)) ∙ at .loop .inv
 
 returns-3 : tie.Need-returns-3 Inv-loop μ-loop
 returns-3 c =
-    let s = c .before .before .before .before .before .before .before in
+    let at = c .before in
+    let s = entry at in
     let A = s .args .allocs .now in
     let i = s .args .i in
     let count = s .args .count in
     let address = getD A (i * 9 + 3) 0 in
     let size = getD A (i * 9 + 4) 0 in
-    sym (later-end count (c .before .loop .j) address size _ (omega arith)) ∙ c .before .loop .inv ∙ sym (first-live (count - (i + 1)) i A (c .before .before .before .before .if1 .left))
+    sym (later-end count (at .loop .j) address size _ (omega arith)) ∙ at .loop .inv ∙ sym (first-live (count - (i + 1)) i A (live at))
 
 pub clashes-later-spec : {M : Type 1} → statement M
 clashes-later-spec =
