@@ -8,15 +8,15 @@ use borrow.Author.Needs.{needs}
 use Rattle.judge.proofs.turn.answer_bytes.Statement.{statement}
 use Rattle.judge.proofs.turn.answer_bytes.Tie as tie
 
--- ---- the places: the entry, before the request is made, behind it
+-- ---- the places: the entry, before the buffers are lent for the request, behind it
 abbrev entry : tie.After-slice-known8 → tie.Start
 entry c =
     let c1 : tie.After-slice-known4 = c .before .before .before .before .before in
     c1 .before .before .before .before
 
-abbrev lent : tie.After-step-bytes → tie.After-slice-known8
+abbrev lent : tie.After-step-bytes-arg7 → tie.After-slice-known8
 lent c =
-    let c1 : tie.After-step-bytes-arg4 = c .before .before .before .before in
+    let c1 : tie.After-step-bytes-arg4 = c .before .before .before in
     c1 .before .before .before .before
 
 abbrev given : tie.After-slice-known14 → tie.After-step-bytes
@@ -25,13 +25,13 @@ given c =
     c1 .before .before .before .before .before .before
 
 step-bytes-requires : tie.Need-step-bytes-requires
-step-bytes-requires c κs = let a = entry (c .before .before .before .before .before .before .before) in
+step-bytes-requires c κs = let a = entry (lent c) in
     (a .pre .0, a .pre .1 .1)
 
 write-answer-requires : tie.Need-write-answer-requires
 write-answer-requires c κs = let left = c .before .before .before .before .before in
     let stepped = given left in
-    let a = entry (lent stepped) in
+    let a = entry (lent (stepped .before)) in
     let k = stepped .step-bytes .ensures (a .pre .0 .0) (a .pre .0 .1) in
     ((step (a .pre .0 .0) (wordsOf (a .args .bytes .now)) .1 .memory, records-held (k .holds)), (a .pre .1 .0, words-held (k .holds)))
 
@@ -64,7 +64,7 @@ returns c = λ state h.
     let written = c .before .before in
     let left = written .before .before .before .before .before .before in
     let stepped = given left in
-    let a = entry (lent stepped) in
+    let a = entry (lent (stepped .before)) in
     let k = stepped .step-bytes .ensures state h in
     let o = step state (wordsOf (a .args .bytes .now)) in
     record {

@@ -9,6 +9,10 @@ use Rattle.judge.proofs.Names.{line-written}
 use Rattle.judge.proofs.turn.write_answer.Statement.{statement}
 use Rattle.judge.proofs.turn.write_answer.Tie as tie
 
+-- the state at the entry, as it is known behind the answer that is shown
+abbrev entry : tie.After-shown → tie.Start
+entry c = c .before .before .before .before
+
 shown-requires : tie.Need-shown-requires
 shown-requires c κs = search needs
 
@@ -22,7 +26,11 @@ same-length : tie.Need-same-length
 same-length c = search needs
 
 returns : tie.Need-returns
-returns c = λ m h. line-written (c .before .before .before .before .before .shown .ensures m h) (c .before .before .before .before .before .before .before .before .before .args .index) (c .before .before .before .before .before .before .before .before .before .args .words .now) (ap (λ (n : ℕ). not (eqb n 0)) (c .refusal .ensures [])) (c .before .before .before .put-line .ensures)
+returns c = λ m h.
+    let put = c .before .before .before in
+    let named = put .before .before in
+    let a = entry named .args in
+    line-written (named .shown .ensures m h) (a .index) (a .words .now) (ap (λ (n : ℕ). not (eqb n 0)) (c .refusal .ensures [])) (put .put-line .ensures)
 
 pub write-answer-spec : {M : Type 1} → statement M
 write-answer-spec =

@@ -1,7 +1,7 @@
 -- The lines so far and those of what is left are the definition's (Runs). Each request takes bytes, so fewer are left.
 use Prim.Native.Nat.{ℕ, _-_, _+_, _≤_, _<_}
 use mathlib.Core.Bool.{false}
-use mathlib.Core.List.{List, []}
+use mathlib.Core.List.{List}
 use mathlib.Core.Path.{_≡_, refl, sym, subst, _∙_}
 use native.Mathlib.Omega.{arith}
 use borrow.Author.Needs.{needs}
@@ -22,16 +22,11 @@ Inv-loop allocs₀ parents₀ protectors₀ words₀ codes₀ frames₀ run requ
 abbrev μ-loop : tie.MeasureT-loop
 μ-loop allocs₀ parents₀ protectors₀ words₀ codes₀ frames₀ run request₀ out₀ p₀ allocs parents protectors words codes frames request out p = length run - p .from
 
--- ---- the places: the entry, the loop's head, behind its test, behind the call
+-- ---- the places: the entry, behind the call, behind the test of the loop, its head, behind the cut
 abbrev entry : tie.After-slice-known8 Inv-loop μ-loop → tie.Start Inv-loop μ-loop
 entry c =
     let c1 : tie.After-slice-known3 Inv-loop μ-loop = c .before .before .before .before .before .before in
     c1 .before .before .before
-
-abbrev head : tie.After-next Inv-loop μ-loop → tie.At-loop Inv-loop μ-loop
-head c =
-    let c1 : tie.After-next-arg3 Inv-loop μ-loop = c .before .before .before .before .before .before in
-    c1 .before .before .before .before .before .before .before
 
 abbrev called : tie.After-slice-known16 Inv-loop μ-loop → tie.After-next Inv-loop μ-loop
 called c =
@@ -43,6 +38,9 @@ abbrev tested : tie.After-next-arg8 Inv-loop μ-loop → tie.Then1 Inv-loop μ-l
 tested c =
     let c1 : tie.After-next-arg2 Inv-loop μ-loop = c .before .before .before .before .before .before in
     c1 .before .before .before .before
+
+abbrev head : tie.After-next Inv-loop μ-loop → tie.At-loop Inv-loop μ-loop
+head c = tested (c .before) .before .before
 
 abbrev found : tie.After-next-arg8 Inv-loop μ-loop → tie.After-next-cut Inv-loop μ-loop
 found c =
