@@ -1,7 +1,7 @@
 -- What holds of a request that is not malformed, kind by kind.
 use Prim.Native.Nat.{ℕ, zero, suc, _≤_, _<_}
 use mathlib.Core.Path.{_≡_, refl, sym}
-use mathlib.Core.Bool.{Bool, true, false, not, _||_, _&&_, false≢true}
+use mathlib.Core.Bool.{Bool, true, false, not, _||_, false≢true}
 use native.Mathlib.Omega.{arith}
 use lib.Dec.{ltb}
 use lib.ListN.{getD}
@@ -10,8 +10,8 @@ use Rattle.definition.specs.Notation.{any}
 use Rattle.definition.specs.Memory.{allocationKinds, kindNumber}
 use Rattle.definition.specs.Memory.AllocationKind.{Stack}
 use Rattle.definition.specs.Frame.{State}
-use Rattle.definition.specs.Request.{Request, nonzero, anyName, strayName, badExponent, badByte, badMetadata, badSettings, badRetag, badCall, bit, isSafe, isPinned, functionEntry, frameNumber, isMalformed}
-use Rattle.definition.specs.Request.Kind.{Allocate, Deallocate, Load, Store, Retag, NewCall, EndCall, Unused}
+use Rattle.definition.specs.Request.{Request, nonzero, anyName, strayName, badExponent, badByte, badCall, isMalformed}
+use Rattle.definition.specs.Request.Kind.{Allocate, Deallocate, Load, Store, NewCall, EndCall, Unused}
 use Rattle.definition.proofs.Booleans.{or-neither, not-not-false}
 use Rattle.request.specs.Fields.{anyField, openIn}
 
@@ -53,14 +53,6 @@ module _ (s : State) (q : Request) where
   unfolding isMalformed
   end-call-frame e =
       let b = or-neither (badCall q) (not (openIn s (q .fourth))) e in (call-frame (b .0), not-not-false (openIn s (q .fourth)) (b .1))
-
-  -- a retag at function entry uses an open frame
-  pub retag-frame : isMalformed Retag s q ≡ false → isSafe q ≡ true → functionEntry q ≡ true → openIn s (frameNumber q) ≡ true
-  unfolding isMalformed badRetag badSettings
-  retag-frame e safe entry =
-      let b = rw safe at (or-neither (strayName q || nonzero (q .exponent) || ltb 5 (q .extra)) (badRetag s q) e .1) in
-      let t = rw entry at (or-neither (badSettings s q) (not (isPinned q) && badMetadata (q .following)) b .0) in
-      not-not-false (openIn s (frameNumber q)) (or-neither (bit 28 (q .fourth)) (not (openIn s (frameNumber q))) t .1)
 
   pub not-unused : isMalformed Unused s q ≡ false → ⊥
   unfolding isMalformed

@@ -1,7 +1,7 @@
 -- The records so far are counted, whatever the others come to (Counting); and the buffers keep their lengths.
-use Prim.Native.Nat.{_+_, _≤_, _<_, ℕ}
-use mathlib.Core.Bool.{Bool, true}
-use mathlib.Core.Path.{_≡_, refl, sym, ap, subst, _∙_}
+use Prim.Native.Nat.{_<_, ℕ}
+use mathlib.Core.Bool.{true}
+use mathlib.Core.Path.{_≡_, refl, subst, _∙_}
 use native.Mathlib.Omega.{arith}
 use borrow.Author.Tests.{ltb-true}
 use borrow.Author.Needs.{needs}
@@ -9,8 +9,7 @@ use denote.Ref.{now}
 use lib.ListN.{length}
 use lib.Dec.{ltb}
 use Rattle.definition.proofs.Booleans.{and-left, and-right}
-use Rattle.state.proofs.Lengths.{have-lengths}
-use Rattle.state.proofs.Lengths.{lengths}
+use Rattle.state.proofs.Lengths.{have-lengths, lengths}
 use Rattle.tables.specs.Held.{buffers}
 use Rattle.vectors.proofs.Counting.{Counting, counting-start, counting-next, counting-over, at-most}
 use Rattle.vectors.specs.Sample.{runOf, textOf, Agrees}

@@ -1,14 +1,13 @@
 -- No request is left, and the lines of the memory follow; or there is no room (Runs).
 use Prim.Native.Nat.{_+_, _≤_}
 use mathlib.Core.Bool.{Bool, not, _&&_, _||_}
-use mathlib.Core.List.{List, _++_}
-use mathlib.Core.Path.{_≡_, ap, sym, _∙_}
+use mathlib.Core.Path.{ap, sym, _∙_}
 use native.Mathlib.Omega.{arith}
 use borrow.Author.Tests.{leb-true}
 use borrow.Author.Needs.{needs}
 use denote.Ref.{now}
 use lib.Dec.{ltb}
-use lib.ListN.{length, take}
+use lib.ListN.{length}
 use lib.Seq.{length-take-le}
 use Rattle.definition.specs.Output.{memoryLines}
 use Rattle.state.proofs.Held.{memory-held}
