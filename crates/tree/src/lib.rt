@@ -3,10 +3,10 @@
 mod accesses;
 mod deallocation;
 mod protector;
-mod retag;
+mod reads;
 
 pub use accesses::access;
 pub use deallocation::deallocate;
 pub use protector::release;
 pub use protector::release_dead;
-pub use retag::make_reads;
+pub use reads::make_reads;

@@ -12,8 +12,8 @@ use Rattle.tree.specs.Table.{Holds}
 use Rattle.tree.specs.Requests.{Checked}
 use Rattle.tree.proofs.Visits.{checked-stays, checked-changes}
 use Rattle.tree.proofs.Inits.{readsLeft, reads-all, reads-skipped, reads-passed, reads-refused, reads-end}
-use Rattle.tree.proofs.retag.first_refused_read.Statement.{statement}
-use Rattle.tree.proofs.retag.first_refused_read.Tie as tie
+use Rattle.tree.proofs.reads.first_refused_read.Statement.{statement}
+use Rattle.tree.proofs.reads.first_refused_read.Tie as tie
 
 abbrev Inv-loop : tie.InvT-loop
 Inv-loop parents codes inside width node from k₀ k =

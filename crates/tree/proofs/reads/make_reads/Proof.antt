@@ -12,8 +12,8 @@ use Rattle.visit.proofs.Places.{same-ready, same-spared, same-width}
 use Rattle.tree.proofs.Inits.{reads-none, reads-together}
 use Rattle.tree.proofs.Visits.{held-ready, means-reads, visit-accepted, visit-refused}
 use borrow.Author.Needs.{needs}
-use Rattle.tree.proofs.retag.make_reads.Statement.{statement}
-use Rattle.tree.proofs.retag.make_reads.Tie as tie
+use Rattle.tree.proofs.reads.make_reads.Statement.{statement}
+use Rattle.tree.proofs.reads.make_reads.Tie as tie
 
 settled-requires : tie.Need-settled-requires
 settled-requires c κs = search needs
