@@ -38,7 +38,7 @@ fn blank() -> [Entry; 64]
 }
 
 // The same list with an entry at a place; past the last one nothing is put in.
-pub fn with_entry(list: [Entry; 64], i: usize, e: Entry) -> [Entry; 64]
+fn with_entry(list: [Entry; 64], i: usize, e: Entry) -> [Entry; 64]
     ensures { λ r. ⌜ r ≡ set list i e ⌝ }
 {
     let mut out = list;

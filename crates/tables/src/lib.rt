@@ -155,7 +155,7 @@ pub fn copy_row(dst: &mut [u8], src: &[u8])
 }
 
 // Moves what is at p and behind up by w; the last w go.
-pub fn shift_right(c: &mut [u8], p: usize, w: usize)
+fn shift_right(c: &mut [u8], p: usize, w: usize)
     requires { ⌜ p + w ≤ length (now c) ⌝ }
     ensures { λ _. ⌜ now (c .exit) ≡ take (p + w) (now (c .entry)) ++ take (length (now (c .entry)) - (p + w)) (drop p (now (c .entry))) ⌝ }
 {
@@ -168,7 +168,7 @@ pub fn shift_right(c: &mut [u8], p: usize, w: usize)
 }
 
 // Puts row in at p: what is there and behind moves up.
-pub fn insert_row(c: &mut [u8], p: usize, row: &[u8])
+fn insert_row(c: &mut [u8], p: usize, row: &[u8])
     requires { ⌜ p + length (now row) ≤ length (now c) ⌝ }
     ensures { λ _. ⌜ now (c .exit) ≡ inserted (now (c .entry)) p (now (row .entry)) ⌝ }
 {
@@ -177,7 +177,7 @@ pub fn insert_row(c: &mut [u8], p: usize, row: &[u8])
 }
 
 // The same in a table of parents, by one.
-pub fn shift_one(c: &mut [u16], p: usize)
+fn shift_one(c: &mut [u16], p: usize)
     requires { ⌜ p + 1 ≤ length (now c) ⌝ }
     ensures { λ _. ⌜ now (c .exit) ≡ take (p + 1) (now (c .entry)) ++ take (length (now (c .entry)) - (p + 1)) (drop p (now (c .entry))) ⌝ }
 {
@@ -189,7 +189,7 @@ pub fn shift_one(c: &mut [u16], p: usize)
     }
 }
 
-pub fn insert_one(c: &mut [u16], p: usize, x: u16)
+fn insert_one(c: &mut [u16], p: usize, x: u16)
     requires { ⌜ p + 1 ≤ length (now c) ⌝ }
     ensures { λ _. ⌜ now (c .exit) ≡ inserted (now (c .entry)) p (x ∷ []) ⌝ }
 {
@@ -198,7 +198,7 @@ pub fn insert_one(c: &mut [u16], p: usize, x: u16)
 }
 
 // In tables that are zero from `used` on: only what is used moves.
-pub fn insert_row_in_used(c: &mut [u8], used: usize, p: usize, row: &[u8])
+fn insert_row_in_used(c: &mut [u8], used: usize, p: usize, row: &[u8])
     requires { ⌜ ZerosFrom used (now c) ⌝ }
     requires { ⌜ (p ≤ used) × (used + length (now row) ≤ length (now c)) ⌝ }
     ensures { λ _. ⌜ now (c .exit) ≡ inserted (now (c .entry)) p (now (row .entry)) ⌝ }
@@ -207,7 +207,7 @@ pub fn insert_row_in_used(c: &mut [u8], used: usize, p: usize, row: &[u8])
     insert_row(&mut c[..end], p, row);
 }
 
-pub fn insert_one_in_used(c: &mut [u16], used: usize, p: usize, x: u16)
+fn insert_one_in_used(c: &mut [u16], used: usize, p: usize, x: u16)
     requires { ⌜ ZerosFrom used (now c) ⌝ }
     requires { ⌜ (p ≤ used) × (used + 1 ≤ length (now c)) ⌝ }
     ensures { λ _. ⌜ now (c .exit) ≡ inserted (now (c .entry)) p (x ∷ []) ⌝ }
@@ -229,7 +229,7 @@ pub fn fill(d: &mut [u8], n: usize, x: u8)
 }
 
 // A row: `inside` from `from` on, `outside` at all other places.
-pub fn make_row(row: &mut [u8], inside: &[u8], outside: u8, from: usize)
+fn make_row(row: &mut [u8], inside: &[u8], outside: u8, from: usize)
     requires { ⌜ from + length (now inside) ≤ length (now row) ⌝ }
     ensures { λ _. ⌜ now (row .exit) ≡ writeAt from (now (inside .entry)) (replicate (length (now (row .entry))) outside) ⌝ }
 {
@@ -241,14 +241,7 @@ pub fn make_row(row: &mut [u8], inside: &[u8], outside: u8, from: usize)
 }
 
 // Puts such a row in at p, of `width`, and makes it there.
-pub fn insert_made_row(
-    c: &mut [u8],
-    p: usize,
-    width: usize,
-    inside: &[u8],
-    outside: u8,
-    from: usize,
-)
+fn insert_made_row(c: &mut [u8], p: usize, width: usize, inside: &[u8], outside: u8, from: usize)
     requires { ⌜ p + width ≤ length (now c) ⌝ }
     requires { ⌜ from + length (now inside) ≤ width ⌝ }
     ensures { λ _. ⌜ now (c .exit) ≡ inserted (now (c .entry)) p (writeAt from (now (inside .entry)) (replicate width outside)) ⌝ }
@@ -258,7 +251,7 @@ pub fn insert_made_row(
     make_row(&mut c[p..end], inside, outside, from);
 }
 
-pub fn insert_made_row_in_used(
+fn insert_made_row_in_used(
     c: &mut [u8],
     used: usize,
     p: usize,
@@ -277,7 +270,7 @@ pub fn insert_made_row_in_used(
 }
 
 // Writes the record of a live allocation with one node at p.
-pub fn put_record(
+fn put_record(
     allocs: &mut [u64],
     p: usize,
     kind: u64,
