@@ -20,7 +20,8 @@ use Rattle.definition.proofs.Visits.{visited-parents}
 use Rattle.definition.proofs.ValidTrees.{released-length}
 use Rattle.definition.proofs.ValidMemory.{release-kept}
 use Rattle.definition.proofs.Parts.{drop-next}
-use Rattle.tables.specs.Encoding.{Place, stateNumber, recordOf, parentsOf, wordsOf, heldRecords, held}
+use Rattle.tables.specs.declared.Starts.{Starts}
+use Rattle.tables.specs.Encoding.{stateNumber, recordOf, parentsOf, wordsOf, heldRecords, held}
 use Rattle.tables.specs.Held.{Records}
 use Rattle.tables.proofs.Focus.{held-kept}
 use Rattle.tables.proofs.Records.{held-records-kept}
@@ -46,7 +47,7 @@ module _ (buffer : Memory → List ℕ) (same : (node n : ℕ) (m : Memory) → 
       if-holds (λ l. buffer l ≡ buffer m) (eqb (releaseRefusal m e) 0) (untilRefused (afterRelease m e) es) m
       (λ t. until-kept es (afterRelease m e) ∙ one-kept m e) (λ t. refl)
 
-same-record : (n : ℕ) (p : Place) (a : Allocation) → recordOf p (afterReleaseIn n a) ≡ recordOf p a
+same-record : (n : ℕ) (p : Starts) (a : Allocation) → recordOf p (afterReleaseIn n a) ≡ recordOf p a
 unfolding afterReleaseIn
 same-record n p a =
     ap (λ (k : ℕ). stateNumber (a .state) ∷ kindNumber (a .kind) ∷ a .exponent ∷ a .address ∷ size a ∷ k ∷ p .words ∷ p .nodes ∷ p .codes ∷ [])

@@ -14,7 +14,8 @@ use Rattle.definition.proofs.Visits.{visited-length}
 use Rattle.definition.proofs.ValidMemory.{valid-load-store, valid-deallocate}
 use Rattle.definition.specs.Memory as definition
 use Rattle.answer.specs.declared.Answer.{Answer}
-use Rattle.tables.specs.Encoding.{Place, recordOf, parentsOf, protectorsOf, wordsOf, heldRecords, held, encode}
+use Rattle.tables.specs.declared.Starts.{Starts}
+use Rattle.tables.specs.Encoding.{recordOf, parentsOf, protectorsOf, wordsOf, heldRecords, held, encode}
 use Rattle.tables.specs.Held.{buffers, Holds}
 use Rattle.tables.proofs.Focus.{held-kept}
 use Rattle.tables.proofs.Records.{held-records-kept}
@@ -31,7 +32,7 @@ holds-bytes h = record { trees = holds-trees h; words = holds-words h }
 
 -- ---- load and store
 module _ (x : MemoryAccess) where
-  same-record : (p : Place) (a : Allocation) → recordOf p (afterAccessIn x a) ≡ recordOf p a
+  same-record : (p : Starts) (a : Allocation) → recordOf p (afterAccessIn x a) ≡ recordOf p a
   unfolding afterAccessIn
   same-record p a = rw (write-length (offset a (x .pointer)) (x .bytes) (a .words), visited-length (visitOf x a) (a .nodes))
 

@@ -22,7 +22,8 @@ use Rattle.pointer.specs.declared.ThinPointer as code
 use Rattle.answer.specs.Answer.{replyTo}
 use Rattle.answer.specs.Answer.Gives.{Nothing}
 use Rattle.answer.specs.declared.Answer.the-variants.{Refused, Accepted}
-use Rattle.tables.specs.Encoding.{Place, stateNumber, recordOf, codesOf, heldRecords, held}
+use Rattle.tables.specs.declared.Starts.{Starts}
+use Rattle.tables.specs.Encoding.{stateNumber, recordOf, codesOf, heldRecords, held}
 use Rattle.tables.specs.Held.{Records}
 use Rattle.tables.proofs.Lookup.{state-at, live-state, kind-at, exponent-at, address-at, size-at, recordAt}
 use Rattle.tables.proofs.Records.{record-state}
@@ -119,7 +120,7 @@ module _ (p : ThinPointer) {m : Memory} {A P R C : List ℕ} (h : HoldsMarked m 
   abbrev n : ℕ
   n = allocationOf (p .provenance)
 
-  dead-record : (q : Place) → recordOf q (afterDeallocateIn p (allocationAt m n)) ≡ set (recordOf q (allocationAt m n)) 0 2
+  dead-record : (q : Starts) → recordOf q (afterDeallocateIn p (allocationAt m n)) ≡ set (recordOf q (allocationAt m n)) 0 2
   unfolding afterDeallocateIn
   dead-record q =
       let a : Allocation = allocationAt m n in

@@ -15,7 +15,8 @@ use Rattle.definition.proofs.Places.{mutate-here}
 use Rattle.definition.proofs.Visits.{visited-length}
 use Rattle.definition.proofs.ValidTrees.{visited-valid}
 use Rattle.definition.proofs.ValidMemory.{Succeeds, changed-valid, same-nodes-kept}
-use Rattle.tables.specs.Encoding.{Place, stateNumber, recordOf, parentsOf, protectorsOf, codesOf, concatMap, held}
+use Rattle.tables.specs.declared.Starts.{Starts}
+use Rattle.tables.specs.Encoding.{stateNumber, recordOf, parentsOf, protectorsOf, codesOf, concatMap, held}
 use Rattle.tables.specs.Held.{startOf, Records, Used}
 use Rattle.tables.proofs.Focus.{focus-same}
 use Rattle.tables.proofs.Records.{held-records-kept}
@@ -30,7 +31,7 @@ module _ (v : Visit) where
   codes-kept : (a : Allocation) → codeCount (afterVisit v a) ≡ codeCount a
   codes-kept a = ap (λ (k : ℕ). k * size a) (nodes-kept a)
 
-  record-kept : (p : Place) (a : Allocation) → recordOf p (afterVisit v a) ≡ recordOf p a
+  record-kept : (p : Starts) (a : Allocation) → recordOf p (afterVisit v a) ≡ recordOf p a
   record-kept p a =
       ap (λ (k : ℕ). stateNumber (a .state) ∷ kindNumber (a .kind) ∷ a .exponent ∷ a .address ∷ size a ∷ k ∷ p .words ∷ p .nodes ∷ p .codes ∷ []) (nodes-kept a)
 

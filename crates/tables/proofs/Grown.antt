@@ -18,13 +18,14 @@ use Rattle.definition.specs.Retag.{ofNode}
 use Rattle.definition.proofs.ValidMemory.{Room, room}
 use Rattle.definition.proofs.Lists.{mutate-length}
 use Rattle.definition.proofs.Parts.{map-replicate, set-mid}
-use Rattle.tables.specs.Encoding.{Place, firstPlace, nextPlace, protectorNumber, recordOf, parentsOf, protectorsOf, wordsOf, rowOf, codesOf, concatMap, recordsFrom, heldRecords, held, encode}
-use Rattle.tables.specs.Held.{buffers, Holds, startOf, Records, StartsAt, AllocationFits, Appended, inserted, withNode, movedPlace, RecordsBehind, Trees, NodeFits, Used, ZerosFrom}
+use Rattle.tables.specs.declared.Starts.{Starts}
+use Rattle.tables.specs.Encoding.{firstStarts, nextStarts, protectorNumber, recordOf, parentsOf, protectorsOf, wordsOf, rowOf, codesOf, concatMap, recordsFrom, heldRecords, held, encode}
+use Rattle.tables.specs.Held.{buffers, Holds, startOf, Records, StartsAt, AllocationFits, Appended, inserted, withNode, movedStarts, RecordsBehind, Trees, NodeFits, Used, ZerosFrom}
 use Rattle.tables.proofs.Inserts.{held-zeros}
 use Rattle.tables.proofs.Parts.{put-paste}
 use Rattle.tables.proofs.Focus.{concat-append, length-held, focus-used, focus-same, focus-insert, focus-append, focus-append-zeros}
 use Rattle.tables.proofs.Sizes.{length-parents, words-used, parents-used, protectors-used, codes-used}
-use Rattle.tables.proofs.Records.{placeAfter, placeAt, after-nodes, after-codes, after-at, starts-place, length-before, around, held-around, records-mutate, record-append}
+use Rattle.tables.proofs.Records.{startsBehind, startsOf, after-nodes, after-codes, after-at, starts-equal, length-before, around, held-around, records-mutate, record-append}
 use Rattle.tables.proofs.Lookup.{start-more, start-all, allocs-length, nodes-at}
 use Rattle.tables.proofs.ReadBack.{holds-parents, holds-protectors, holds-words, encode-of}
 
@@ -35,7 +36,7 @@ module _ (k : AllocationKind) (bytes exponent address : ℕ) where
   unfolding codesOf concatMap newAllocation
   new-row = append-nil _ ∙ map-replicate code bytes (Unprot Unique)
 
-  new-record : (p : Place) → recordOf p (newAllocation k bytes exponent address)
+  new-record : (p : Starts) → recordOf p (newAllocation k bytes exponent address)
       ≡ 1 ∷ kindNumber k ∷ exponent ∷ address ∷ bytes ∷ 1 ∷ p .words ∷ p .nodes ∷ p .codes ∷ []
   unfolding newAllocation
   new-record p = ap (λ (z : ℕ). 1 ∷ kindNumber k ∷ exponent ∷ address ∷ z ∷ 1 ∷ p .words ∷ p .nodes ∷ p .codes ∷ []) (length-replicate bytes 0)
@@ -54,17 +55,17 @@ module _ {m : Memory} {A C : List ℕ} {bytes : ℕ} (ok : AllocationFits m A C 
   record-room = omega (arith, allocs-length (ok .records), allocation-room .allocations)
 
   module _ {w n c : ℕ} (s : StartsAt m (length m) w n c) where
-    place-behind : record { words = w; nodes = n; codes = c } ≡ placeAfter firstPlace m
-    place-behind = starts-place m (length m) (ok .records .valid) s ∙ ap (placeAfter firstPlace) (take-length m)
+    new-starts : record { words = w; nodes = n; codes = c } ≡ startsBehind firstStarts m
+    new-starts = starts-equal m (length m) (ok .records .valid) s ∙ ap (startsBehind firstStarts) (take-length m)
 
     pub append-record : (k : AllocationKind) (exponent address : ℕ)
         → paste A (length m * 9) (1 ∷ kindNumber k ∷ exponent ∷ address ∷ bytes ∷ 1 ∷ w ∷ n ∷ c ∷ []) 9 ≡ heldRecords (m ++ (newAllocation k bytes exponent address ∷ []))
     append-record k exponent address =
         let x = newAllocation k bytes exponent address in
-        let p : Place = record { words = w; nodes = n; codes = c } in
+        let p : Starts = record { words = w; nodes = n; codes = c } in
         ap (λ (t : List ℕ). paste A (length m * 9) t 9) (sym (new-record k bytes exponent address p))
         ∙ ap (λ (t : List ℕ). paste t (length m * 9) (recordOf p x) 9) (ok .records .allocs)
-        ∙ ap (λ (q : Place). paste (heldRecords m) (length m * 9) (recordOf q x) 9) place-behind
+        ∙ ap (λ (q : Starts). paste (heldRecords m) (length m * 9) (recordOf q x) 9) new-starts
         ∙ record-append m x (omega (arith, allocation-room .allocations))
 
     code-start : c ≡ length (concatMap codesOf m)
@@ -133,19 +134,19 @@ module _ {m : Memory} {a : ℕ} {x : Node} {A P R C : List ℕ} {pa pr : ℕ} (r
 
   -- the records before allocation a's and its own, with a node more
   abbrev counted : List ℕ
-  counted = recordsFrom firstPlace (take a m) ++ recordOf (placeAt m a) (withNode x (allocationAt m a))
+  counted = recordsFrom firstStarts (take a m) ++ recordOf (startsOf m a) (withNode x (allocationAt m a))
 
   -- where the parts behind its own start, as they did
-  abbrev later : Place
-  later = nextPlace (placeAt m a) (allocationAt m a)
+  abbrev later : Starts
+  later = nextStarts (startsOf m a) (allocationAt m a)
 
   pub count-behind : {width : ℕ} → length row ≡ width → RecordsBehind (a + 1) counted later (drop (suc a) m) (1152 - length m * 9) width (set A (a * 9 + 5) (getD A (a * 9 + 5) 0 + 1))
   count-behind is = record {
     before = simp length-append (omega (arith, length-before m a (ok .made)));
     allocs = new-count;
     whole = omega (arith, length-drop (suc a) m, ok .made, ok .valid .bounded .allocations);
-    nodes = omega (arith, after-nodes later rest, after-nodes firstPlace m, ap (λ (p : Place). p .nodes) end, node-room .nodes);
-    codes = omega (arith, after-codes later rest, after-codes firstPlace m, ap (λ (p : Place). p .codes) end, node-room .codes, ok .wide, is);
+    nodes = omega (arith, after-nodes later rest, after-nodes firstStarts m, ap (λ (p : Starts). p .nodes) end, node-room .nodes);
+    codes = omega (arith, after-codes later rest, after-codes firstStarts m, ap (λ (p : Starts). p .codes) end, node-room .codes, ok .wide, is);
   }
     where
       y : Allocation
@@ -154,7 +155,7 @@ module _ {m : Memory} {a : ℕ} {x : Node} {A P R C : List ℕ} {pa pr : ℕ} (r
       rest : Memory
       rest = drop (suc a) m
 
-      end : placeAfter later rest ≡ placeAfter firstPlace m
+      end : startsBehind later rest ≡ startsBehind firstStarts m
       end = after-at m a (ok .made)
 
       Z : List ℕ
@@ -167,23 +168,23 @@ module _ {m : Memory} {a : ℕ} {x : Node} {A P R C : List ℕ} {pa pr : ℕ} (r
       new-count =
           ap (λ (v : ℕ). set A (a * 9 + 5) v) (sym n)
           ∙ ap (λ (t : List ℕ). set t (a * 9 + 5) (length (y .nodes ++ (x ∷ [])))) (ok .trees .allocs ∙ held-around m a (ok .made))
-          ∙ set-mid (recordsFrom firstPlace (take a m)) (recordOf (placeAt m a) y) Z (a * 9 + 5) 5 (length (y .nodes ++ (x ∷ []))) (omega (arith, length-before m a (ok .made))) (omega arith)
-          ∙ sym (append-assoc (recordsFrom firstPlace (take a m)) (recordOf (placeAt m a) (withNode x y)) Z)
+          ∙ set-mid (recordsFrom firstStarts (take a m)) (recordOf (startsOf m a) y) Z (a * 9 + 5) 5 (length (y .nodes ++ (x ∷ []))) (omega (arith, length-before m a (ok .made))) (omega arith)
+          ∙ sym (append-assoc (recordsFrom firstStarts (take a m)) (recordOf (startsOf m a) (withNode x y)) Z)
 
   -- and as they do
-  pub moved-records : counted ++ (recordsFrom (movedPlace (length row) later) (drop (suc a) m) ++ replicate (1152 - length m * 9) 0) ≡ heldRecords (mutateAt a (withNode x) m)
+  pub moved-records : counted ++ (recordsFrom (movedStarts (length row) later) (drop (suc a) m) ++ replicate (1152 - length m * 9) 0) ≡ heldRecords (mutateAt a (withNode x) m)
   moved-records =
       let y : Allocation = allocationAt m a in
       let g : Allocation → Allocation = withNode x in
-      let p : Place = placeAt m a in
+      let p : Starts = startsOf m a in
       let n : length (y .nodes ++ (x ∷ [])) ≡ suc (nodeCount y) = length-append (y .nodes) (x ∷ []) ∙ omega arith in
       let c : length (y .nodes ++ (x ∷ [])) * size y ≡ nodeCount y * size y + length row = ap (λ (k : ℕ). k * size y) n ∙ omega (arith, suc-mul (nodeCount y) (size y), ok .wide) in
       let n′ : p .nodes + length (y .nodes ++ (x ∷ [])) ≡ p .nodes + nodeCount y + 1 = omega arith in
       let c′ : p .codes + length (y .nodes ++ (x ∷ [])) * size y ≡ p .codes + nodeCount y * size y + length row = omega arith in
-      let moved : nextPlace p (g y) ≡ movedPlace (length row) later = λ i. record { words = p .words + size y; nodes = n′ i; codes = c′ i } in
-      append-assoc (recordsFrom firstPlace (take a m)) (recordOf p (g y)) _
-      ∙ sym (around m a (ok .made) (mutateAt a g m) (recordOf p (g y)) (recordsFrom (movedPlace (length row) later) (drop (suc a) m))
-      (records-mutate m a (ok .made) g ∙ ap (λ (q : Place). recordsFrom firstPlace (take a m) ++ (recordOf p (g y) ++ recordsFrom q (drop (suc a) m))) moved) (mutate-length a g m))
+      let moved : nextStarts p (g y) ≡ movedStarts (length row) later = λ i. record { words = p .words + size y; nodes = n′ i; codes = c′ i } in
+      append-assoc (recordsFrom firstStarts (take a m)) (recordOf p (g y)) _
+      ∙ sym (around m a (ok .made) (mutateAt a g m) (recordOf p (g y)) (recordsFrom (movedStarts (length row) later) (drop (suc a) m))
+      (records-mutate m a (ok .made) g ∙ ap (λ (q : Starts). recordsFrom firstStarts (take a m) ++ (recordOf p (g y) ++ recordsFrom q (drop (suc a) m))) moved) (mutate-length a g m))
 
   module _ {w n c : ℕ} (s : StartsAt m (a + 1) w n c) where
     parents-place : n ≡ startOf parentsOf m a + length (parentsOf (allocationAt m a))
@@ -248,9 +249,9 @@ module _ {m : Memory} {a : ℕ} {x : Node} {A P R C : List ℕ} {pa pr : ℕ} (r
         (concat-append rowOf (allocationAt m a .nodes) (x ∷ [])
         ∙ ap (λ (t : List ℕ). codesOf (allocationAt m a) ++ t) (append-nil (rowOf x) ∙ sym (ok .is-row))))
 
-    pub new-trees : {A′ : List ℕ} {width : ℕ} → length row ≡ width → A′ ≡ counted ++ (recordsFrom (movedPlace width later) (drop (suc a) m) ++ replicate (1152 - length m * 9) 0)
+    pub new-trees : {A′ : List ℕ} {width : ℕ} → length row ≡ width → A′ ≡ counted ++ (recordsFrom (movedStarts width later) (drop (suc a) m) ++ replicate (1152 - length m * 9) 0)
         → Trees (mutateAt a (withNode x) m) A′ (inserted P n (pa ∷ [])) (inserted R n (pr ∷ [])) (inserted C c row)
-    new-trees is e = record { allocs = e ∙ ap (λ (w : ℕ). counted ++ (recordsFrom (movedPlace w later) (drop (suc a) m) ++ replicate (1152 - length m * 9) 0)) (sym is) ∙ moved-records; parents = new-parents; protectors = new-protectors; codes = new-codes }
+    new-trees is e = record { allocs = e ∙ ap (λ (w : ℕ). counted ++ (recordsFrom (movedStarts w later) (drop (suc a) m) ++ replicate (1152 - length m * 9) 0)) (sym is) ∙ moved-records; parents = new-parents; protectors = new-protectors; codes = new-codes }
 
 -- the five buffers after it: the words stay as they are
 pub node-encode : (m : Memory) (a : ℕ) (x : Node) (A P R W C A′ P′ R′ C′ : List ℕ) → Holds m (buffers A P R W C) → a < length m

@@ -13,13 +13,14 @@ use Rattle.definition.specs.Memory.{Liveness, Allocation, Memory, noAllocation,
 use Rattle.definition.specs.Memory.Liveness.{Live, Dead}
 use Rattle.definition.specs.Valid.{Valid}
 use Rattle.definition.proofs.Parts.{getD-first, zero-at}
-use Rattle.tables.specs.Encoding.{Place, firstPlace, nextPlace, stateNumber, recordOf, wordsOf, parentsOf, protectorsOf, codesOf, concatMap, pad, recordsFrom, heldRecords}
+use Rattle.tables.specs.declared.Starts.{Starts}
+use Rattle.tables.specs.Encoding.{firstStarts, nextStarts, stateNumber, recordOf, wordsOf, parentsOf, protectorsOf, codesOf, concatMap, pad, recordsFrom, heldRecords}
 use Rattle.tables.specs.declared.Allocation as code
 use Rattle.tables.specs.Decoding.{madeIn}
 use Rattle.tables.specs.Held.{startOf, Records, StartsAt, Used}
 use Rattle.tables.proofs.Focus.{concat-append, focus-used}
 use Rattle.tables.proofs.Sizes.{length-parents, length-protectors, words-used, parents-used, codes-used, words-fit, parents-fit, codes-fit, codes-at}
-use Rattle.tables.proofs.Records.{placeAfter, length-records, length-held-records, starts-after, record-get}
+use Rattle.tables.proofs.Records.{startsBehind, length-records, length-held-records, starts-after, record-get}
 use lib.Dec.{eqb}
 
 pub state-made : (s : Liveness) → stateNumber s ≡ 0 → ⊥
@@ -30,13 +31,13 @@ pub live-state : (s : Liveness) → eqb (stateNumber s) 1 ≡ isLive s
 live-state Live = refl
 live-state Dead = refl
 
-made-records : (p : Place) (m : Memory) (k z : ℕ) → length m ≤ k → madeIn k (recordsFrom p m ++ replicate z 0) ≡ length m
+made-records : (p : Starts) (m : Memory) (k z : ℕ) → length m ≤ k → madeIn k (recordsFrom p m ++ replicate z 0) ≡ length m
 unfolding madeIn recordsFrom
 made-records p [] zero z h = refl
 made-records p [] (suc k) z h = rw (eq-eqb _ _ (zero-at z 0))
 made-records p (a ∷ m) zero z h = absurd (omega arith)
 made-records p (a ∷ m) (suc k) z h =
-    rw (ne-eqb (stateNumber (a .state)) 0 (state-made (a .state))) (ap suc (made-records (nextPlace p a) m k z (omega arith)))
+    rw (ne-eqb (stateNumber (a .state)) 0 (state-made (a .state))) (ap suc (made-records (nextStarts p a) m k z (omega arith)))
 
 module _ {m : Memory} {A : List ℕ} (h : Records m A) where
   pub allocs-length : length A ≡ 1152
@@ -45,21 +46,21 @@ module _ {m : Memory} {A : List ℕ} (h : Records m A) where
   pub made-count : madeIn 128 A ≡ length m
   unfolding heldRecords pad
   made-count =
-      ap (madeIn 128) (h .allocs) ∙ made-records firstPlace m 128 (1152 - length (recordsFrom firstPlace m)) (h .valid .bounded .allocations)
+      ap (madeIn 128) (h .allocs) ∙ made-records firstStarts m 128 (1152 - length (recordsFrom firstStarts m)) (h .valid .bounded .allocations)
 
   -- behind the last record
   pub zero-behind : (k : ℕ) → length m * 9 ≤ k → getD A k 0 ≡ 0
   unfolding heldRecords pad
   zero-behind k l =
-      let X = recordsFrom firstPlace m in
+      let X = recordsFrom firstStarts m in
       let n = length X in
-      let e : k ≡ n + (k - n) = omega (arith, length-records firstPlace m) in
+      let e : k ≡ n + (k - n) = omega (arith, length-records firstStarts m) in
       ap₂ (λ (t : List ℕ) (i : ℕ). getD t i 0) (h .allocs) e
       ∙ getD-append-add X (replicate (1152 - n) 0) (k - n) 0 ∙ zero-at (1152 - n) (k - n)
 
   -- the numbers of one
   module _ (a : ℕ) (made : a < length m) where
-    field-at : (q : ℕ) → q < 9 → getD A (a * 9 + q) 0 ≡ getD (recordOf (placeAfter firstPlace (take a m)) (allocationAt m a)) q 0
+    field-at : (q : ℕ) → q < 9 → getD A (a * 9 + q) 0 ≡ getD (recordOf (startsBehind firstStarts (take a m)) (allocationAt m a)) q 0
     field-at q k = ap (λ (t : List ℕ). getD t (a * 9 + q) 0) (h .allocs) ∙ record-get m a made q k
 
     pub state-at : getD A (a * 9) 0 ≡ stateNumber (allocationAt m a .state)

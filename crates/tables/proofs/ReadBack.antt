@@ -15,7 +15,8 @@ use Rattle.definition.specs.Memory.Liveness.{Live, Dead}
 use Rattle.definition.specs.Memory.AllocationKind.{Stack, Heap, Global, Function, VTable}
 use Rattle.definition.specs.Valid.{All, AllFrom, ValidNode, ValidAllocation, Valid}
 use Rattle.definition.proofs.Permissions.{permission-code}
-use Rattle.tables.specs.Encoding.{Buffers, Place, firstPlace, nextPlace, stateNumber, protectorNumber, parentsOf, protectorsOf, wordsOf, rowOf, codesOf, concatMap, pad, recordsFrom, heldRecords, held, encode}
+use Rattle.tables.specs.declared.Starts.{Starts}
+use Rattle.tables.specs.Encoding.{Buffers, firstStarts, nextStarts, stateNumber, protectorNumber, parentsOf, protectorsOf, wordsOf, rowOf, codesOf, concatMap, pad, recordsFrom, heldRecords, held, encode}
 use Rattle.tables.specs.Decoding.{liveness, allocationKind, protector, nodesIn, allocationsIn, view}
 use Rattle.tables.specs.Held.{buffers, Records, Holds}
 use Rattle.tables.proofs.Sizes.{length-parents, length-protectors, length-codes}
@@ -60,7 +61,7 @@ nodes-back bytes live n (x ∷ nodes) P R C v =
     (ap (λ (t : List Node). x ∷ t) (nodes-back bytes live (suc n) nodes P R C (v .1)))
 
 -- ---- all allocations
-allocations-back : (p : Place) (m : Memory) (A P R W C : List ℕ) → All ValidAllocation m
+allocations-back : (p : Starts) (m : Memory) (A P R W C : List ℕ) → All ValidAllocation m
     → allocationsIn (length m) (recordsFrom p m ++ A) (concatMap parentsOf m ++ P) (concatMap protectorsOf m ++ R)
     (concatMap wordsOf m ++ W) (concatMap codesOf m ++ C) ≡ m
 unfolding allocationsIn recordsFrom concatMap parentsOf protectorsOf codesOf
@@ -78,7 +79,7 @@ allocations-back p (a ∷ m) A P R W C v =
       drop-at (codesOf a) (concatMap codesOf m ++ C) (codeCount a) (length-codes a (v .0)),
       liveness-back (a .state),
       kind-back (a .kind),
-      allocations-back (nextPlace p a) m A P R W C (v .1),
+      allocations-back (nextStarts p a) m A P R W C (v .1),
     )
     (ap (λ (ns : List Node). record { state = a .state; kind = a .kind; exponent = a .exponent; address = a .address; words = a .words; nodes = ns } ∷ m)
     (nodes-back (size a) _ 0 (a .nodes) (concatMap parentsOf m ++ P) (concatMap protectorsOf m ++ R) (concatMap codesOf m ++ C) (v .0 .nodes)))
@@ -88,7 +89,7 @@ unfolding view encode heldRecords held pad
 view-encode m v =
     let h : Records m (heldRecords m) = record { valid = v; allocs = refl } in
     rw (made-count h)
-    (allocations-back firstPlace m (replicate (1152 - length (recordsFrom firstPlace m)) 0) (replicate (1024 - length (concatMap parentsOf m)) 0)
+    (allocations-back firstStarts m (replicate (1152 - length (recordsFrom firstStarts m)) 0) (replicate (1024 - length (concatMap parentsOf m)) 0)
     (replicate (1024 - length (concatMap protectorsOf m)) 0) (replicate (4096 - length (concatMap wordsOf m)) 0)
     (replicate (32768 - length (concatMap codesOf m)) 0) (v .each))
 

@@ -8,6 +8,7 @@ use Rattle.definition.specs.Permission.Protected.{No, Weak, Strong}
 use Rattle.definition.specs.Tree.{Node, parents}
 use Rattle.definition.specs.Memory.{Liveness, Allocation, Memory, kindNumber, size, nodeCount, codeCount}
 use Rattle.definition.specs.Memory.Liveness.{Live, Dead}
+use Rattle.tables.specs.declared.Starts.{Starts}
 
 -- the five lists
 pub record Buffers : Type 0 where
@@ -28,22 +29,17 @@ protectorNumber No = 0
 protectorNumber Weak = 1
 protectorNumber Strong = 2
 
--- ---- where an allocation's parts start
-pub record Place : Type 0 where
-  pub words : ℕ
-  pub nodes : ℕ
-  pub codes : ℕ
-
-abbrev pub firstPlace : Place
-firstPlace = record { words = 0; nodes = 0; codes = 0 }
+-- ---- where an allocation's parts start: the struct `Starts`
+abbrev pub firstStarts : Starts
+firstStarts = record { words = 0; nodes = 0; codes = 0 }
 
 -- "ranges consecutive": those of the next start where its own end
-abbrev pub nextPlace : Place → Allocation → Place
-nextPlace p a = record { words = p .words + size a; nodes = p .nodes + nodeCount a; codes = p .codes + codeCount a }
+abbrev pub nextStarts : Starts → Allocation → Starts
+nextStarts p a = record { words = p .words + size a; nodes = p .nodes + nodeCount a; codes = p .codes + codeCount a }
 
 -- ---- an allocation's part in each buffer
 -- nine numbers
-abbrev pub recordOf : Place → Allocation → List ℕ
+abbrev pub recordOf : Starts → Allocation → List ℕ
 recordOf p a =
     stateNumber (a .state)
     ∷ kindNumber (a .kind)
@@ -86,13 +82,13 @@ unfoldable pub pad : ℕ → List ℕ → List ℕ
 pad n xs = xs ++ replicate (n - length xs) 0
 
 -- the records of allocations of which the first one's parts start at p
-unfoldable pub recordsFrom : Place → Memory → List ℕ
+unfoldable pub recordsFrom : Starts → Memory → List ℕ
 recordsFrom p [] = []
-recordsFrom p (a ∷ m) = recordOf p a ++ recordsFrom (nextPlace p a) m
+recordsFrom p (a ∷ m) = recordOf p a ++ recordsFrom (nextStarts p a) m
 
 -- the buffer of 128 records of 9 numbers
 unfoldable pub heldRecords : Memory → List ℕ
-heldRecords m = pad 1152 (recordsFrom firstPlace m)
+heldRecords m = pad 1152 (recordsFrom firstStarts m)
 
 -- a buffer of n numbers that holds the part f of each allocation
 unfoldable pub held : ℕ → (Allocation → List ℕ) → Memory → List ℕ

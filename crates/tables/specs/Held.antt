@@ -9,7 +9,8 @@ use Rattle.definition.specs.Tree.{Node}
 use Rattle.definition.specs.Memory.{Allocation, Memory, allocationAt, changed, size, nodeCount, codeCount, exceedsBounds, ofAllocation}
 use Rattle.definition.specs.Retag.{ofNode}
 use Rattle.definition.specs.Valid.{Valid}
-use Rattle.tables.specs.Encoding.{Buffers, Place, protectorNumber, rowOf, parentsOf, protectorsOf, wordsOf, codesOf, concatMap, recordsFrom, heldRecords, held, encode}
+use Rattle.tables.specs.declared.Starts.{Starts}
+use Rattle.tables.specs.Encoding.{Buffers, protectorNumber, rowOf, parentsOf, protectorsOf, wordsOf, codesOf, concatMap, recordsFrom, heldRecords, held, encode}
 
 abbrev pub buffers : List ℕ → List ℕ → List ℕ → List ℕ → List ℕ → Buffers
 buffers A P R W C = record { allocs = A; parents = P; protectors = R; words = W; codes = C }
@@ -71,12 +72,12 @@ abbrev pub withNode : Node → Allocation → Allocation
 withNode x a = changed a (a .state) (a .words) (a .nodes ++ (x ∷ []))
 
 -- one node and so many codes further on
-abbrev pub movedPlace : ℕ → Place → Place
-movedPlace width p = record { words = p .words; nodes = p .nodes + 1; codes = p .codes + width }
+abbrev pub movedStarts : ℕ → Starts → Starts
+movedStarts width p = record { words = p .words; nodes = p .nodes + 1; codes = p .codes + width }
 
 -- from record k on stand those of m, of which the first one's parts start at p: l stands before them, z zeros behind, and what is
 -- further on by a node of so many codes is no larger than a buffer
-pub record RecordsBehind (k : ℕ) (l : List ℕ) (p : Place) (m : Memory) (z width : ℕ) (A : List ℕ) : Type 0 where
+pub record RecordsBehind (k : ℕ) (l : List ℕ) (p : Starts) (m : Memory) (z width : ℕ) (A : List ℕ) : Type 0 where
   pub before : length l ≡ k * 9
   pub allocs : A ≡ l ++ (recordsFrom p m ++ replicate z 0)
   pub whole : (k + length m) * 9 + z ≡ 1152

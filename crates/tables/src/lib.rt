@@ -11,9 +11,10 @@ ghost use lib.Seq.{paste};
 ghost use Rattle.definition.specs.Notation.{mutateAt, writeAt};
 ghost use Rattle.definition.specs.Tree.{Node};
 ghost use Rattle.definition.specs.Memory.{Memory, AllocationKind, kindNumber, isMisaligned, rangesOverlap, newAllocation};
-ghost use Rattle.tables.specs.Encoding.{Place, recordsFrom};
+ghost use Rattle.tables.specs.declared.Starts.{Starts};
+ghost use Rattle.tables.specs.Encoding.{recordsFrom};
 ghost use Rattle.tables.specs.Decoding.{madeIn};
-ghost use Rattle.tables.specs.Held.{inserted, ZerosFrom, withNode, Records, StartsAt, Used, AllocationFits, Appended, movedPlace, RecordsBehind, NodeFits, PlaceFor, Trees};
+ghost use Rattle.tables.specs.Held.{inserted, ZerosFrom, withNode, Records, StartsAt, Used, AllocationFits, Appended, movedStarts, RecordsBehind, NodeFits, PlaceFor, Trees};
 
 // Where the parts of an allocation start: in `words`, in `parents` and `protectors`, in `codes`.
 pub struct Starts {
@@ -319,9 +320,9 @@ pub fn append_allocation(
 
 // The nodes of allocation k and of those behind it start one later, and their codes `width` later: a node was put in before them.
 fn move_starts(allocs: &mut [u64], k: usize, width: usize)
-    requires { ⌜ ((l : List ℕ) × ((p : Place) × ((m : Memory) × ((z : ℕ) × RecordsBehind k l p m z width (now allocs))))) ⌝ }
-    ensures { λ _. ⌜ ((l : List ℕ) (p : Place) (m : Memory) (z : ℕ) → RecordsBehind k l p m z width (now (allocs .entry))
-        → now (allocs .exit) ≡ l ++ (recordsFrom (movedPlace width p) m ++ replicate z 0)) ⌝ }
+    requires { ⌜ ((l : List ℕ) × ((p : Starts) × ((m : Memory) × ((z : ℕ) × RecordsBehind k l p m z width (now allocs))))) ⌝ }
+    ensures { λ _. ⌜ ((l : List ℕ) (p : Starts) (m : Memory) (z : ℕ) → RecordsBehind k l p m z width (now (allocs .entry))
+        → now (allocs .exit) ≡ l ++ (recordsFrom (movedStarts width p) m ++ replicate z 0)) ⌝ }
 {
     let mut i = k;
     while i < 128 {

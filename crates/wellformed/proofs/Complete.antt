@@ -12,7 +12,8 @@ use Rattle.definition.specs.Tree.{Node}
 use Rattle.definition.specs.Memory.{Allocation, Memory, kindNumber, size, nodeCount, codeCount, isLive, rangesOverlap, overlaps}
 use Rattle.definition.specs.Valid.{All, AllFrom, Placed, ValidNode, ValidByte, ValidAllocation, Separate, Valid}
 use Rattle.definition.proofs.Any.{none-any}
-use Rattle.tables.specs.Encoding.{Buffers, Place, firstPlace, nextPlace, stateNumber, protectorNumber, recordOf, parentsOf, protectorsOf, wordsOf, rowOf, codesOf, concatMap, pad, recordsFrom, heldRecords, held, encode}
+use Rattle.tables.specs.declared.Starts.{Starts}
+use Rattle.tables.specs.Encoding.{Buffers, firstStarts, nextStarts, stateNumber, protectorNumber, recordOf, parentsOf, protectorsOf, wordsOf, rowOf, codesOf, concatMap, pad, recordsFrom, heldRecords, held, encode}
 use Rattle.tables.specs.Decoding.{madeIn}
 use Rattle.tables.specs.Held.{Records, Holds}
 use Rattle.tables.proofs.Focus.{length-held}
@@ -77,7 +78,7 @@ record-passes a v =
       ne-eqb (nodeCount a) 0 (λ e. omega (arith, v .root)),
     )
 
-allocation-passes : (p : Place) (a : Allocation) (A P R W C : List ℕ) → ValidAllocation a
+allocation-passes : (p : Starts) (a : Allocation) (A P R W C : List ℕ) → ValidAllocation a
     → badAllocation (recordOf p a ++ A) (parentsOf a ++ P) (protectorsOf a ++ R) (wordsOf a ++ W) (codesOf a ++ C) ≡ false
 unfolding badAllocation parentsOf protectorsOf codesOf
 allocation-passes p a A P R W C v =
@@ -97,18 +98,18 @@ allocation-passes p a A P R W C v =
     )
     (nodes-pass (isLive (a .state)) (size a) 0 (a .nodes) P R C (v .nodes))
 
-starts-pass : (p : Place) (a : Allocation) (A : List ℕ) → badStarts (p .words) (p .nodes) (p .codes) (recordOf p a ++ A) ≡ false
+starts-pass : (p : Starts) (a : Allocation) (A : List ℕ) → badStarts (p .words) (p .nodes) (p .codes) (recordOf p a ++ A) ≡ false
 unfolding badStarts
 starts-pass p a A = rw (eq-eqb (p .words) (p .words) refl, eq-eqb (p .nodes) (p .nodes) refl, eq-eqb (p .codes) (p .codes) refl)
 
 -- ---- all of them
-allocations-pass : (q : Place) (m : Memory) (a p r w c : ℕ) → All ValidAllocation m
+allocations-pass : (q : Starts) (m : Memory) (a p r w c : ℕ) → All ValidAllocation m
     → badAllocations (length m) (q .words) (q .nodes) (q .codes) (recordsFrom q m ++ replicate a 0) (concatMap parentsOf m ++ replicate p 0) (concatMap protectorsOf m ++ replicate r 0)
     (concatMap wordsOf m ++ replicate w 0) (concatMap codesOf m ++ replicate c 0) ≡ false
 unfolding badAllocations badAllocationAt badRest recordsFrom concatMap
 allocations-pass q [] a p r w c v = rw (only-zeros a, only-zeros p, only-zeros r, only-zeros w, only-zeros c)
 allocations-pass q (x ∷ m) a p r w c v =
-    let A : List ℕ = recordsFrom (nextPlace q x) m ++ replicate a 0 in
+    let A : List ℕ = recordsFrom (nextStarts q x) m ++ replicate a 0 in
     let P : List ℕ = concatMap parentsOf m ++ replicate p 0 in
     let R : List ℕ = concatMap protectorsOf m ++ replicate r 0 in
     let W : List ℕ = concatMap wordsOf m ++ replicate w 0 in
@@ -125,41 +126,41 @@ allocations-pass q (x ∷ m) a p r w c v =
       drop-append-seam (wordsOf x) W,
       drop-at (codesOf x) C (codeCount x) (length-codes x (v .0)),
     )
-    (allocations-pass (nextPlace q x) m a p r w c (v .1))
+    (allocations-pass (nextStarts q x) m a p r w c (v .1))
 
 -- ---- live ones not overlapping
-later-pass : (a : Allocation) → isLive (a .state) ≡ true → (p : Place) (m : Memory) (Z : List ℕ)
+later-pass : (a : Allocation) → isLive (a .state) ≡ true → (p : Starts) (m : Memory) (Z : List ℕ)
     → All (λ b. isLive (b .state) ≡ true → overlaps (b .address) (size b) a ≡ false) m
     → clashesLater (length m) (a .address) (size a) (recordsFrom p m ++ Z) ≡ false
 unfolding clashesLater clashes recordsFrom
 later-pass a l p [] Z h = refl
 later-pass a l p (b ∷ m) Z h =
-    rw (live-state (b .state), go (isLive (b .state)) (λ e. rw l at (h .0 e))) (later-pass a l (nextPlace p b) m Z (h .1))
+    rw (live-state (b .state), go (isLive (b .state)) (λ e. rw l at (h .0 e))) (later-pass a l (nextStarts p b) m Z (h .1))
   where
     go : (t : Bool) → (t ≡ true → rangesOverlap (a .address) (size a) (b .address) (size b) ≡ false)
         → t && rangesOverlap (a .address) (size a) (b .address) (size b) ≡ false
     go true q = q refl
     go false q = refl
 
-clash-none : (p : Place) (m : Memory) (Z : List ℕ) → Separate m → anyClash (length m) (recordsFrom p m ++ Z) ≡ false
+clash-none : (p : Starts) (m : Memory) (Z : List ℕ) → Separate m → anyClash (length m) (recordsFrom p m ++ Z) ≡ false
 unfolding anyClash clashesFirst recordsFrom
 clash-none p [] Z h = refl
-clash-none p (a ∷ m) Z h = rw (live-state (a .state), go (isLive (a .state)) refl) (clash-none (nextPlace p a) m Z (h .1))
+clash-none p (a ∷ m) Z h = rw (live-state (a .state), go (isLive (a .state)) refl) (clash-none (nextStarts p a) m Z (h .1))
   where
-    go : (t : Bool) → isLive (a .state) ≡ t → t && clashesLater (length m) (a .address) (size a) (recordsFrom (nextPlace p a) m ++ Z) ≡ false
-    go true l = later-pass a l (nextPlace p a) m Z (h .0)
+    go : (t : Bool) → isLive (a .state) ≡ t → t && clashesLater (length m) (a .address) (size a) (recordsFrom (nextStarts p a) m ++ Z) ≡ false
+    go true l = later-pass a l (nextStarts p a) m Z (h .0)
     go false l = refl
 
 -- ---- the five buffers
 module _ (m : Memory) (v : Valid m) where
   clash-held : anyClash (length m) (heldRecords m) ≡ false
   unfolding heldRecords pad
-  clash-held = clash-none firstPlace m (replicate (1152 - length (recordsFrom firstPlace m)) 0) (v .separate)
+  clash-held = clash-none firstStarts m (replicate (1152 - length (recordsFrom firstStarts m)) 0) (v .separate)
 
   bad-held : badAllocations (length m) 0 0 0 (heldRecords m) (held 1024 parentsOf m) (held 1024 protectorsOf m) (held 4096 wordsOf m) (held 32768 codesOf m) ≡ false
   unfolding heldRecords held pad
   bad-held =
-      allocations-pass firstPlace m (1152 - length (recordsFrom firstPlace m)) (1024 - length (concatMap parentsOf m)) (1024 - length (concatMap protectorsOf m))
+      allocations-pass firstStarts m (1152 - length (recordsFrom firstStarts m)) (1024 - length (concatMap parentsOf m)) (1024 - length (concatMap protectorsOf m))
       (4096 - length (concatMap wordsOf m)) (32768 - length (concatMap codesOf m)) (v .each)
 
   made-held : madeIn 128 (heldRecords m) ≡ length m

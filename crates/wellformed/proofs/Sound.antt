@@ -20,7 +20,8 @@ use Rattle.definition.proofs.Alls.{none-pass}
 use Rattle.definition.proofs.Booleans.{or-neither, and-left, and-right}
 use Rattle.definition.proofs.Permissions.{code-permission}
 use Rattle.definition.proofs.Parts.{take-one}
-use Rattle.tables.specs.Encoding.{Buffers, Place, firstPlace, nextPlace, stateNumber, protectorNumber, recordOf, parentsOf, protectorsOf, wordsOf, rowOf, codesOf, concatMap, pad, recordsFrom, heldRecords, held, encode}
+use Rattle.tables.specs.declared.Starts.{Starts}
+use Rattle.tables.specs.Encoding.{Buffers, firstStarts, nextStarts, stateNumber, protectorNumber, recordOf, parentsOf, protectorsOf, wordsOf, rowOf, codesOf, concatMap, pad, recordsFrom, heldRecords, held, encode}
 use Rattle.tables.specs.Decoding.{protector, nodesIn, allocationIn, allocationsIn, madeIn, view}
 use Rattle.tables.specs.Held.{Holds}
 use Rattle.tables.proofs.Sizes.{words-used, parents-used, codes-used}
@@ -178,7 +179,7 @@ tested A P R W C h =
     }
 
 -- what the test of its starts says
-pub record StartsRead (p : Place) (A : List ℕ) : Type 0 where
+pub record StartsRead (p : Starts) (A : List ℕ) : Type 0 where
   words : getD A 6 0 ≡ p .words
   nodes : getD A 7 0 ≡ p .nodes
   codes : getD A 8 0 ≡ p .codes
@@ -205,7 +206,7 @@ tested-at w n c A P R W C h =
     (starts-read w n c A (e .0), tested A P R W C (e .1))
 
 -- the allocation that is read at the front, and the parts that it is read from
-record FrontRead (p : Place) (A P R W C : List ℕ) (a : Allocation) : Type 0 where
+record FrontRead (p : Starts) (A P R W C : List ℕ) (a : Allocation) : Type 0 where
   valid : ValidAllocation a
   long : size a ≡ getD A 4 0
   count : nodeCount a ≡ getD A 5 0
@@ -231,7 +232,7 @@ take-nine A h =
       take-suc A 0 0 (omega arith),
     )
 
-front-read : (p : Place) (A P R W C : List ℕ) → StartsRead p A → Tested A P R W C → 9 ≤ length A → FrontRead p A P R W C (allocationIn A P R W C)
+front-read : (p : Starts) (A P R W C : List ℕ) → StartsRead p A → Tested A P R W C → 9 ≤ length A → FrontRead p A P R W C (allocationIn A P R W C)
 unfolding parentsOf protectorsOf codesOf
 front-read p A P R W C s t nine =
     let z = getD A 4 0 in
@@ -282,7 +283,7 @@ padded-more b x rest n e (z, p) =
     (z, sym (take-append-drop n b) ∙ ap₂ _++_ (sym e) p ∙ sym (append-assoc x rest (replicate z 0)))
 
 -- the buffers hold the parts of m, of which the first one's start at p
-record Whole (p : Place) (A P R W C : List ℕ) (m : Memory) : Type 0 where
+record Whole (p : Starts) (A P R W C : List ℕ) (m : Memory) : Type 0 where
   each : All ValidAllocation m
   allocs : Padded A (recordsFrom p m)
   parents : Padded P (concatMap parentsOf m)
@@ -290,7 +291,7 @@ record Whole (p : Place) (A P R W C : List ℕ) (m : Memory) : Type 0 where
   words : Padded W (concatMap wordsOf m)
   codes : Padded C (concatMap codesOf m)
 
-whole-none : (q : Place) (A P R W C : List ℕ) → badRest A P R W C ≡ false → Whole q A P R W C []
+whole-none : (q : Starts) (A P R W C : List ℕ) → badRest A P R W C ≡ false → Whole q A P R W C []
 unfolding badRest recordsFrom concatMap
 whole-none q A P R W C h =
     let a = any nonzero A in
@@ -318,20 +319,20 @@ whole-read zero w b c A P R W C h l = whole-none (record { words = w; nodes = b;
 whole-read (suc k) w b c A P R W C h l =
     let n = getD A 5 0 in
     let z = getD A 4 0 in
-    let p : Place = record { words = w; nodes = b; codes = c } in
+    let p : Starts = record { words = w; nodes = b; codes = c } in
     let x = allocationIn A P R W C in
     let rest = badAllocations k (w + z) (b + n) (c + n * z) (drop 9 A) (drop n P) (drop n R) (drop z W) (drop (n * z) C) in
     let e : (badAllocationAt w b c A P R W C ≡ false) × (rest ≡ false) = or-neither (badAllocationAt w b c A P R W C) rest h in
     let t : StartsRead p A × Tested A P R W C = tested-at w b c A P R W C (e .0) in
     let f : FrontRead p A P R W C x = front-read p A P R W C (t .0) (t .1) (omega arith) in
     let m = allocationsIn k (drop 9 A) (drop n P) (drop n R) (drop z W) (drop (n * z) C) in
-    let q : Place = record { words = w + z; nodes = b + n; codes = c + n * z } in
-    let next : q ≡ nextPlace p x = sym (λ i. record { words = w + f .long i; nodes = b + f .count i; codes = c + f .count i * f .long i }) in
+    let q : Starts = record { words = w + z; nodes = b + n; codes = c + n * z } in
+    let next : q ≡ nextStarts p x = sym (λ i. record { words = w + f .long i; nodes = b + f .count i; codes = c + f .count i * f .long i }) in
     let s : Whole q (drop 9 A) (drop n P) (drop n R) (drop z W) (drop (n * z) C) m =
     whole-read k (w + z) (b + n) (c + n * z) (drop 9 A) (drop n P) (drop n R) (drop z W) (drop (n * z) C) (e .1) (simp length-drop (omega arith)) in
     record {
       each = (f .valid, s .each);
-      allocs = padded-more A (recordOf p x) (recordsFrom (nextPlace p x) m) 9 (f .allocs) (subst (λ (t : Place). Padded (drop 9 A) (recordsFrom t m)) next (s .allocs));
+      allocs = padded-more A (recordOf p x) (recordsFrom (nextStarts p x) m) 9 (f .allocs) (subst (λ (t : Starts). Padded (drop 9 A) (recordsFrom t m)) next (s .allocs));
       parents = padded-more P (parentsOf x) (concatMap parentsOf m) n (f .parents) (s .parents);
       protectors = padded-more R (protectorsOf x) (concatMap protectorsOf m) n (f .protectors) (s .protectors);
       words = padded-more W (wordsOf x) (concatMap wordsOf m) z (f .words) (s .words);
@@ -346,32 +347,32 @@ apart-dead : (a : Allocation) → isLive (a .state) ≡ false → (m : Memory) �
 apart-dead a e [] = tt
 apart-dead a e (b ∷ m) = ((λ l. rw e), apart-dead a e m)
 
-apart-live : (a : Allocation) → (p : Place) (m : Memory) (Z : List ℕ) → clashesLater (length m) (a .address) (size a) (recordsFrom p m ++ Z) ≡ false → All (Apart a) m
+apart-live : (a : Allocation) → (p : Starts) (m : Memory) (Z : List ℕ) → clashesLater (length m) (a .address) (size a) (recordsFrom p m ++ Z) ≡ false → All (Apart a) m
 unfolding clashesLater clashes recordsFrom
 apart-live a p [] Z h = tt
 apart-live a p (b ∷ m) Z h =
     let o = rangesOverlap (a .address) (size a) (b .address) (size b) in
     let t = eqb (stateNumber (b .state)) 1 in
-    let rest = clashesLater (length m) (a .address) (size a) (recordsFrom (nextPlace p b) m ++ Z) in
+    let rest = clashesLater (length m) (a .address) (size a) (recordsFrom (nextStarts p b) m ++ Z) in
     let e : (t && o ≡ false) × (rest ≡ false) = or-neither (t && o) rest h in
-    ((λ l. and-later (isLive (a .state)) o (rw (live-state (b .state) ∙ l) at (e .0))), apart-live a (nextPlace p b) m Z (e .1))
+    ((λ l. and-later (isLive (a .state)) o (rw (live-state (b .state) ∙ l) at (e .0))), apart-live a (nextStarts p b) m Z (e .1))
   where
     and-later : (t o : Bool) → o ≡ false → t && o ≡ false
     and-later true o e = e
     and-later false o e = refl
 
-separate : (p : Place) (m : Memory) (Z : List ℕ) → anyClash (length m) (recordsFrom p m ++ Z) ≡ false → Separate m
+separate : (p : Starts) (m : Memory) (Z : List ℕ) → anyClash (length m) (recordsFrom p m ++ Z) ≡ false → Separate m
 unfolding anyClash clashesFirst recordsFrom
 separate p [] Z h = tt
 separate p (a ∷ m) Z h =
     let t = eqb (stateNumber (a .state)) 1 in
-    let later = clashesLater (length m) (a .address) (size a) (recordsFrom (nextPlace p a) m ++ Z) in
-    let rest = anyClash (length m) (recordsFrom (nextPlace p a) m ++ Z) in
+    let later = clashesLater (length m) (a .address) (size a) (recordsFrom (nextStarts p a) m ++ Z) in
+    let rest = anyClash (length m) (recordsFrom (nextStarts p a) m ++ Z) in
     let e : (t && later ≡ false) × (rest ≡ false) = or-neither (t && later) rest h in
-    (go (isLive (a .state)) refl (rw (live-state (a .state)) at (e .0)), separate (nextPlace p a) m Z (e .1))
+    (go (isLive (a .state)) refl (rw (live-state (a .state)) at (e .0)), separate (nextStarts p a) m Z (e .1))
   where
-    go : (t : Bool) → isLive (a .state) ≡ t → t && clashesLater (length m) (a .address) (size a) (recordsFrom (nextPlace p a) m ++ Z) ≡ false → All (Apart a) m
-    go true l q = apart-live a (nextPlace p a) m Z q
+    go : (t : Bool) → isLive (a .state) ≡ t → t && clashesLater (length m) (a .address) (size a) (recordsFrom (nextStarts p a) m ++ Z) ≡ false → All (Apart a) m
+    go true l q = apart-live a (nextStarts p a) m Z q
     go false l q = apart-dead a l m
 
 -- ---- the five buffers
@@ -423,15 +424,15 @@ sound b h =
     let lw : length (b .words) ≡ 4096 = eqb-true _ _ (and-right t3 (eqb (length (b .words)) 4096) h4) in
     let lc : length (b .codes) ≡ 32768 = eqb-true _ _ (and-right t4 (eqb (length (b .codes)) 32768) h5) in
     let m = allocationsIn k (b .allocs) (b .parents) (b .protectors) (b .words) (b .codes) in
-    let s : Whole firstPlace (b .allocs) (b .parents) (b .protectors) (b .words) (b .codes) m =
+    let s : Whole firstStarts (b .allocs) (b .parents) (b .protectors) (b .words) (b .codes) m =
     whole-read k 0 0 0 (b .allocs) (b .parents) (b .protectors) (b .words) (b .codes) (not-true bad (and-right t6 (not bad) h)) (omega (arith, made-small 128 (b .allocs))) in
     let n : length m ≡ k = count-read k (b .allocs) (b .parents) (b .protectors) (b .words) (b .codes) in
-    let apart : anyClash (length m) (recordsFrom firstPlace m ++ replicate (s .allocs .0) 0) ≡ false =
+    let apart : anyClash (length m) (recordsFrom firstStarts m ++ replicate (s .allocs .0) 0) ≡ false =
     ap₂ anyClash n (sym (s .allocs .1)) ∙ not-true clash (and-right t5 (not clash) h6) in
     record {
       valid = record {
         each = s .each;
-        separate = separate firstPlace m (replicate (s .allocs .0) 0) apart;
+        separate = separate firstStarts m (replicate (s .allocs .0) 0) apart;
         bounded = record {
           allocations = omega (arith, n, made-small 128 (b .allocs));
           words = omega (arith, words-used m, padded-length (b .words) (concatMap wordsOf m) 4096 lw (s .words));
@@ -440,7 +441,7 @@ sound b h =
         };
       };
       equal = λ i. record {
-        allocs = padded-pad (b .allocs) (recordsFrom firstPlace m) 1152 la (s .allocs) i;
+        allocs = padded-pad (b .allocs) (recordsFrom firstStarts m) 1152 la (s .allocs) i;
         parents = padded-pad (b .parents) (concatMap parentsOf m) 1024 lp (s .parents) i;
         protectors = padded-pad (b .protectors) (concatMap protectorsOf m) 1024 lr (s .protectors) i;
         words = padded-pad (b .words) (concatMap wordsOf m) 4096 lw (s .words) i;

@@ -6,14 +6,14 @@ use mathlib.Core.Path.{sym, _∙_}
 use mathlib.Core.List.{List}
 use lib.ListN.{length-set}
 use Rattle.definition.specs.Memory.{Memory}
-use Rattle.tables.specs.Encoding.{Place}
+use Rattle.tables.specs.declared.Starts.{Starts}
 use Rattle.tables.specs.Held.{RecordsBehind}
 use Rattle.tables.proofs.Moving.{Moving, moving-start, moving-turn, moving-nodes, moving-codes, moving-end, moving-all, moving-length, behind-length}
 use Rattle.tables.proofs.move_starts.Statement.{statement}
 use Rattle.tables.proofs.move_starts.Tie as tie
 
 abbrev Inv-loop : tie.InvT-loop
-Inv-loop allocs₀ k width i₀ allocs i = (l : List ℕ) (p : Place) (m : Memory) (z : ℕ) → RecordsBehind i₀ l p m z width allocs₀ → Moving i l p m z width allocs
+Inv-loop allocs₀ k width i₀ allocs i = (l : List ℕ) (p : Starts) (m : Memory) (z : ℕ) → RecordsBehind i₀ l p m z width allocs₀ → Moving i l p m z width allocs
 
 abbrev μ-loop : tie.MeasureT-loop
 μ-loop allocs₀ k width i₀ allocs i = 128 - i
