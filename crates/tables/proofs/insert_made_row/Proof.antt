@@ -13,6 +13,13 @@ use Rattle.tables.proofs.Parts.{put-gap}
 use Rattle.tables.proofs.insert_made_row.Statement.{statement}
 use Rattle.tables.proofs.insert_made_row.Tie as tie
 
+-- ---- states by name: at the entry, as it is known behind the shift; behind the shift, as it is known where the row is made
+abbrev entry : tie.After-shift-right → tie.Start
+entry c = c .before .before .before .before
+
+abbrev shift-before-row : tie.After-make-row → tie.After-shift-right
+shift-before-row c = c .before .before .before .before
+
 shift-right-requires : tie.Need-shift-right-requires
 shift-right-requires c κs = search needs
 
@@ -36,18 +43,20 @@ same-length c = search needs
 
 returns : tie.Need-returns
 returns c =
-    let a = c .before .before .before .before .before .before .before .before .before .before .args in
+    let made = c .before .before in
+    let shifted = shift-before-row made in
+    let a = entry shifted .args in
     let C = now (a .c) in
-    let D = c .before .before .before .before .before .before .shift-right .last .0 in
-    let k : length D ≡ length C = c .before .before .before .before .before .before .shift-right .kept .0 in
+    let D = shifted .shift-right .last .0 in
+    let k : length D ≡ length C = shifted .shift-right .kept .0 in
     let row : List ℕ = writeAt (a .from) (now (a .inside)) (replicate (a .width) (a .outside)) in
     let long : length row ≡ a .width = write-length (a .from) (now (a .inside)) (replicate (a .width) (a .outside)) ∙ length-replicate (a .width) (a .outside) in
     let h : a .p + a .width ≤ length C = omega arith in
     let wide : a .p + a .width - a .p ≡ a .width = omega arith in
     let gap : length (midOf (a .p) (a .p + a .width - a .p) D) ≡ a .width = length-take (a .p + a .width - a .p) (drop (a .p) D) ∙ omega (arith, length-drop (a .p) D) in
     ap (λ (l : List ℕ). putMid (a .p) (a .p + a .width - a .p) D l)
-    (c .before .before .make-row .ensures ∙ ap (λ (n : ℕ). writeAt (a .from) (now (a .inside)) (replicate n (a .outside))) gap)
-    ∙ ap₂ (λ (n : ℕ) (d : List ℕ). putMid (a .p) n d row) wide (c .before .before .before .before .before .before .shift-right .ensures)
+    (made .make-row .ensures ∙ ap (λ (n : ℕ). writeAt (a .from) (now (a .inside)) (replicate n (a .outside))) gap)
+    ∙ ap₂ (λ (n : ℕ) (d : List ℕ). putMid (a .p) n d row) wide (shifted .shift-right .ensures)
     ∙ put-gap C (take (length C - (a .p + a .width)) (drop (a .p) C)) row (a .p) (a .width) long h
     ∙ ap (λ (n : ℕ). take (a .p) C ++ (row ++ take (length C - (a .p + n)) (drop (a .p) C))) (sym long)
 

@@ -13,6 +13,13 @@ use Rattle.tables.proofs.Parts.{put-paste}
 use Rattle.tables.proofs.insert_row.Statement.{statement}
 use Rattle.tables.proofs.insert_row.Tie as tie
 
+-- ---- states by name: at the entry, as it is known behind the shift; behind the shift, as it is known behind the copy
+abbrev entry : tie.After-shift-right → tie.Start
+entry c = c .before .before .before .before
+
+abbrev shift-before-copy : tie.After-copy-row → tie.After-shift-right
+shift-before-copy c = c .before .before .before .before
+
 shift-right-requires : tie.Need-shift-right-requires
 shift-right-requires c κs = search needs
 
@@ -33,17 +40,19 @@ same-length c = search needs
 
 returns : tie.Need-returns
 returns c =
-    let a = c .before .before .before .before .before .before .before .before .before .before .args in
+    let copied = c .before .before in
+    let shifted = shift-before-copy copied in
+    let a = entry shifted .args in
     let C = now (a .c) in
     let R = now (a .row) in
     let p = a .p in
-    let D = c .before .before .before .before .before .before .shift-right .last .0 in
-    let k : length D ≡ length C = c .before .before .before .before .before .before .shift-right .kept .0 in
+    let D = shifted .shift-right .last .0 in
+    let k : length D ≡ length C = shifted .shift-right .kept .0 in
     let h : p + length R ≤ length C = omega arith in
     let h2 : p + length R ≤ length D = omega arith in
-    ap (λ (l : List ℕ). putMid p (length D - p) D l) (c .before .before .copy-row .ensures)
+    ap (λ (l : List ℕ). putMid p (length D - p) D l) (copied .copy-row .ensures)
     ∙ put-paste D R p h2
-    ∙ ap (λ (d : List ℕ). paste d p R (length R)) (c .before .before .before .before .before .before .shift-right .ensures)
+    ∙ ap (λ (d : List ℕ). paste d p R (length R)) (shifted .shift-right .ensures)
     ∙ into-gap C (take (length C - (p + length R)) (drop p C)) R p h
 
 pub insert-row-spec : {M : Type 1} → statement M

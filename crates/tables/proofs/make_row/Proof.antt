@@ -17,6 +17,16 @@ use Rattle.tables.proofs.make_row.Tie as tie
 put-write : (d s : List ℕ) (p : ℕ) {back : List ℕ} → p + length s ≤ length d → back ≡ s ++ drop (length s) (midOf p (length d - p) d) → putMid p (length d - p) d back ≡ writeAt p s d
 put-write d s p h e = ap (putMid p (length d - p) d) e ∙ put-paste d s p h ∙ sym (write-paste p s d h)
 
+-- ---- states by name, each as it is known behind the next one: at the entry; behind the front, which goes before the inside codes; behind these; behind the rest
+abbrev entry : tie.After-fill → tie.Start
+entry c = c .before .before .before .before
+
+abbrev front-before-inside : tie.After-copy-row → tie.After-fill
+front-before-inside c = c .before .before .before .before
+
+abbrev inside-before-rest : tie.After-fill2 → tie.After-copy-row
+inside-before-rest c = c .before .before .before .before
+
 add-end : tie.Need-add-end
 add-end c = search needs
 
@@ -55,19 +65,22 @@ same-length c = search needs
 
 returns : tie.Need-returns
 returns c =
-    let a = c .before .before .before .before .before .before .before .before .before .before .before .before .before .before .args in
+    let rest = c .before .before in
+    let middle = inside-before-rest rest in
+    let front = front-before-inside middle in
+    let a = entry front .args in
     let row = now (a .row) in
     let I = now (a .inside) in
     let e = a .from + length I in
     let behind = replicate (length row - e) (a .outside) in
-    let D1 = c .before .before .before .before .before .before .before .before .before .before .fill .last .0 in
-    let k1 : length D1 ≡ length row = c .before .before .before .before .before .before .before .before .before .before .fill .kept .0 in
-    let D2 = putMid (a .from) (length D1 - a .from) D1 (c .before .before .before .before .before .before .copy-row .last .0) in
-    let middle : D2 ≡ writeAt (a .from) I D1 = put-write D1 I (a .from) (omega arith) (c .before .before .before .before .before .before .copy-row .ensures) in
-    let k2 : length D2 ≡ length row = ap length middle ∙ write-length (a .from) I D1 ∙ k1 in
+    let D1 = front .fill .last .0 in
+    let k1 : length D1 ≡ length row = front .fill .kept .0 in
+    let D2 = putMid (a .from) (length D1 - a .from) D1 (middle .copy-row .last .0) in
+    let written : D2 ≡ writeAt (a .from) I D1 = put-write D1 I (a .from) (omega arith) (middle .copy-row .ensures) in
+    let k2 : length D2 ≡ length row = ap length written ∙ write-length (a .from) I D1 ∙ k1 in
     put-write D2 behind e (omega (arith, length-replicate (length row - e) (a .outside)))
-    (c .before .before .fill2 .ensures ∙ ap (λ (k : ℕ). behind ++ drop k (midOf e (length D2 - e) D2)) (sym (length-replicate (length row - e) (a .outside))))
-    ∙ ap (writeAt e behind) (middle ∙ ap (writeAt (a .from) I) (c .before .before .before .before .before .before .before .before .before .before .fill .ensures))
+    (rest .fill2 .ensures ∙ ap (λ (k : ℕ). behind ++ drop k (midOf e (length D2 - e) D2)) (sym (length-replicate (length row - e) (a .outside))))
+    ∙ ap (writeAt e behind) (written ∙ ap (writeAt (a .from) I) (front .fill .ensures))
     ∙ three-parts row I (a .from) (a .outside) (omega arith)
 
 pub make-row-spec : {M : Type 1} → statement M

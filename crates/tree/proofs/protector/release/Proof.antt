@@ -1,10 +1,15 @@
 -- 16, or the end of the node's protector; a node that has one is not the root.
-use Prim.Native.Nat.{ℕ}
-use mathlib.Core.List.{List}
-use mathlib.Core.Path.{refl, sym, ap, subst, _∙_}
-use lib.ListN.{set}
+use Prim.Native.Nat.{ℕ, _+_, _*_, _≤_, _<_}
+use mathlib.Core.Bool.{false}
+use mathlib.Core.List.{List, _++_}
+use mathlib.Core.Path.{_≡_, refl, sym, ap, subst, _∙_}
+use lib.ListN.{length, drop, set}
+use Rattle.definition.specs.Tree.{Node, nodeAt}
 use Rattle.definition.specs.Memory.Liveness.{Live}
+use Rattle.definition.specs.Frame.{lacksProtector}
+use Rattle.visit.specs.Walk.{rowAt}
 use Rattle.visit.proofs.Places.{copied-row, lent-row}
+use Rattle.tree.specs.Table.{HoldsAll}
 use Rattle.tree.specs.Requests.{Ended}
 use Rattle.tree.proofs.Held.{node-fits, held-count, marks-count, held-marks}
 use Rattle.tree.proofs.Releases.{root-lacks, released-marks, release-16, release-refused}
@@ -14,11 +19,40 @@ use native.Mathlib.Omega.{arith}
 use Rattle.tree.proofs.protector.release.Statement.{statement}
 use Rattle.tree.proofs.protector.release.Tie as tie
 
+-- ---- states by name: `g-before-f` is the state behind g, as it is known behind f; the first one is `entry`. `lent` is where the node's row is lent on, to be copied
+abbrev entry-before-lent : tie.After-codes → tie.Start
+entry-before-lent c = c .before .before .before .before .before
+
+abbrev entry : tie.After-copy-row → tie.Start
+entry c = entry-before-lent (c .before .before .before)
+
+abbrev copy-row-before-lacks-protector : tie.After-lacks-protector → tie.After-copy-row
+copy-row-before-lacks-protector c = c .before .before .before .before .before
+
+abbrev else1-before-end-protector : tie.After-end-protector → tie.Else1
+else1-before-end-protector c = c .before .before .before
+
+-- the node is one of the table: its row ends within it, and it has a mark
+ends : (s : tie.Start) → s .args .node * s .args .width + s .args .width ≤ length (s .args .codes .now)
+ends s = node-fits (s .pre .0 .1 .holds) (s .args .node) (s .pre .1 .0)
+
+has-mark : (s : tie.Start) → s .args .node < length (s .args .protectors .now)
+has-mark s = omega (arith, held-count (s .pre .0 .1 .holds), marks-count (s .pre .0 .0) (s .args .protectors .now) (s .pre .0 .1 .marked), s .pre .1 .0)
+
+-- the lent row has a copy of the node's
+row-copied : (c : tie.After-copy-row) → let a = entry c .args in c .copy-row .last .1 .0 ≡ rowAt (a .width) (a .node) (a .codes .now) ++ drop (a .width) (a .lent .now)
+row-copied c = let a = entry c .args in copied-row (a .width) (a .node) (a .codes .now) (a .lent .now) _ (ends (entry c)) (c .copy-row .ensures)
+
+-- where 16 is not answered the node has a protector
+protected : (c : tie.Else1) (nodes : List Node) → let a = entry (copy-row-before-lacks-protector (c .before)) .args in HoldsAll nodes (a .width) (a .parents .now) (a .protectors .now) (a .codes .now)
+    → lacksProtector (nodeAt nodes (a .node)) ≡ false
+protected c nodes held = sym (c .before .lacks-protector .ensures nodes (held-marks held)) ∙ c .if1 .left
+
 mul-start : tie.Need-mul-start
-mul-start c = let s = c .before .before .before .before in omega (arith, node-fits (s .pre .0 .1 .holds) (s .args .node) (s .pre .1 .0))
+mul-start c = omega (arith, ends (c .before .before .before .before))
 
 add-end : tie.Need-add-end
-add-end c = let s = c .before .before .before .before in omega (arith, node-fits (s .pre .0 .1 .holds) (s .args .node) (s .pre .1 .0))
+add-end c = omega (arith, ends (c .before .before .before .before))
 
 sub-copy-row : tie.Need-sub-copy-row
 sub-copy-row c = search needs
@@ -27,16 +61,16 @@ part-copy-row-start : tie.Need-part-copy-row-start
 part-copy-row-start c = search needs
 
 part-copy-row-end : tie.Need-part-copy-row-end
-part-copy-row-end c = let s = c .before .before .before .before .before in node-fits (s .pre .0 .1 .holds) (s .args .node) (s .pre .1 .0)
+part-copy-row-end c = ends (entry-before-lent c)
 
 copy-row-requires : tie.Need-copy-row-requires
 copy-row-requires c κs = search needs
 
 lacks-protector-requires : tie.Need-lacks-protector-requires
 lacks-protector-requires c κs =
-    let s = c .before .before .before .before .before .before .before .before .before .before .before .before in
+    let s = entry (c .before .before .before .before) in
     let held = s .pre .0 in
-    ((held .0, held-marks (held .1)), omega (arith, held-count (held .1 .holds), marks-count (held .0) (s .args .protectors .now) (held .1 .marked)))
+    ((held .0, held-marks (held .1)), has-mark s)
 
 same-length : tie.Need-same-length
 same-length c = search needs
@@ -49,21 +83,26 @@ same-length-3 c = search needs
 
 returns : tie.Need-returns
 returns c =
-    let s = c .before .before .before .before .before .before .before .before .before .before .before .before .before .before in (
-      copied-row (s .args .width) (s .args .node) (s .args .codes .now) (s .args .lent .now) _ (node-fits (s .pre .0 .1 .holds) (s .args .node) (s .pre .1 .0)) (c .before .before .before .before .before .before .copy-row .ensures),
-      λ nodes held. release-refused Live nodes (s .args .node) 16 _ _ (release-16 Live nodes (s .args .node) (sym (c .before .lacks-protector .ensures nodes (held-marks held)) ∙ c .if1 .taken)) (λ q. absurd (omega arith)) (held .marked) (held .holds .table .rows),
+    let tested = c .before in
+    let copy = copy-row-before-lacks-protector tested in
+    let n = entry copy .args .node in (
+      row-copied copy,
+      λ nodes held. release-refused Live nodes n 16 _ _ (release-16 Live nodes n (sym (tested .lacks-protector .ensures nodes (held-marks held)) ∙ c .if1 .taken)) (λ q. absurd (omega arith)) (held .marked) (held .holds .table .rows),
     )
 
 end-protector-requires : tie.Need-end-protector-requires
 end-protector-requires c κs =
-    let s = c .before .before .before .before .before .before .before .before .before .before .before .before .before .before .before .before in
+    let left = c .before .before in
+    let copy = copy-row-before-lacks-protector (left .before) in
+    let s = entry copy in
     let nodes = s .pre .0 .0 in
-    let held = s .pre .0 .1 in (
+    let held = s .pre .0 .1 in
+    let a = s .args in (
       (nodes, held .holds),
       (
         s .pre .1 .0,
-        root-lacks nodes (held .rootFree) (s .args .node) (sym (c .before .before .before .lacks-protector .ensures nodes (held-marks held)) ∙ c .before .before .if1 .left),
-        lent-row (s .args .width) (s .args .node) (s .args .codes .now) (s .args .lent .now) _ (node-fits (s .pre .0 .1 .holds) (s .args .node) (s .pre .1 .0)) (copied-row (s .args .width) (s .args .node) (s .args .codes .now) (s .args .lent .now) _ (node-fits (s .pre .0 .1 .holds) (s .args .node) (s .pre .1 .0)) (c .before .before .before .before .before .before .before .before .copy-row .ensures)),
+        root-lacks nodes (held .rootFree) (a .node) (protected left nodes held),
+        lent-row (a .width) (a .node) (a .codes .now) (a .lent .now) _ (ends s) (row-copied copy),
       ),
     )
 
@@ -78,14 +117,18 @@ same-length-6 c = search needs
 
 returns-2 : tie.Need-returns-2
 returns-2 c =
-    let s = c .before .before .before .before .before .before .before .before .before .before .before .before .before .before .before .before .before .before .before .before in
-    let ended = c .before .before .before .end-protector in (
-      copied-row (s .args .width) (s .args .node) (s .args .codes .now) (s .args .lent .now) _ (node-fits (s .pre .0 .1 .holds) (s .args .node) (s .pre .1 .0)) (c .before .before .before .before .before .before .before .before .before .before .before .before .copy-row .ensures),
-      λ nodes held. ended-refused nodes (s .args .node) (ended .result) _ (ended .ensures nodes (held .holds)) (sym (c .before .before .before .before .before .before .before .lacks-protector .ensures nodes (held-marks held)) ∙ c .before .before .before .before .before .before .if1 .left) _ (c .if2 .taken) (held .marked),
+    let end = c .before .before .before in
+    let left = else1-before-end-protector end in
+    let copy = copy-row-before-lacks-protector (left .before) in
+    let ended = end .end-protector in (
+      row-copied copy,
+      λ nodes held. ended-refused nodes (entry copy .args .node) (ended .result) _ (ended .ensures nodes (held .holds)) (protected left nodes held) _ (c .if2 .taken) (held .marked),
     )
 
 slice-write-protectors : tie.Need-slice-write-protectors
-slice-write-protectors c = let s = c .before .before .before .before .before .before .before .before .before .before .before .before .before .before .before .before .before .before .before .before in omega (arith, held-count (s .pre .0 .1 .holds), marks-count (s .pre .0 .0) (s .args .protectors .now) (s .pre .0 .1 .marked))
+slice-write-protectors c =
+    let left = else1-before-end-protector (c .before .before .before) in
+    has-mark (entry (copy-row-before-lacks-protector (left .before)))
 
 same-length-7 : tie.Need-same-length-7
 same-length-7 c = search needs
@@ -98,12 +141,15 @@ same-length-9 c = search needs
 
 returns-3 : tie.Need-returns-3
 returns-3 c =
-    let s = c .before .before .before .before .before .before .before .before .before .before .before .before .before .before .before .before .before .before .before .before in
-    let ended = c .before .before .before .end-protector in (
-      copied-row (s .args .width) (s .args .node) (s .args .codes .now) (s .args .lent .now) _ (node-fits (s .pre .0 .1 .holds) (s .args .node) (s .pre .1 .0)) (c .before .before .before .before .before .before .before .before .before .before .before .before .copy-row .ensures),
+    let end = c .before .before .before in
+    let left = else1-before-end-protector end in
+    let copy = copy-row-before-lacks-protector (left .before) in
+    let n = entry copy .args .node in
+    let ended = end .end-protector in (
+      row-copied copy,
       λ nodes held.
-          ended-accepted nodes (s .args .node) 0 _ (subst (λ (k : ℕ). Ended (s .args .node) nodes k (ended .last .1 .0)) (c .if2 .left) (ended .ensures nodes (held .holds))) (sym (c .before .before .before .before .before .before .before .lacks-protector .ensures nodes (held-marks held)) ∙ c .before .before .before .before .before .before .if1 .left) _ refl
-          (ap (λ (m : List ℕ). set m (s .args .node) 0) (held .marked) ∙ released-marks nodes (s .args .node)),
+          ended-accepted nodes n 0 _ (subst (λ (k : ℕ). Ended n nodes k (ended .last .1 .0)) (c .if2 .left) (ended .ensures nodes (held .holds))) (protected left nodes held) _ refl
+          (ap (λ (m : List ℕ). set m n 0) (held .marked) ∙ released-marks nodes n),
     )
 
 pub release-spec : {M : Type 1} → statement M

@@ -9,13 +9,13 @@ use borrow.Author.Needs.{needs}
 use native.Mathlib.Omega.{arith}
 use Rattle.tree.proofs.protector.release_dead.Statement.{statement}
 use Rattle.tree.proofs.protector.release_dead.Tie as tie
-use Rattle.tree.proofs.protector.release_dead.Reads as reads
-use Rattle.tree.proofs.protector.release_dead.Lts as lts
-use Rattle.tree.proofs.protector.lacks_protector.Reads as lacks-protector-reads
-use Rattle.tree.proofs.protector.unprotect_node.Reads as unprotect-node-reads
+
+-- the state at the entry, as it is known behind 16's test
+abbrev entry : tie.After-lacks-protector → tie.Start
+entry c = c .before .before .before .before
 
 -- the node's row ends within the table
-ends : (s : lts.Start (lacks-protector-reads.Asked, lacks-protector-reads.Learnt, unprotect-node-reads.Asked, unprotect-node-reads.Learnt) reads.Pre reads.Post) → s .args .node * s .args .width + s .args .width ≤ length (s .args .codes .now)
+ends : (s : tie.Start) → s .args .node * s .args .width + s .args .width ≤ length (s .args .codes .now)
 ends s = held-fits (s .pre .0 .0) (s .args .width) (s .args .codes .now) (s .pre .0 .1 .table) (s .args .node) (omega (arith, marks-count (s .pre .0 .0) (s .args .protectors .now) (s .pre .0 .1 .marked)))
 
 lacks-protector-requires : tie.Need-lacks-protector-requires
@@ -26,25 +26,28 @@ same-length c = search needs
 
 returns : tie.Need-returns
 returns c =
-    let s = c .before .before .before .before .before in
+    let s = entry (c .before) in
     λ nodes held.
     release-refused Dead nodes (s .args .node) 16 (s .args .protectors .now) _
     (release-16 Dead nodes (s .args .node) (sym (c .before .lacks-protector .ensures nodes held) ∙ c .if1 .taken)) (λ q. absurd (omega arith)) (held .marked) (held .table .rows)
 
 unprotect-node-requires : tie.Need-unprotect-node-requires
-unprotect-node-requires c κs = ends (c .before .before .before .before .before .before)
+unprotect-node-requires c κs = ends (entry (c .before .before))
 
 same-length-2 : tie.Need-same-length-2
 same-length-2 c = search needs
 
 returns-2 : tie.Need-returns-2
 returns-2 c =
-    let s = c .before .before .before .before .before .before .before .before .before in
+    let unprotected = c .before .before in
+    let protected = unprotected .before .before in
+    let tested = protected .before in
+    let s = entry tested in
     let n = s .args .node in
     λ nodes held.
     release-accepted Dead nodes n 0 (s .args .protectors .now) _
-    (release-visits Dead nodes n (sym (c .before .before .before .before .before .lacks-protector .ensures nodes held) ∙ c .before .before .before .before .if1 .left)) refl (held .marked ∙ dead-marks nodes n)
-    (c .before .before .unprotect-node .ensures ∙ unprotected-table Dead nodes (s .args .width) (s .args .codes .now) (held .table) n (omega (arith, marks-count nodes (s .args .protectors .now) (held .marked))))
+    (release-visits Dead nodes n (sym (tested .lacks-protector .ensures nodes held) ∙ protected .if1 .left)) refl (held .marked ∙ dead-marks nodes n)
+    (unprotected .unprotect-node .ensures ∙ unprotected-table Dead nodes (s .args .width) (s .args .codes .now) (held .table) n (omega (arith, marks-count nodes (s .args .protectors .now) (held .marked))))
 
 pub release-dead-spec : {M : Type 1} → statement M
 release-dead-spec =

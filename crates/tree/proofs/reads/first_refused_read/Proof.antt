@@ -22,6 +22,16 @@ Inv-loop parents codes inside width node from k₀ k =
 abbrev μ-loop : tie.MeasureT-loop
 μ-loop parents codes inside width node from k₀ k = length inside - k
 
+-- ---- states by name, each as it is known behind the next one: at the entry; in a turn; behind what its byte asks for; behind the check of that
+abbrev entry : tie.At-loop Inv-loop μ-loop → tie.Start Inv-loop μ-loop
+entry c = c .before .before .before .before
+
+abbrev turn : tie.After-init-access Inv-loop μ-loop → tie.At-loop Inv-loop μ-loop
+turn c = c .before .before .before
+
+abbrev init-access-before-check : tie.After-check-access Inv-loop μ-loop → tie.After-init-access Inv-loop μ-loop
+init-access-before-check c = c .before .before .before .before
+
 loop-holds : tie.Need-loop-holds Inv-loop μ-loop
 loop-holds c = (omega arith, λ nodes holds. refl)
 
@@ -41,7 +51,7 @@ add-at : tie.Need-add-at Inv-loop μ-loop
 add-at c = search needs
 
 check-access-requires : tie.Need-check-access-requires Inv-loop μ-loop
-check-access-requires c κs = let s = c .before .before .before .before .before .before .before .before .before .before in (s .pre .0, (s .pre .1 .0, omega arith))
+check-access-requires c κs = let s = entry (turn (c .before .before .before)) in (s .pre .0, (s .pre .1 .0, omega arith))
 
 enum-told-2 : tie.Need-enum-told-2 Inv-loop μ-loop
 enum-told-2 c = search needs
@@ -54,15 +64,17 @@ enum-known-n c = search needs
 
 returns : tie.Need-returns Inv-loop μ-loop
 returns c =
-    let s = c .before .before .before .before .before .before .before .before .before .before .before .before .before .before in
-    let l = c .before .before .before .before .before .before .before .before .before .before .loop in
-    let kind = c .before .before .before .before .before .kind in
-    let node = s .args .node in
-    let from = s .args .from in
-    let inside = s .args .inside .now in
+    let check = c .before .before .before in
+    let kind = check .before .before .kind in
+    let asked = init-access-before-check check in
+    let l = turn asked .loop in
+    let a = entry (turn asked) .args in
+    let node = a .node in
+    let from = a .from in
+    let inside = a .inside .now in
     λ nodes holds.
-    let t = subst (Checked (accessVisit (accessKind (kind .given .0 .0)) node (from + l .k) 1) nodes) (c .before .n .given .1) (c .before .before .before .check-access .ensures nodes holds) in
-    reads-refused node from inside nodes (l .k) (omega arith) _ (c .before .before .before .before .before .before .before .init-access .ensures) (accessKind (kind .given .0 .0)) (c .before .n .given .0 .0) (ap maybeAccess (kind .given .1)) (t .0) (t .1)
+    let t = subst (Checked (accessVisit (accessKind (kind .given .0 .0)) node (from + l .k) 1) nodes) (c .before .n .given .1) (check .check-access .ensures nodes holds) in
+    reads-refused node from inside nodes (l .k) (omega arith) _ (asked .init-access .ensures) (accessKind (kind .given .0 .0)) (c .before .n .given .0 .0) (ap maybeAccess (kind .given .1)) (t .0) (t .1)
     ∙ l .inv .1 nodes holds
     ∙ reads-all node from inside nodes
 
@@ -74,21 +86,22 @@ loop-less c = search needs
 
 loop-again : tie.Need-loop-again Inv-loop μ-loop
 loop-again c =
-    let s = c .before .before .before .before .before .before .before .before in
-    let l = c .before .before .before .before .loop in
-    let node = s .args .node in
-    let from = s .args .from in
-    let inside = s .args .inside .now in (
+    let asked = c .before in
+    let l = turn asked .loop in
+    let a = entry (turn asked) .args in
+    let node = a .node in
+    let from = a .from in
+    let inside = a .inside .now in (
       omega arith,
       λ nodes holds.
           ⊎-elim
-          (λ w. reads-skipped node from inside nodes (l .k) (omega arith) _ (c .before .init-access .ensures) (ap maybeAccess (w .1 .given .1)))
+          (λ w. reads-skipped node from inside nodes (l .k) (omega arith) _ (asked .init-access .ensures) (ap maybeAccess (w .1 .given .1)))
           (⊎-elim
           (λ w.
-          reads-passed node from inside nodes (l .k) (omega arith) _ (c .before .init-access .ensures) (accessKind (w .1 .given .0 .0)) _ (ap maybeAccess (w .1 .given .1)) refl
+          reads-passed node from inside nodes (l .k) (omega arith) _ (asked .init-access .ensures) (accessKind (w .1 .given .0 .0)) _ (ap maybeAccess (w .1 .given .1)) refl
           (checked-stays (accessVisit (accessKind (w .1 .given .0 .0)) node (from + l .k) 1) nodes _ (w .3 .ensures nodes holds) (w .5 .given .1)))
           (λ w.
-          reads-passed node from inside nodes (l .k) (omega arith) _ (c .before .init-access .ensures) (accessKind (w .1 .given .0 .0)) _ (ap maybeAccess (w .1 .given .1)) refl
+          reads-passed node from inside nodes (l .k) (omega arith) _ (asked .init-access .ensures) (accessKind (w .1 .given .0 .0)) _ (ap maybeAccess (w .1 .given .1)) refl
           (checked-changes (accessVisit (accessKind (w .1 .given .0 .0)) node (from + l .k) 1) nodes _ (w .3 .ensures nodes holds) (w .5 .given .1))))
           (c .match .came)
           ∙ l .inv .1 nodes holds,
@@ -96,11 +109,11 @@ loop-again c =
 
 returns-2 : tie.Need-returns-2 Inv-loop μ-loop
 returns-2 c =
-    let s = c .before .before .before .before .before in
     let l = c .before .loop in
-    let node = s .args .node in
-    let from = s .args .from in
-    let inside = s .args .inside .now in
+    let a = entry (c .before) .args in
+    let node = a .node in
+    let from = a .from in
+    let inside = a .inside .now in
     λ nodes holds. sym (reads-end node from inside nodes (l .k) (omega arith)) ∙ l .inv .1 nodes holds ∙ reads-all node from inside nodes
 
 pub first-refused-read-spec : {M : Type 1} → statement M
