@@ -9,18 +9,18 @@ use Rattle.end_call.proofs.EndCall.{all-zero}
 use Rattle.end_call.proofs.end_call_held.Statement.{statement}
 use Rattle.end_call.proofs.end_call_held.Tie as tie
 
--- ---- states by name: `g-before-f` is the state behind g, as it is known behind f; the first one is `entry`
+-- ---- states by name: `g-before-f` is the state behind g, as it is known behind f; the first one is `entry`, and `known` is where it is known what the lent slices hold, `area` where the area has come back
+abbrev entry-before-known : tie.After-slice-known3 → tie.Start
+entry-before-known c = c .before .before .before .before .before
+
 abbrev entry-before-end-call-refusal : tie.After-end-call-refusal → tie.Start
-entry-before-end-call-refusal c = let c1 = c .before .before .before .before .before .before in c1 .before .before .before
+entry-before-end-call-refusal c = entry-before-known (c .before .before .before .before)
 
-abbrev entry-before-fill : tie.After-fill → tie.Start
-entry-before-fill c = let c1 = c .before .before .before .before .before .before in entry-before-end-call-refusal (c1 .before .before)
-
-abbrev entry-before-refused-with : tie.After-refused-with → tie.Start
-entry-before-refused-with c = entry-before-fill (c .before .before .before)
+abbrev end-call-refusal-before-area : tie.After-area → tie.After-end-call-refusal
+end-call-refusal-before-area c = c .before .before .before .before .before
 
 abbrev end-call-refusal-before-fill : tie.After-fill → tie.After-end-call-refusal
-end-call-refusal-before-fill c = let c1 = c .before .before .before .before .before .before in c1 .before .before
+end-call-refusal-before-fill c = end-call-refusal-before-area (c .before .before .before)
 
 abbrev end-call-refusal-before-refused-with : tie.After-refused-with → tie.After-end-call-refusal
 end-call-refusal-before-refused-with c = end-call-refusal-before-fill (c .before .before .before)
@@ -44,11 +44,11 @@ same-length-3 : tie.Need-same-length-3
 same-length-3 c = search needs
 
 returns : tie.Need-returns
-returns c = let s = entry-before-refused-with c in (
+returns c = let refusal = end-call-refusal-before-refused-with c in (
   λ m h.
-      let k = end-call-refusal-before-refused-with c .end-call-refusal .ensures m h in
+      let k = refusal .end-call-refusal .ensures m h in
       record { reply = c .refused-with .ensures ∙ ap (λ (n : ℕ). replyTo Nothing (refusedWith n)) (k .refusal); nodes = k .nodes },
-  all-zero 32768 _ (end-call-refusal-before-refused-with c .end-call-refusal .last .1 .1 .1 .1 .0) (end-call-refusal-before-refused-with c .end-call-refusal .kept .1 .1 .1 .1 .0 ∙ s .pre .1 .1) (c .before .before .before .fill .ensures),
+  all-zero 32768 _ (refusal .end-call-refusal .last .1 .1 .1 .1 .0) (refusal .end-call-refusal .kept .1 .1 .1 .1 .0 ∙ entry-before-end-call-refusal refusal .pre .1 .1) (c .before .before .before .fill .ensures),
 )
 
 pub end-call-held-spec : {M : Type 1} → statement M

@@ -6,12 +6,15 @@ use Rattle.end_call.proofs.Spans.{marks-length, codes-length, nodes-ord
 use Rattle.end_call.proofs.release_all.Statement.{statement}
 use Rattle.end_call.proofs.release_all.Tie as tie
 
--- ---- states by name: `g-before-f` is the state behind g, as it is known behind f; the first one is `entry`
+-- ---- states by name: `g-before-f` is the state behind g, as it is known behind f; the first one is `entry`, and `known` is where it is known what the lent slices hold
+abbrev entry-before-known : tie.After-shared-slice-known3 → tie.Start
+entry-before-known c = c .before .before .before .before .before .before
+
 abbrev entry-before-save-arg : tie.After-save-arg → tie.Start
-entry-before-save-arg c = let c1 = c .before .before .before .before .before .before in c1 .before .before
+entry-before-save-arg c = entry-before-known (c .before .before)
 
 abbrev entry-before-save : tie.After-save → tie.Start
-entry-before-save c = let c1 = c .before .before .before .before .before .before in c1 .before .before .before
+entry-before-save c = entry-before-save-arg (c .before)
 
 abbrev release-until-before-then1 : tie.Then1 → tie.After-release-until
 release-until-before-then1 c = c .before .before .before .before .before

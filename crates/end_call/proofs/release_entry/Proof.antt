@@ -16,9 +16,12 @@ use Rattle.end_call.proofs.Lent.{found-live, found-dead, released, rele
 use Rattle.end_call.proofs.release_entry.Statement.{statement}
 use Rattle.end_call.proofs.release_entry.Tie as tie
 
--- ---- states by name: `g-before-f` is the state behind g, as it is known behind f; the first one is `entry`
+-- ---- states by name: `g-before-f` is the state behind g, as it is known behind f; the first one is `entry`, and `known` is where it is known what the slices and the entry hold
+abbrev entry-before-known : tie.After-struct-known2 → tie.Start
+entry-before-known c = c .before .before .before .before .before .before
+
 abbrev entry-before-allocation-at : tie.After-allocation-at → tie.Start
-entry-before-allocation-at c = let c1 = c .before .before .before .before .before .before in c1 .before
+entry-before-allocation-at c = entry-before-known (c .before)
 
 abbrev entry-before-parts-at : tie.After-parts-at → tie.Start
 entry-before-parts-at c = entry-before-allocation-at (c .before)
@@ -30,13 +33,13 @@ abbrev allocation-at-before-parts-at : tie.After-parts-at → tie.After-allocati
 allocation-at-before-parts-at c = c .before
 
 abbrev allocation-at-before-release-dead : tie.After-release-dead → tie.After-allocation-at
-allocation-at-before-release-dead c = allocation-at-before-parts-at (c .before .before .before .before .before .before)
+allocation-at-before-release-dead c = allocation-at-before-parts-at (parts-at-before-release-dead c)
 
 abbrev parts-at-before-release-live : tie.After-release-live → tie.After-parts-at
 parts-at-before-release-live c = c .before .before .before .before .before .before
 
 abbrev allocation-at-before-release-live : tie.After-release-live → tie.After-allocation-at
-allocation-at-before-release-live c = allocation-at-before-parts-at (c .before .before .before .before .before .before)
+allocation-at-before-release-live c = allocation-at-before-parts-at (parts-at-before-release-live c)
 
 abbrev else1-before-release-live : tie.After-release-live → tie.Else1
 else1-before-release-live c = c .before .before .before .before
@@ -62,7 +65,7 @@ cast-node : tie.Need-cast-node
 cast-node c = search needs
 
 allocation-at-requires : tie.Need-allocation-at-requires
-allocation-at-requires c κs = let s = c .before .before .before .before .before .before in record-in (records-of (s .pre .1 .0)) _ (was-made (s .pre .0) (provenanceOf (s .args .e)) (s .pre .1 .1) .allocation)
+allocation-at-requires c κs = let s = entry-before-known c in record-in (records-of (s .pre .1 .0)) _ (was-made (s .pre .0) (provenanceOf (s .args .e)) (s .pre .1 .1) .allocation)
 
 parts-at-requires : tie.Need-parts-at-requires
 parts-at-requires c κs = let t = entry-before-allocation-at c in let (m, (h, w)) = t .pre in (m, (records-of h, was-made m (provenanceOf (t .args .e)) w .allocation))

@@ -7,9 +7,12 @@ use Rattle.end_call.proofs.Spans.{spans-made, touched, codes-total}
 use Rattle.end_call.proofs.release_lent.Statement.{statement}
 use Rattle.end_call.proofs.release_lent.Tie as tie
 
--- ---- states by name: `g-before-f` is the state behind g, as it is known behind f; the first one is `entry`
+-- ---- states by name: `g-before-f` is the state behind g, as it is known behind f; the first one is `entry`, and `known` is where it is known what the lent slices hold
+abbrev entry-before-known : tie.After-shared-slice-known3 → tie.Start
+entry-before-known c = c .before .before .before .before .before .before
+
 abbrev entry-before-span-of : tie.After-span-of → tie.Start
-entry-before-span-of c = let c1 = c .before .before .before .before .before .before in c1 .before
+entry-before-span-of c = entry-before-known (c .before)
 
 abbrev entry-before-starts-at : tie.After-starts-at → tie.Start
 entry-before-starts-at c = entry-before-span-of (c .before)

@@ -6,15 +6,21 @@ use Rattle.state.proofs.Lengths.{of-memory, of-frames, empty-held}
 use Rattle.state.proofs.clear.Statement.{statement}
 use Rattle.state.proofs.clear.Tie as tie
 
--- ---- the places: the entry, and behind each of the two calls
+-- ---- the places: the entry, also where it is known what the buffers hold; and behind each of the two calls, the first one also where some buffers have come back
+abbrev entry-before-known : tie.After-slice-known6 → tie.Start
+entry-before-known c = c .before .before .before .before .before .before
+
 abbrev entry : tie.After-clear-memory-arg5 → tie.Start
-entry c = let given = c .before .before .before .before .before in given .before .before .before .before .before .before
+entry c = entry-before-known (c .before .before .before .before .before)
 
 abbrev lent : tie.Start → Buffers
 lent s = buffers (s .args .allocs .now) (s .args .parents .now) (s .args .protectors .now) (s .args .words .now) (s .args .codes .now)
 
+abbrev emptied-before-protectors : tie.After-protectors → tie.After-clear-memory
+emptied-before-protectors c = c .before .before .before .before .before
+
 abbrev emptied : tie.After-clear-arg → tie.After-clear-memory
-emptied c = let c1 = c .before .before .before .before .before .before in c1 .before .before .before .before .before
+emptied c = emptied-before-protectors (c .before .before .before .before .before .before)
 
 abbrev closed : tie.After-slice-known12 → tie.After-clear
 closed c = c .before .before

@@ -16,9 +16,12 @@ use Rattle.tables.proofs.insert_node_at.Tie as tie
 write-wide : (from : ℕ) (inside : List ℕ) (width outside : ℕ) → length (writeAt from inside (replicate width outside)) ≡ width
 write-wide from inside width outside = write-length from inside (replicate width outside) ∙ length-replicate width outside
 
--- states by name: the one at the entry and those behind a row, as they are known behind the next
+-- states by name: the one at the entry and those behind a row, as they are known behind the next; `known` is where it is known what the lent slices hold
+abbrev entry-before-known : tie.After-shared-slice-known → tie.Start
+entry-before-known c = c .before .before .before .before .before
+
 abbrev entry-before-one : tie.After-insert-one-in-used → tie.Start
-entry-before-one c = let asked = c .before .before in asked .before .before .before .before .before
+entry-before-one c = entry-before-known (c .before .before)
 
 abbrev one-before-row : tie.After-insert-row-in-used → tie.After-insert-one-in-used
 one-before-row c = c .before .before .before .before .before
@@ -30,7 +33,7 @@ abbrev entry : tie.After-insert-made-row-in-used → tie.Start
 entry c = entry-before-one (one-before-row (row-before-made c))
 
 insert-one-in-used-requires : tie.Need-insert-one-in-used-requires
-insert-one-in-used-requires c κs = let s = c .before .before .before .before .before .before in let (ok, at) = s .pre .0 .1 .1 in parents-moved _ ok (at .behind) (at .used)
+insert-one-in-used-requires c κs = let s = entry-before-known (c .before) in let (ok, at) = s .pre .0 .1 .1 in parents-moved _ ok (at .behind) (at .used)
 
 slice-aggregate-insert-row-in-used : tie.Need-slice-aggregate-insert-row-in-used
 slice-aggregate-insert-row-in-used c = search needs
