@@ -10,7 +10,7 @@ use lib.ListN.{length, getD, take, drop, set, replicate}
 use Rattle.definition.specs.Notation.{if_then_else_, _when_, _or_, any, mutateAt}
 use Rattle.definition.specs.Refusal.{neverMade}
 use Rattle.definition.specs.Memory as definition
-use Rattle.definition.specs.Memory.{Allocation, Memory, Provenance, refusedWith, wasMade}
+use Rattle.definition.specs.Memory.{Memory, Provenance, refusedWith, wasMade}
 use Rattle.definition.specs.Frame.{Frame, State, frameAt, entries, afterReleaseIn, releaseAllRefusal, afterReleaseAll, endCallRefusal, acceptEndCall, endCall}
 use Rattle.definition.specs.Frame.Frame.{Closed}
 use Rattle.definition.specs.Valid.{All, Valid}

@@ -1,7 +1,7 @@
 -- An allocation's parts of the five buffers, as they are lent on and come back: reading one gives the field, and what is written
 -- into one is the memory with that field changed.
 use Prim.Native.Nat.{ℕ, _+_, _≤_, _<_}
-use mathlib.Core.Path.{_≡_, refl, sym, ap, _∙_}
+use mathlib.Core.Path.{_≡_, refl, sym, _∙_}
 use mathlib.Core.List.{List}
 use native.Mathlib.Omega.{arith}
 use borrow.Rule.Slice.PartMut.{putMid}

@@ -8,7 +8,7 @@ use native.Mathlib.Decide.{decLt}
 use native.Mathlib.Omega.{arith}
 use borrow.Author.Tests.{eq-eqb, ne-eqb}
 use lib.ListN.{length, take, drop, getD, replicate, length-append}
-use lib.Seq.{take-suc, take-length, length-take-le, getD-append-add, getD-drop, drop-drop}
+use lib.Seq.{take-suc, take-length, getD-append-add, getD-drop, drop-drop}
 use Rattle.definition.specs.Memory.{Liveness, Allocation, Memory, noAllocation, allocationAt, kindNumber, size, nodeCount, isLive}
 use Rattle.definition.specs.Memory.Liveness.{Live, Dead}
 use Rattle.definition.specs.Valid.{Valid}

@@ -4,7 +4,7 @@ use mathlib.Core.Path.{_≡_, refl, sym, ap, _∙_}
 use mathlib.Core.List.{List, [], _∷_, _++_, append-assoc, append-nil}
 use native.Mathlib.Omega.{arith}
 use lib.ListN.{length, take, drop, getD, set, replicate, length-append, length-replicate}
-use lib.Seq.{take-append-seam, take-length, drop-append-add, split-at, length-take-le, paste}
+use lib.Seq.{take-append-seam, drop-append-add, split-at, length-take-le, paste}
 use Rattle.definition.specs.Notation.{mutateAt, sumOf}
 use Rattle.definition.specs.Memory.{Allocation, Memory, noAllocation, allocationAt, size, nodeCount, codeCount}
 use Rattle.definition.specs.Valid.{ValidAllocation, Valid}

@@ -6,7 +6,7 @@ use visit::Reach;
 ghost use mathlib.Core.Path.{_≡_};
 ghost use Prim.Native.Nat.{_+_, _≤_, _<_};
 ghost use lib.ListN.{length};
-ghost use Rattle.definition.specs.Tree.{accessVisit, visitRefusal, visited};
+ghost use Rattle.definition.specs.Tree.{accessVisit, visited};
 ghost use Rattle.permission.specs.Codes.{accessKind};
 ghost use Rattle.tree.specs.Table.{rowsOf, Holds, Some, Each};
 ghost use Rattle.tree.specs.Requests.{Visited, Checked};
