@@ -1,11 +1,9 @@
-// Kind 6 on a lent memory and a lent frame, with nothing asked of the caller. mem.rs: `end_call`.
-// specs/EndCall.antt is the promise of `end_call`.
+// Kind 6 on a lent memory and a frame's list by value, with nothing asked of the caller. mem.rs: `end_call`.
+// specs/EndCall.antt is the promise of `end_call_list`.
 use answer::Answer;
 use frames::Entries;
 use frames::Entry;
-use frames::load;
 ghost use mathlib.Core.Path.{_≡_};
-ghost use lib.ListN.{length};
 ghost use Rattle.frames.specs.List.{firstOf};
 ghost use Rattle.tables.specs.Held.{buffers};
 ghost use Rattle.library_frames.specs.EndCall.{isLentWithArea, EndedLent};
@@ -28,7 +26,8 @@ fn is_lent_with_area(
         & (area.len() == 32768)
 }
 
-// The entries are the first `count` of a list of `len` places, of which the first 64 are given.
+// The entries are the first `count` of a list of `len` places, of which the first 64 are given. For whatever is lent: 1, and nothing changes; or
+// the end call of the memory that the buffers hold, and the working area is zero.
 pub fn end_call_list(
     len: usize,
     list: [Entry; 64],
@@ -49,35 +48,4 @@ pub fn end_call_list(
     }
     let list = Entries { list, count };
     end_call::end_call_held(allocs, parents, protectors, codes, area, list)
-}
-
-// "The frame's protector list is lent as entries of allocation and node." For whatever is lent: 1, and nothing changes; or the end call of
-// the memory that the buffers hold, and the working area is zero.
-pub fn end_call(
-    entries: &[Entry],
-    count: usize,
-    allocs: &[u64],
-    parents: &[u16],
-    protectors: &mut [u8],
-    words: &[u32],
-    codes: &mut [u8],
-    area: &mut [u8],
-) -> Answer
-    ensures { λ r. ⌜ EndedLent (length (now (entries .entry))) count (firstOf count (now (entries .entry)))
-        (buffers (now (allocs .entry)) (now (parents .entry)) (now (protectors .entry)) (now (words .entry)) (now (codes .entry))) (now (area .entry))
-        r (buffers (now (allocs .entry)) (now (parents .entry)) (now (protectors .exit)) (now (words .entry)) (now (codes .exit))) (now (area .exit)) ⌝ }
-{
-    let len = entries.len();
-    let list = load(entries);
-    end_call_list(
-        len,
-        list,
-        count,
-        allocs,
-        parents,
-        protectors,
-        words,
-        codes,
-        area,
-    )
 }

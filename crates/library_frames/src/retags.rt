@@ -1,8 +1,7 @@
-// Kind 4 on a lent memory and a lent frame, with nothing asked of the caller. mem.rs: `retag_ptr`.
-// specs/Retag.antt is the promise of `retag`; specs/Settings.antt says what its settings are in the definition.
+// Kind 4 on a lent memory and so many places of a frame, with nothing asked of the caller. mem.rs: `retag_ptr`.
+// specs/Retag.antt is the promise of `retag_list`; specs/Settings.antt says what its settings are in the definition.
 use answer::Answer;
 use frames::Entry;
-use frames::put_if;
 use layout::Mask;
 use permission::Protected;
 use pointer::Provenance;
@@ -254,7 +253,8 @@ pub fn malformed(
     without_entry(Answer::Refused(1), count, len)
 }
 
-// All of a retag but the store into the frame's list, whatever stands there.
+// All of a retag but the store into the frame's list, whatever stands there. For whatever is lent: 1 or 2, and nothing changes; or the retag of
+// the memory that the buffers hold, and a protected node is to be put behind the `count` entries.
 pub fn retag_list(
     len: usize,
     count: usize,
@@ -291,40 +291,4 @@ pub fn retag_list(
     );
     let node = entered_node(answer, settings);
     with_entry(answer, node, count, len)
-}
-
-// "The frame's protector list is lent as entries of allocation and node": the first `count` of the places. For whatever is lent: 1 or 2, and nothing
-// changes; or the retag of the memory that the buffers hold, and a protected node is entered behind the entries.
-pub fn retag(
-    entries: &mut [Entry],
-    count: usize,
-    allocs: &mut [u64],
-    parents: &mut [u16],
-    protectors: &mut [u8],
-    words: &[u32],
-    codes: &mut [u8],
-    layout: &[u32],
-    p: ThinPointer,
-    settings: RetagSettings,
-) -> RetagAnswer
-    ensures { λ r. ⌜ Served settings (thinPointerOf p) (now (layout .entry))
-        (lent (now (entries .entry)) count (buffers (now (allocs .entry)) (now (parents .entry)) (now (protectors .entry)) (now (words .entry)) (now (codes .entry))))
-        r (now (entries .exit))
-        (buffers (now (allocs .exit)) (now (parents .exit)) (now (protectors .exit)) (now (words .entry)) (now (codes .exit))) ⌝ }
-{
-    let len = entries.len();
-    let made = retag_list(
-        len,
-        count,
-        allocs,
-        parents,
-        protectors,
-        words,
-        codes,
-        layout,
-        p,
-        settings,
-    );
-    put_if(entries, made.at, made.entry);
-    made.answer
 }

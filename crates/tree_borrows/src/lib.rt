@@ -32,7 +32,8 @@ mod numbers;
 mod requests;
 mod start;
 
-// ---- kinds 4 and 6. Each has two functions, as in `library_frames`: a lent slice of structs is for one that does nothing else.
+// ---- kinds 4 and 6. "The frame's protector list is lent as entries of allocation and node": the first `count` of the lent places. Each kind has
+// two functions: the export reads the lent slice of structs or stores into it, and the other does all else.
 // All of a retag but the store into the frame's list, whatever stands there.
 fn retag_reply(
     len: usize,
