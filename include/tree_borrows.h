@@ -122,12 +122,12 @@ enum {
 
 /* A pointer. `provenance` is 1 if it has one, else 0, and then allocation and node are 0 too; anything else is
    refused with 2. */
-typedef struct tree_borrows_place {
+typedef struct tree_borrows_pointer {
     uint64_t address;
     uint8_t provenance;
     uint32_t allocation;
     uint32_t node;
-} tree_borrows_place;
+} tree_borrows_pointer;
 
 /* A node that a call protects. */
 typedef struct tree_borrows_entry {
@@ -186,7 +186,7 @@ tree_borrows_reply tree_borrows_deallocate(
     uint64_t *allocs, size_t allocs_length, const uint16_t *parents, size_t parents_length,
     const uint8_t *protectors, size_t protectors_length, const uint32_t *words, size_t words_length,
     uint8_t *codes, size_t codes_length,
-    tree_borrows_place pointer, uint64_t kind, uint64_t size, uint64_t exponent);
+    tree_borrows_pointer pointer, uint64_t kind, uint64_t size, uint64_t exponent);
 
 /* Reads `length` bytes. Gives where their words stand in `words`; they are the caller's own, and stay there until
    something is stored or allocated. */
@@ -194,7 +194,7 @@ tree_borrows_reply tree_borrows_load(
     const uint64_t *allocs, size_t allocs_length, const uint16_t *parents, size_t parents_length,
     const uint8_t *protectors, size_t protectors_length, const uint32_t *words, size_t words_length,
     uint8_t *codes, size_t codes_length,
-    tree_borrows_place pointer, uint64_t length, uint64_t exponent);
+    tree_borrows_pointer pointer, uint64_t length, uint64_t exponent);
 
 /* Copies the words that a load's reply names to the front of `out`, which stays as it is where it is too short.
    Answers how many there are; 0 for any other reply. */
@@ -206,7 +206,7 @@ tree_borrows_reply tree_borrows_store(
     const uint64_t *allocs, size_t allocs_length, const uint16_t *parents, size_t parents_length,
     const uint8_t *protectors, size_t protectors_length, uint32_t *words, size_t words_length,
     uint8_t *codes, size_t codes_length,
-    tree_borrows_place pointer, const uint32_t *bytes, size_t bytes_length, uint64_t exponent);
+    tree_borrows_pointer pointer, const uint32_t *bytes, size_t bytes_length, uint64_t exponent);
 
 /* Makes a reference or box: a child of the pointer's node. Gives the new pointer, with the address of the old one;
    where no node is made, the old one (nothing, if it has no provenance). `layout` are the layout words of a run's
@@ -218,7 +218,7 @@ tree_borrows_retag_reply tree_borrows_retag(
     uint64_t *allocs, size_t allocs_length, uint16_t *parents, size_t parents_length,
     uint8_t *protectors, size_t protectors_length, const uint32_t *words, size_t words_length,
     uint8_t *codes, size_t codes_length,
-    const uint32_t *layout, size_t layout_length, tree_borrows_place pointer, tree_borrows_retag_settings settings);
+    const uint32_t *layout, size_t layout_length, tree_borrows_pointer pointer, tree_borrows_retag_settings settings);
 
 /* Opens a frame: 64 places that are zero, whatever they held. The count is 0. 1 for another number of places, and then
    nothing changes. */
@@ -237,13 +237,13 @@ tree_borrows_reply tree_borrows_end_call(
 tree_borrows_reply tree_borrows_dereferenceable(
     const uint64_t *allocs, size_t allocs_length, const uint16_t *parents, size_t parents_length,
     const uint8_t *protectors, size_t protectors_length, const uint32_t *words, size_t words_length,
-    const uint8_t *codes, size_t codes_length, tree_borrows_place pointer, uint64_t length);
+    const uint8_t *codes, size_t codes_length, tree_borrows_pointer pointer, uint64_t length);
 
 /* The same; a negative length asks for the bytes below the pointer. */
 tree_borrows_reply tree_borrows_signed_dereferenceable(
     const uint64_t *allocs, size_t allocs_length, const uint16_t *parents, size_t parents_length,
     const uint8_t *protectors, size_t protectors_length, const uint32_t *words, size_t words_length,
-    const uint8_t *codes, size_t codes_length, tree_borrows_place pointer, int64_t length);
+    const uint8_t *codes, size_t codes_length, tree_borrows_pointer pointer, int64_t length);
 
 /* Is no heap allocation live? 25 gives one that is. Changes nothing. */
 tree_borrows_reply tree_borrows_leak_check(

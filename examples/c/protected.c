@@ -23,8 +23,8 @@ static void expect(const char *what, tree_borrows_reply reply, int refusal) {
 }
 
 /* The pointer that a reply gives. */
-static tree_borrows_place place(tree_borrows_reply reply, uint64_t address) {
-    tree_borrows_place p = {address, 1, (uint32_t)reply.first, (uint32_t)reply.second};
+static tree_borrows_pointer given(tree_borrows_reply reply, uint64_t address) {
+    tree_borrows_pointer p = {address, 1, (uint32_t)reply.first, (uint32_t)reply.second};
     return p;
 }
 
@@ -34,14 +34,14 @@ static void request_by_request(void) {
     const tree_borrows_retag_settings argument = {TREE_BORROWS_MUTABLE_REFERENCE, 1, 1, 1};
     tree_borrows_reply reply;
     tree_borrows_retag_reply made;
-    tree_borrows_place root, x;
+    tree_borrows_pointer root, x;
     uint32_t loaded[1];
     size_t count;
 
     expect("new", tree_borrows_new(TREE_BORROWS_LENT(&memory)), TREE_BORROWS_ACCEPTED);
     reply = tree_borrows_allocate(TREE_BORROWS_LENT(&memory), TREE_BORROWS_HEAP, 1, 0, 0x10);
     expect("allocate", reply, TREE_BORROWS_ACCEPTED);
-    root = place(reply, 0x10);
+    root = given(reply, 0x10);
 
     made = tree_borrows_new_call(frame, TREE_BORROWS_ENTRIES);
     expect("new call", made.reply, TREE_BORROWS_ACCEPTED);
@@ -49,7 +49,7 @@ static void request_by_request(void) {
     made = tree_borrows_retag(frame, TREE_BORROWS_ENTRIES, count, TREE_BORROWS_LENT(&memory), layout_of_u8, 2, root,
                               argument);
     expect("retag", made.reply, TREE_BORROWS_ACCEPTED);
-    x = place(made.reply, 0x10);
+    x = given(made.reply, 0x10);
     count = made.count;
 
     expect("store through the argument", tree_borrows_store(TREE_BORROWS_LENT(&memory), x, one, 1, 0),

@@ -21,11 +21,11 @@ use Rattle.library_frames.proofs.Lent as retags
 use Rattle.run.specs.Lists.{Lent, ListRan}
 use Rattle.run.specs.declared.ListRun.{ListRun}
 use Rattle.tree_borrows.specs.declared.numbers.ListReply.{ListReply}
-use Rattle.tree_borrows.specs.declared.numbers.Place.{Place}
+use Rattle.tree_borrows.specs.declared.numbers.Pointer.{Pointer}
 use Rattle.tree_borrows.specs.declared.numbers.Reply.{Reply}
 use Rattle.tree_borrows.specs.declared.numbers.RetagMade.{RetagMade}
 use Rattle.tree_borrows.specs.declared.numbers.Settings.{Settings}
-use Rattle.tree_borrows.specs.Numbers.{pointerOf, badPlace, settingsOf, badFlags, replyOf, Replied, madeOf, RetagReplied, listReplyOf, ListReplied}
+use Rattle.tree_borrows.specs.Numbers.{pointerOf, badPointer, settingsOf, badFlags, replyOf, Replied, madeOf, RetagReplied, listReplyOf, ListReplied}
 
 -- an outcome of the called entry, in numbers
 pub in-numbers : {X : Type 0} {r : Reply} {a : Answer} {left : X} {outcome : Answer × X} → r ≡ replyOf a → _≡_ {A = Answer × X} (a, left) outcome → Replied r left outcome
@@ -41,26 +41,26 @@ or-false more e = ap (λ (t : Bool). t || more) e
 -- the fields: `all` is the test of all of them
 module _ (gives : Gives) (all : Bool) (request : Memory → definition.Answer × Memory) (b : Buffers) where
   -- one that only C has falls under 2
-  pub bad-place : all ≡ true → {a : Answer} {r : Reply} → r ≡ replyOf a → a ≡ malformedAnswer b → Replied r b (replied gives (served all request b))
-  bad-place e {a} q f = rw e (in-numbers (q ∙ ap replyOf f) (malformed-served gives request b))
+  pub bad-pointer : all ≡ true → {a : Answer} {r : Reply} → r ≡ replyOf a → a ≡ malformedAnswer b → Replied r b (replied gives (served all request b))
+  bad-pointer e {a} q f = rw e (in-numbers (q ∙ ap replyOf f) (malformed-served gives request b))
 
   -- none does
-  pub good-place : (bad : Bool) → all ≡ bad → {a : Answer} {r : Reply} {b′ : Buffers} → r ≡ replyOf a → Served gives bad request b a b′
+  pub good-pointer : (bad : Bool) → all ≡ bad → {a : Answer} {r : Reply} {b′ : Buffers} → r ≡ replyOf a → Served gives bad request b a b′
       → Replied r b′ (replied gives (served all request b))
-  good-place bad e q k = rw e (in-numbers q k)
+  good-pointer bad e q k = rw e (in-numbers q k)
 
 -- ---- a retag
-module _ (settings : Settings) (p : Place) (layout : List ℕ) (len count : ℕ) (b : Buffers) {made : RetagMade} (o : RetagOutcome) (is : made ≡ madeOf o)
+module _ (settings : Settings) (p : Pointer) (layout : List ℕ) (len count : ℕ) (b : Buffers) {made : RetagMade} (o : RetagOutcome) (is : made ≡ madeOf o)
     (places : List Entry) (whole : length places ≡ len) where
   abbrev Promised : RetagMade → Buffers → Type 0
   Promised made b′ = RetagReplied settings p layout (retag.lent places count b) (made .answer) (set places (made .at) (made .entry)) b′
 
-  pub bad-retag : badPlace p || badFlags settings ≡ true → o ≡ malformedOutcome len count b → Promised made b
+  pub bad-retag : badPointer p || badFlags settings ≡ true → o ≡ malformedOutcome len count b → Promised made b
   bad-retag e f =
       rw (is, f, e)
       (ap (λ (x : Answer × retag.Lent). (replyOf (x .0), x .1)) (retags.malformed-served len count b (retagOf (settingsOf settings) (pointerOf p) layout) places whole))
 
-  pub good-retag : badPlace p || badFlags settings ≡ false → {b′ : Buffers}
+  pub good-retag : badPointer p || badFlags settings ≡ false → {b′ : Buffers}
       → retag.Served (settingsOf settings) (pointerOf p) layout (retag.lent places count b) (o .answer) (set places (o .at) (o .entry)) b′ → Promised made b′
   good-retag e k = rw (is, e) (ap (λ (x : Answer × retag.Lent). (replyOf (x .0), x .1)) k)
 

@@ -17,7 +17,7 @@ use Rattle.pointer.specs.declared.Provenance.the-variants.{None, Of}
 use Rattle.answer.specs.Answer.{replied}
 use Rattle.answer.specs.Answer.Gives.{ThePointer}
 use Rattle.answer.specs.declared.Answer.{Answer}
-use Rattle.answer.specs.declared.Answer.the-variants.{Refused, Leak, Accepted, Pointer, Words}
+use Rattle.answer.specs.declared.Answer.the-variants as answer
 use Rattle.tables.specs.Encoding.{Buffers}
 use Rattle.frames.specs.declared.Entry.{Entry}
 use Rattle.library_frames.specs.Retag as retag
@@ -29,7 +29,7 @@ use Rattle.run.specs.Lists.{Lent, listRun}
 use Rattle.run.specs.declared.ListRun.{ListRun}
 use Rattle.run.specs.declared.ListRun.the-variants as ran
 use Rattle.tree_borrows.specs.declared.numbers.ListReply.{ListReply}
-use Rattle.tree_borrows.specs.declared.numbers.Place.{Place}
+use Rattle.tree_borrows.specs.declared.numbers.Pointer.{Pointer}
 use Rattle.tree_borrows.specs.declared.numbers.Reply.{Reply}
 use Rattle.tree_borrows.specs.declared.numbers.RetagReply.{RetagReply}
 use Rattle.tree_borrows.specs.declared.numbers.RetagMade.{RetagMade}
@@ -51,7 +51,7 @@ abbrev pub provenanceIf : Bool → definition.Provenance → Option definition.P
 provenanceIf true t = some t
 provenanceIf false t = none
 
-abbrev pub pointerOf : Place → definition.ThinPointer
+abbrev pub pointerOf : Pointer → definition.ThinPointer
 pointerOf p =
     record {
       address = p .address;
@@ -59,8 +59,8 @@ pointerOf p =
     }
 
 -- 2: its flag; and "Fields without a use are zero", as in a run: without provenance it names nothing (decision 3)
-unfoldable pub badPlace : Place → Bool
-badPlace p = badFlag (p .provenance) || (eqb (p .provenance) 0 && (nonzero (p .allocation) || nonzero (p .node)))
+unfoldable pub badPointer : Pointer → Bool
+badPointer p = badFlag (p .provenance) || (eqb (p .provenance) 0 && (nonzero (p .allocation) || nonzero (p .node)))
 
 -- ---- a retag's settings
 abbrev pub settingsOf : Settings → RetagSettings
@@ -82,11 +82,11 @@ pointerReply None = record { refusal = 0; gives = 0; first = 0; second = 0 }
 pointerReply (Of allocation node) = record { refusal = 0; gives = 1; first = allocation; second = node }
 
 abbrev pub replyOf : Answer → Reply
-replyOf (Refused n) = record { refusal = n; gives = 0; first = 0; second = 0 }
-replyOf (Leak allocation) = record { refusal = memoryLeak; gives = 3; first = allocation; second = 0 }
-replyOf Accepted = record { refusal = 0; gives = 0; first = 0; second = 0 }
-replyOf (Pointer p) = pointerReply p
-replyOf (Words start len) = record { refusal = 0; gives = 2; first = start; second = len }
+replyOf (answer.Refused n) = record { refusal = n; gives = 0; first = 0; second = 0 }
+replyOf (answer.Leak allocation) = record { refusal = memoryLeak; gives = 3; first = allocation; second = 0 }
+replyOf answer.Accepted = record { refusal = 0; gives = 0; first = 0; second = 0 }
+replyOf (answer.Pointer p) = pointerReply p
+replyOf (answer.Words start len) = record { refusal = 0; gives = 2; first = start; second = len }
 
 -- an entry's promise: it replies r and leaves `left`; the outcome is that of the entry which it calls
 abbrev pub Replied : {X : Type 0} → Reply → X → Answer × X → Type 0
@@ -108,11 +108,11 @@ abbrev pub madeOf : RetagOutcome → RetagMade
 madeOf o = record { answer = retagReplyOf (o .answer); at = o .at; entry = o .entry }
 
 -- its promise: it replies r, with the number of entries, and leaves these places and buffers
-abbrev pub RetagReplied : Settings → Place → List ℕ → retag.Lent → RetagReply → List Entry → Buffers → Type 0
+abbrev pub RetagReplied : Settings → Pointer → List ℕ → retag.Lent → RetagReply → List Entry → Buffers → Type 0
 RetagReplied settings p layout l r places b =
     Replied (r .reply) (retag.lent places (r .count) b)
     (replied ThePointer
-    (retag.served ((badPlace p || badFlags settings) || badFields (settingsOf settings) layout) (retagOf (settingsOf settings) (pointerOf p) layout) l))
+    (retag.served ((badPointer p || badFlags settings) || badFields (settingsOf settings) layout) (retagOf (settingsOf settings) (pointerOf p) layout) l))
 
 -- ---- a list's
 abbrev pub listReplyOf : ListRun → ListReply

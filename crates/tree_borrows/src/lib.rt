@@ -1,13 +1,13 @@
 // The library for C and Rust: its entries under names that a linker finds, with pointers and answers as numbers (specs/Numbers.antt).
 // Each promises the numbers of what the entry that it calls comes to, and none has a `requires`. A slice crosses as its address and its length,
 // a flag as a number, of which 0 and 1 are in its list (2).
-use crate::numbers::Place;
+use crate::numbers::Pointer;
 use crate::numbers::Reply;
 use crate::numbers::RetagMade;
 use crate::numbers::RetagReply;
 use crate::numbers::Settings;
 use crate::numbers::bad_flags;
-use crate::numbers::bad_place;
+use crate::numbers::bad_pointer;
 use crate::numbers::reply_of;
 use crate::numbers::retag_made;
 use crate::numbers::retag_settings;
@@ -44,7 +44,7 @@ fn retag_reply(
     words: &[u32],
     codes: &mut [u8],
     layout: &[u32],
-    p: Place,
+    p: Pointer,
     settings: Settings,
 ) -> RetagMade
     ensures { λ r. ⌜ ((places : List Entry) → length places ≡ len
@@ -53,7 +53,7 @@ fn retag_reply(
         (r .answer) (set places (r .at) (r .entry))
         (buffers (now (allocs .exit)) (now (parents .exit)) (now (protectors .exit)) (now (words .entry)) (now (codes .exit)))) ⌝ }
 {
-    if bad_place(p) | bad_flags(settings) {
+    if bad_pointer(p) | bad_flags(settings) {
         let outcome = malformed(len, count, allocs, parents, protectors, words, codes);
         return retag_made(outcome);
     }
@@ -84,7 +84,7 @@ pub extern "C" fn tree_borrows_retag(
     words: &[u32],
     codes: &mut [u8],
     layout: &[u32],
-    p: Place,
+    p: Pointer,
     settings: Settings,
 ) -> RetagReply
     ensures { λ r. ⌜ RetagReplied settings p (now (layout .entry))

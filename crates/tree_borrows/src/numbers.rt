@@ -11,11 +11,11 @@ ghost use mathlib.Core.Path.{_≡_};
 ghost use mathlib.Core.List.{List};
 ghost use Rattle.answer.specs.Answer.{answerOf};
 ghost use Rattle.pointer.specs.Pointer.{thinPointerOf};
-ghost use Rattle.tree_borrows.specs.Numbers.{flagOf, pointerOf, badPlace, settingsOf, badFlags, pointerReply, replyOf, loadedWords, madeOf, listReplyOf};
+ghost use Rattle.tree_borrows.specs.Numbers.{flagOf, pointerOf, badPointer, settingsOf, badFlags, pointerReply, replyOf, loadedWords, madeOf, listReplyOf};
 
 // A pointer. It has provenance (1) or not (0), and then it names no allocation or node: both are 0.
 #[repr(C)]
-pub struct Place {
+pub struct Pointer {
     pub address: u64,
     pub provenance: u8,
     pub allocation: u32,
@@ -67,8 +67,8 @@ pub struct RetagMade {
 }
 
 // 2, of a pointer.
-pub(crate) fn bad_place(p: Place) -> bool
-    ensures { λ r. ⌜ r ≡ badPlace p ⌝ }
+pub(crate) fn bad_pointer(p: Pointer) -> bool
+    ensures { λ r. ⌜ r ≡ badPointer p ⌝ }
 {
     if p.provenance > 1 {
         return true;
@@ -79,7 +79,7 @@ pub(crate) fn bad_place(p: Place) -> bool
     (p.allocation != 0) | (p.node != 0)
 }
 
-pub(crate) fn thin_pointer(p: Place) -> ThinPointer
+pub(crate) fn thin_pointer(p: Pointer) -> ThinPointer
     ensures { λ r. ⌜ thinPointerOf r ≡ pointerOf p ⌝ }
 {
     let addr = p.address;

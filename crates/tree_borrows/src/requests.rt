@@ -1,7 +1,7 @@
 // Kinds 0 to 3 and 7 to 9, on five lent buffers.
-use crate::numbers::Place;
+use crate::numbers::Pointer;
 use crate::numbers::Reply;
-use crate::numbers::bad_place;
+use crate::numbers::bad_pointer;
 use crate::numbers::loaded;
 use crate::numbers::reply_of;
 use crate::numbers::thin_pointer;
@@ -18,7 +18,7 @@ ghost use Rattle.tables.specs.Held.{buffers};
 ghost use Rattle.memory.specs.Access.{loadOf, storeOf};
 ghost use Rattle.library.specs.Fields.{badExponent, badAllocation, badStore};
 ghost use Rattle.library.specs.Entry.{served, givenBy, leakServed};
-ghost use Rattle.tree_borrows.specs.Numbers.{pointerOf, badPlace, replyOf, loadedWords, copiedTo, Replied};
+ghost use Rattle.tree_borrows.specs.Numbers.{pointerOf, badPointer, replyOf, loadedWords, copiedTo, Replied};
 
 // Kind 0.
 #[no_mangle]
@@ -60,17 +60,17 @@ pub extern "C" fn tree_borrows_deallocate(
     protectors: &[u8],
     words: &[u32],
     codes: &mut [u8],
-    p: Place,
+    p: Pointer,
     kind: u64,
     len: u64,
     exponent: u64,
 ) -> Reply
     ensures { λ r. ⌜ Replied r
         (buffers (now (allocs .exit)) (now (parents .entry)) (now (protectors .entry)) (now (words .entry)) (now (codes .exit)))
-        (replied Nothing (served (badPlace p || badAllocation kind exponent) (definition.deallocate (pointerOf p) (allocationKind kind) len exponent)
+        (replied Nothing (served (badPointer p || badAllocation kind exponent) (definition.deallocate (pointerOf p) (allocationKind kind) len exponent)
         (buffers (now (allocs .entry)) (now (parents .entry)) (now (protectors .entry)) (now (words .entry)) (now (codes .entry))))) ⌝ }
 {
-    if bad_place(p) {
+    if bad_pointer(p) {
         let answer = malformed(allocs, parents, protectors, words, codes);
         return reply_of(answer);
     }
@@ -97,7 +97,7 @@ pub extern "C" fn tree_borrows_load(
     protectors: &[u8],
     words: &[u32],
     codes: &mut [u8],
-    p: Place,
+    p: Pointer,
     len: u64,
     exponent: u64,
 ) -> Reply
@@ -105,10 +105,10 @@ pub extern "C" fn tree_borrows_load(
         (buffers (now (allocs .entry)) (now (parents .entry)) (now (protectors .entry)) (now (words .entry)) (now (codes .exit)))
         (replied (givenBy (loadOf (pointerOf p) len exponent)
         (buffers (now (allocs .entry)) (now (parents .entry)) (now (protectors .entry)) (now (words .entry)) (now (codes .entry))))
-        (served (badPlace p || badExponent exponent) (definition.performAccess (loadOf (pointerOf p) len exponent))
+        (served (badPointer p || badExponent exponent) (definition.performAccess (loadOf (pointerOf p) len exponent))
         (buffers (now (allocs .entry)) (now (parents .entry)) (now (protectors .entry)) (now (words .entry)) (now (codes .entry))))) ⌝ }
 {
-    if bad_place(p) {
+    if bad_pointer(p) {
         let answer = malformed(allocs, parents, protectors, words, codes);
         return reply_of(answer);
     }
@@ -149,16 +149,16 @@ pub extern "C" fn tree_borrows_store(
     protectors: &[u8],
     words: &mut [u32],
     codes: &mut [u8],
-    p: Place,
+    p: Pointer,
     bytes: &[u32],
     exponent: u64,
 ) -> Reply
     ensures { λ r. ⌜ Replied r
         (buffers (now (allocs .entry)) (now (parents .entry)) (now (protectors .entry)) (now (words .exit)) (now (codes .exit)))
-        (replied Nothing (served (badPlace p || badStore (now (bytes .entry)) exponent) (definition.performAccess (storeOf (pointerOf p) (now (bytes .entry)) exponent))
+        (replied Nothing (served (badPointer p || badStore (now (bytes .entry)) exponent) (definition.performAccess (storeOf (pointerOf p) (now (bytes .entry)) exponent))
         (buffers (now (allocs .entry)) (now (parents .entry)) (now (protectors .entry)) (now (words .entry)) (now (codes .entry))))) ⌝ }
 {
-    if bad_place(p) {
+    if bad_pointer(p) {
         let answer = malformed(allocs, parents, protectors, words, codes);
         return reply_of(answer);
     }
@@ -184,15 +184,15 @@ pub extern "C" fn tree_borrows_dereferenceable(
     protectors: &[u8],
     words: &[u32],
     codes: &[u8],
-    p: Place,
+    p: Pointer,
     len: u64,
 ) -> Reply
     ensures { λ r. ⌜ Replied r
         (buffers (now (allocs .entry)) (now (parents .entry)) (now (protectors .entry)) (now (words .entry)) (now (codes .entry)))
-        (replied Nothing (served (badPlace p) (definition.dereferenceable (pointerOf p) 0 len)
+        (replied Nothing (served (badPointer p) (definition.dereferenceable (pointerOf p) 0 len)
         (buffers (now (allocs .entry)) (now (parents .entry)) (now (protectors .entry)) (now (words .entry)) (now (codes .entry))))) ⌝ }
 {
-    if bad_place(p) {
+    if bad_pointer(p) {
         let answer = malformed(allocs, parents, protectors, words, codes);
         return reply_of(answer);
     }
@@ -217,15 +217,15 @@ pub extern "C" fn tree_borrows_signed_dereferenceable(
     protectors: &[u8],
     words: &[u32],
     codes: &[u8],
-    p: Place,
+    p: Pointer,
     len: i64,
 ) -> Reply
     ensures { λ r. ⌜ Replied r
         (buffers (now (allocs .entry)) (now (parents .entry)) (now (protectors .entry)) (now (words .entry)) (now (codes .entry)))
-        (replied Nothing (served (badPlace p) (definition.dereferenceable (pointerOf p) (back len) (ahead len))
+        (replied Nothing (served (badPointer p) (definition.dereferenceable (pointerOf p) (back len) (ahead len))
         (buffers (now (allocs .entry)) (now (parents .entry)) (now (protectors .entry)) (now (words .entry)) (now (codes .entry))))) ⌝ }
 {
-    if bad_place(p) {
+    if bad_pointer(p) {
         let answer = malformed(allocs, parents, protectors, words, codes);
         return reply_of(answer);
     }

@@ -1,6 +1,6 @@
 //! The five buffers that hold a memory, lent to the library for each request.
 
-use crate::raw::{self, Entry, ListReply, Place, Reply, RetagReply, RetagSettings};
+use crate::raw::{self, Entry, ListReply, Reply, RetagReply, RetagSettings};
 
 /// Five buffers, of whatever lengths and contents: what holds no memory is refused with 1, and then nothing
 /// changes. Every reply and everything that is left is determined and proved, so that these functions are
@@ -68,11 +68,11 @@ impl Buffers {
         lend!(self, tree_borrows_allocate(; kind, size, exponent, address))
     }
 
-    pub fn deallocate(&mut self, pointer: Place, kind: u64, size: u64, exponent: u64) -> Reply {
+    pub fn deallocate(&mut self, pointer: raw::Pointer, kind: u64, size: u64, exponent: u64) -> Reply {
         lend!(self, tree_borrows_deallocate(; pointer, kind, size, exponent))
     }
 
-    pub fn load(&mut self, pointer: Place, length: u64, exponent: u64) -> Reply {
+    pub fn load(&mut self, pointer: raw::Pointer, length: u64, exponent: u64) -> Reply {
         lend!(self, tree_borrows_load(; pointer, length, exponent))
     }
 
@@ -85,7 +85,7 @@ impl Buffers {
         }
     }
 
-    pub fn store(&mut self, pointer: Place, bytes: &[u32], exponent: u64) -> Reply {
+    pub fn store(&mut self, pointer: raw::Pointer, bytes: &[u32], exponent: u64) -> Reply {
         lend!(self, tree_borrows_store(; pointer, bytes.as_ptr(), bytes.len(), exponent))
     }
 
@@ -95,7 +95,7 @@ impl Buffers {
         entries: &mut [Entry],
         count: usize,
         layout: &[u32],
-        pointer: Place,
+        pointer: raw::Pointer,
         settings: RetagSettings,
     ) -> RetagReply {
         lend!(self, tree_borrows_retag(
@@ -109,11 +109,11 @@ impl Buffers {
         ))
     }
 
-    pub fn dereferenceable(&self, pointer: Place, length: u64) -> Reply {
+    pub fn dereferenceable(&self, pointer: raw::Pointer, length: u64) -> Reply {
         show!(self, tree_borrows_dereferenceable(pointer, length))
     }
 
-    pub fn signed_dereferenceable(&self, pointer: Place, length: i64) -> Reply {
+    pub fn signed_dereferenceable(&self, pointer: raw::Pointer, length: i64) -> Reply {
         show!(self, tree_borrows_signed_dereferenceable(pointer, length))
     }
 

@@ -78,20 +78,20 @@ impl Memory {
         size: u64,
         align: Align,
     ) -> Result<(), Refusal> {
-        let reply = self.buffers.deallocate(pointer.place(), kind as u64, size, align.exponent() as u64);
+        let reply = self.buffers.deallocate(pointer.raw(), kind as u64, size, align.exponent() as u64);
         check(reply).map(|_| ())
     }
 
     /// Gives the words of the bytes, where they lie.
     pub fn load(&mut self, pointer: Pointer, length: u64, align: Align) -> Result<&[u32], Refusal> {
-        let reply = check(self.buffers.load(pointer.place(), length, align.exponent() as u64))?;
+        let reply = check(self.buffers.load(pointer.raw(), length, align.exponent() as u64))?;
         let start = reply.first as usize;
         Ok(&self.buffers.words[start..start + reply.second as usize])
     }
 
     /// A word for each byte.
     pub fn store(&mut self, pointer: Pointer, bytes: &[u32], align: Align) -> Result<(), Refusal> {
-        check(self.buffers.store(pointer.place(), bytes, align.exponent() as u64)).map(|_| ())
+        check(self.buffers.store(pointer.raw(), bytes, align.exponent() as u64)).map(|_| ())
     }
 
     /// A new reference or box; any other pointer, and a mutable reference to what is not `Unpin`, comes back
@@ -129,7 +129,7 @@ impl Memory {
             RetagSettings { extra, function_entry, unpin: pointee.unpin as u8, freeze: pointee.freeze as u8 };
         let layout = pointee.layout();
         let RetagReply { reply, count } =
-            self.buffers.retag(&mut frame.entries, frame.count, &layout, pointer.place(), settings);
+            self.buffers.retag(&mut frame.entries, frame.count, &layout, pointer.raw(), settings);
         frame.count = count;
         Ok(Pointer::given(pointer.address, check(reply)?))
     }
@@ -150,12 +150,12 @@ impl Memory {
 
     /// Are so many bytes from the pointer on inside a live allocation?
     pub fn dereferenceable(&self, pointer: Pointer, length: u64) -> Result<(), Refusal> {
-        check(self.buffers.dereferenceable(pointer.place(), length)).map(|_| ())
+        check(self.buffers.dereferenceable(pointer.raw(), length)).map(|_| ())
     }
 
     /// The same; a negative length asks for the bytes below the pointer.
     pub fn signed_dereferenceable(&self, pointer: Pointer, length: i64) -> Result<(), Refusal> {
-        check(self.buffers.signed_dereferenceable(pointer.place(), length)).map(|_| ())
+        check(self.buffers.signed_dereferenceable(pointer.raw(), length)).map(|_| ())
     }
 
     /// A heap allocation that is live, if there is one.

@@ -1,6 +1,6 @@
 //! Pointers, alignments and bytes.
 
-use crate::raw::{self, Place, Reply};
+use crate::raw::{self, Reply};
 
 /// A node of an allocation, both by their numbers.
 #[derive(Clone, Copy, Debug, PartialEq, Eq, Hash)]
@@ -21,12 +21,13 @@ impl Pointer {
         Pointer { address: self.address.wrapping_add_signed(bytes), ..self }
     }
 
-    pub(crate) fn place(self) -> Place {
+    /// In the numbers that the library takes.
+    pub(crate) fn raw(self) -> raw::Pointer {
         let (provenance, named) = match self.provenance {
             Some(named) => (1, named),
             None => (0, Provenance { allocation: 0, node: 0 }),
         };
-        Place { address: self.address, provenance, allocation: named.allocation, node: named.node }
+        raw::Pointer { address: self.address, provenance, allocation: named.allocation, node: named.node }
     }
 
     /// What an accepted request gave at this address.

@@ -8,7 +8,7 @@
 /// A pointer. `provenance` is 0 or 1; with 0, allocation and node are 0 too. Anything else is refused with 2.
 #[repr(C)]
 #[derive(Clone, Copy, Debug, PartialEq, Eq)]
-pub struct Place {
+pub struct Pointer {
     pub address: u64,
     pub provenance: u8,
     pub allocation: u32,
@@ -106,16 +106,16 @@ lent! {
     fn tree_borrows_allocate(; mut const const const mut;
         kind: u64, size: u64, exponent: u64, address: u64) -> Reply;
     fn tree_borrows_deallocate(; mut const const const mut;
-        pointer: Place, kind: u64, size: u64, exponent: u64) -> Reply;
-    fn tree_borrows_load(; const const const const mut; pointer: Place, length: u64, exponent: u64) -> Reply;
+        pointer: Pointer, kind: u64, size: u64, exponent: u64) -> Reply;
+    fn tree_borrows_load(; const const const const mut; pointer: Pointer, length: u64, exponent: u64) -> Reply;
     fn tree_borrows_store(; const const const mut mut;
-        pointer: Place, bytes: *const u32, bytes_length: usize, exponent: u64) -> Reply;
+        pointer: Pointer, bytes: *const u32, bytes_length: usize, exponent: u64) -> Reply;
     fn tree_borrows_retag(entries: *mut Entry, entries_length: usize, count: usize; mut mut mut const mut;
-        layout: *const u32, layout_length: usize, pointer: Place, settings: RetagSettings) -> RetagReply;
+        layout: *const u32, layout_length: usize, pointer: Pointer, settings: RetagSettings) -> RetagReply;
     fn tree_borrows_end_call(entries: *const Entry, entries_length: usize, count: usize; const const mut const mut;
         area: *mut u8, area_length: usize) -> Reply;
-    fn tree_borrows_dereferenceable(; const const const const const; pointer: Place, length: u64) -> Reply;
-    fn tree_borrows_signed_dereferenceable(; const const const const const; pointer: Place, length: i64) -> Reply;
+    fn tree_borrows_dereferenceable(; const const const const const; pointer: Pointer, length: u64) -> Reply;
+    fn tree_borrows_signed_dereferenceable(; const const const const const; pointer: Pointer, length: i64) -> Reply;
     fn tree_borrows_leak_check(; const const const const const;) -> Reply;
     fn tree_borrows_run_list(; mut mut mut mut mut;
         frames: *mut u32, frames_length: usize, requests: *const u32, requests_length: usize,

@@ -3,7 +3,7 @@
 #![allow(clippy::single_range_in_vec_init, clippy::reversed_empty_ranges)]
 
 use std::mem::{offset_of, size_of};
-use tree_borrows::raw::{Entry, ListReply, Place, Reply, RetagReply, RetagSettings};
+use tree_borrows::raw::{self, Entry, ListReply, Reply, RetagReply, RetagSettings};
 use tree_borrows::{
     byte, Align, Buffers, FrameNumber, Given, List, Memory, MemoryKind, Metadata, Part, Pointee,
 };
@@ -270,14 +270,14 @@ fn whatever_the_buffers_hold_new_empties_them() {
 fn other_flags_are_malformed() {
     let mut buffers = Buffers::new();
     assert_eq!(buffers.allocate(0, 1, 0, 16).refusal, 0);
-    let root = Place { address: 16, provenance: 1, allocation: 0, node: 0 };
-    let load = |place| buffers.clone().load(place, 1, 0).refusal;
+    let root = raw::Pointer { address: 16, provenance: 1, allocation: 0, node: 0 };
+    let load = |pointer| buffers.clone().load(pointer, 1, 0).refusal;
     assert_eq!(load(root), 0);
-    assert_eq!(load(Place { provenance: 2, ..root }), 2);
-    assert_eq!(load(Place { provenance: 255, ..root }), 2);
-    assert_eq!(load(Place { provenance: 0, ..root }), 7);
-    assert_eq!(load(Place { provenance: 0, node: 1, ..root }), 2);
-    assert_eq!(load(Place { provenance: 0, allocation: 1, ..root }), 2);
+    assert_eq!(load(raw::Pointer { provenance: 2, ..root }), 2);
+    assert_eq!(load(raw::Pointer { provenance: 255, ..root }), 2);
+    assert_eq!(load(raw::Pointer { provenance: 0, ..root }), 7);
+    assert_eq!(load(raw::Pointer { provenance: 0, node: 1, ..root }), 2);
+    assert_eq!(load(raw::Pointer { provenance: 0, allocation: 1, ..root }), 2);
     let plain = RetagSettings { extra: 0, function_entry: 0, unpin: 1, freeze: 1 };
     let retag = |settings| {
         let mut entries = [Entry::default(); 64];
@@ -289,10 +289,13 @@ fn other_flags_are_malformed() {
     assert_eq!(retag(RetagSettings { freeze: 128, ..plain }), 2);
 }
 
-/// The sizes and offsets that C gives the same structs: examples/c/layout.c asserts these numbers.
+/// The sizes and offsets that C gives the same structs: tests/interface asserts these numbers of the header.
 #[test]
 fn structs_have_the_layout_of_c() {
-    assert_eq!((size_of::<Place>(), offset_of!(Place, allocation), offset_of!(Place, node)), (24, 12, 16));
+    assert_eq!(
+        (size_of::<raw::Pointer>(), offset_of!(raw::Pointer, allocation), offset_of!(raw::Pointer, node)),
+        (24, 12, 16)
+    );
     assert_eq!((size_of::<Entry>(), offset_of!(Entry, node)), (8, 4));
     assert_eq!((size_of::<RetagSettings>(), offset_of!(RetagSettings, freeze)), (8, 6));
     assert_eq!((size_of::<Reply>(), offset_of!(Reply, first), offset_of!(Reply, second)), (24, 8, 16));

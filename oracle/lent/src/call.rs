@@ -6,20 +6,20 @@ use runs::deep::{self, Style};
 use runs::random::Random;
 use runs::reference::{Answer, Reference, Third};
 use runs::words::{self, Flags, Ptr, Words};
-use tree_borrows::raw::{Place, Reply, RetagSettings};
+use tree_borrows::raw::{Pointer, Reply, RetagSettings};
 
 #[derive(Clone, Debug, PartialEq)]
 pub enum Call {
     New,
     Allocate { kind: u64, len: u64, exponent: u64, address: u64 },
-    Deallocate { at: Place, kind: u64, len: u64, exponent: u64 },
-    Load { at: Place, len: u64, exponent: u64 },
-    Store { at: Place, bytes: Vec<u32>, exponent: u64 },
-    Retag { at: Place, settings: RetagSettings, layout: Vec<u32> },
+    Deallocate { at: Pointer, kind: u64, len: u64, exponent: u64 },
+    Load { at: Pointer, len: u64, exponent: u64 },
+    Store { at: Pointer, bytes: Vec<u32>, exponent: u64 },
+    Retag { at: Pointer, settings: RetagSettings, layout: Vec<u32> },
     NewCall,
     EndCall,
-    Dereferenceable { at: Place, len: u64 },
-    SignedDereferenceable { at: Place, len: i64 },
+    Dereferenceable { at: Pointer, len: u64 },
+    SignedDereferenceable { at: Pointer, len: i64 },
     LeakCheck,
 }
 
@@ -59,7 +59,7 @@ fn large(r: &mut Random) -> u64 {
 impl Call {
     /// A request's words as a call. A new call is none.
     fn of(w: &[u32]) -> Option<Call> {
-        let at = Place {
+        let at = Pointer {
             address: (w[1] as u64) << 32 | w[2] as u64,
             provenance: (w[0] >> 8 & 1) as u8,
             allocation: w[0] >> 21 & 127,
@@ -106,7 +106,7 @@ impl Call {
             Call::Retag { layout, .. } if field < 2 => layout.resize(4097 + r.index(3), 0),
             _ => {}
         }
-        if let Some(at) = self.place() {
+        if let Some(at) = self.pointer() {
             match field {
                 1 => at.allocation = number as u32,
                 2 => at.node = (number >> 16) as u32,
@@ -117,13 +117,13 @@ impl Call {
 
     /// A flag is neither 0 nor 1, or a pointer without provenance names something.
     fn is_outside_lists(&self) -> bool {
-        let bad_place =
-            |at: &Place| at.provenance > 1 || at.provenance == 0 && (at.allocation, at.node) != (0, 0);
+        let bad_pointer =
+            |at: &Pointer| at.provenance > 1 || at.provenance == 0 && (at.allocation, at.node) != (0, 0);
         match self {
-            Call::Deallocate { at, .. } | Call::Load { at, .. } | Call::Store { at, .. } => bad_place(at),
-            Call::Dereferenceable { at, .. } | Call::SignedDereferenceable { at, .. } => bad_place(at),
+            Call::Deallocate { at, .. } | Call::Load { at, .. } | Call::Store { at, .. } => bad_pointer(at),
+            Call::Dereferenceable { at, .. } | Call::SignedDereferenceable { at, .. } => bad_pointer(at),
             Call::Retag { at, settings: s, .. } => {
-                bad_place(at) || [s.function_entry, s.unpin, s.freeze].iter().any(|flag| *flag > 1)
+                bad_pointer(at) || [s.function_entry, s.unpin, s.freeze].iter().any(|flag| *flag > 1)
             }
             Call::New | Call::Allocate { .. } | Call::NewCall | Call::EndCall | Call::LeakCheck => false,
         }
@@ -141,18 +141,18 @@ impl Call {
             *flag = other;
             return Some(name);
         }
-        let at = self.place()?;
+        let at = self.pointer()?;
         if r.one_in(2) {
             at.provenance = other;
             return Some("provenance neither 0 nor 1");
         }
         let name = r.range(1, 5) as u32;
         let (allocation, node) = r.pick(&[(name, 0), (0, name), (name, name), (u32::MAX, 0), (0, 1 << 31)]);
-        *at = Place { provenance: 0, allocation, node, ..*at };
+        *at = Pointer { provenance: 0, allocation, node, ..*at };
         Some("a name without provenance")
     }
 
-    fn place(&mut self) -> Option<&mut Place> {
+    fn pointer(&mut self) -> Option<&mut Pointer> {
         match self {
             Call::Deallocate { at, .. } | Call::Load { at, .. } | Call::Store { at, .. } => Some(at),
             Call::Dereferenceable { at, .. } | Call::SignedDereferenceable { at, .. } => Some(at),
@@ -280,7 +280,7 @@ impl Call {
     /// exponents from 31 on, kinds and extras from 7 on are all outside their lists, lengths from 2^32 - 1 on are above
     /// all sizes, and no allocation has a node 4,095.
     pub fn words(&self) -> Words {
-        let ptr = |at: &Place| {
+        let ptr = |at: &Pointer| {
             let named = (at.allocation as usize, at.node as usize);
             let named = if named.0 > 127 || named.1 > 4095 { (0, 4095) } else { named };
             Ptr { address: at.address, provenance: (at.provenance == 1).then_some(named) }

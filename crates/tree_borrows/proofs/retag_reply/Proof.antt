@@ -7,8 +7,8 @@ use borrow.Author.Needs.{needs}
 use Rattle.tree_borrows.proofs.retag_reply.Statement.{statement}
 use Rattle.tree_borrows.proofs.retag_reply.Tie as tie
 
-bad-place-requires : tie.Need-bad-place-requires
-bad-place-requires c κs = search needs
+bad-pointer-requires : tie.Need-bad-pointer-requires
+bad-pointer-requires c κs = search needs
 
 bad-flags-requires : tie.Need-bad-flags-requires
 bad-flags-requires c κs = search needs
@@ -38,7 +38,7 @@ returns c = λ places whole.
     let s = lent .before .before .before .before .before .before in
     bad-retag (s .args .settings) (s .args .p) (s .args .layout .now) (s .args .len) (s .args .count)
     (buffers (s .args .allocs .now) (s .args .parents .now) (s .args .protectors .now) (s .args .words .now) (s .args .codes .now)) _ (c .retag-made .ensures) places whole
-    (sym (ap₂ _||_ (test .before .before .bad-place .ensures) (test .before .bad-flags .ensures)) ∙ test .if1 .taken) (c .before .malformed .ensures)
+    (sym (ap₂ _||_ (test .before .before .bad-pointer .ensures) (test .before .bad-flags .ensures)) ∙ test .if1 .taken) (c .before .malformed .ensures)
 
 thin-pointer-requires : tie.Need-thin-pointer-requires
 thin-pointer-requires c κs = search needs
@@ -74,14 +74,14 @@ returns-2 c = λ places whole.
     let s = lent .before .before .before .before .before .before in
     good-retag (s .args .settings) (s .args .p) (s .args .layout .now) (s .args .len) (s .args .count)
     (buffers (s .args .allocs .now) (s .args .parents .now) (s .args .protectors .now) (s .args .words .now) (s .args .codes .now)) (at .retag-list .result) (c .retag-made2 .ensures) places whole
-    (sym (ap₂ _||_ (test .before .before .bad-place .ensures) (test .before .bad-flags .ensures)) ∙ test .if1 .left)
+    (sym (ap₂ _||_ (test .before .before .bad-pointer .ensures) (test .before .bad-flags .ensures)) ∙ test .if1 .left)
     (rw (← read .before .thin-pointer .ensures, ← read .retag-settings .ensures) (at .retag-list .ensures places whole))
 
 pub retag-reply-spec : {M : Type 1} → statement M
 retag-reply-spec =
     tie.close
     (tie.spec
-    bad-place-requires
+    bad-pointer-requires
     bad-flags-requires
     malformed-requires
     retag-made-requires

@@ -51,11 +51,11 @@ use Rattle.tree_borrows.specs.declared.numbers.RetagReply.{RetagReply}
 use Rattle.tree_borrows.proofs.numbers.RetagReply as X
 use Rattle.tree_borrows.proofs.numbers.RetagReply.Laws as X′
 use Rattle.tree_borrows.specs.declared.numbers.Settings.{Settings}
-use Rattle.tree_borrows.specs.declared.numbers.Place.{Place}
+use Rattle.tree_borrows.specs.declared.numbers.Pointer.{Pointer}
 use Rattle.tree_borrows.proofs.numbers.Settings as Settings-T
 use Rattle.tree_borrows.proofs.numbers.Settings.Laws as Settings-L
-use Rattle.tree_borrows.proofs.numbers.Place as Place-T
-use Rattle.tree_borrows.proofs.numbers.Place.Laws as Place-L
+use Rattle.tree_borrows.proofs.numbers.Pointer as Pointer-T
+use Rattle.tree_borrows.proofs.numbers.Pointer.Laws as Pointer-L
 use Rattle.frames.proofs.Rows.{mach}
 use Rattle.tree_borrows.proofs.retag_reply as work
 use Rattle.tree_borrows.proofs.retag_reply.Symbol as work-def
@@ -71,7 +71,7 @@ use Rattle.tree_borrows.proofs.tree_borrows_retag.Statement as stated
 use Rattle.tree_borrows.proofs.tree_borrows_retag.Code as code
 
 abbrev stayed : Stays (fn.ended .signature .params) (fn.ended .kept)
-stayed = (gave-slice (0 ∷ []) tt (plain (λ _. E.the-row)), (stay-none (λ _. usize) yes, (gave-slice (1 ∷ []) tt (plain (λ _. u64)), (gave-slice (2 ∷ []) tt (plain (λ _. u16)), (gave-slice (3 ∷ []) tt (plain (λ _. u8)), (stay-none-slice (4 ∷ []) tt (plain (λ _. u32)) yes, (gave-slice (5 ∷ []) tt (plain (λ _. u8)), (stay-none-slice (6 ∷ []) tt (plain (λ _. u32)) yes, (stay-none (λ _. Place-T.the-row) yes, (stay-none (λ _. Settings-T.the-row) yes, tt))))))))))
+stayed = (gave-slice (0 ∷ []) tt (plain (λ _. E.the-row)), (stay-none (λ _. usize) yes, (gave-slice (1 ∷ []) tt (plain (λ _. u64)), (gave-slice (2 ∷ []) tt (plain (λ _. u16)), (gave-slice (3 ∷ []) tt (plain (λ _. u8)), (stay-none-slice (4 ∷ []) tt (plain (λ _. u32)) yes, (gave-slice (5 ∷ []) tt (plain (λ _. u8)), (stay-none-slice (6 ∷ []) tt (plain (λ _. u32)) yes, (stay-none (λ _. Pointer-T.the-row) yes, (stay-none (λ _. Settings-T.the-row) yes, tt))))))))))
 
 module _ {M : Type 1} (𝓤 : URA M) (H : Heap 𝓤) (A : Atoms 𝓤) (mem : Memory → SProp 𝓤) (run : Routine → Fun 𝓤) where
   -- the contracts that the proof cites
@@ -82,10 +82,10 @@ module _ {M : Type 1} (𝓤 : URA M) (H : Heap 𝓤) (A : Atoms 𝓤) (mem : Mem
   Put = tripleOf 𝓤 H A put.signature (put.spec 𝓤 H A mem run)
 
 module _ {M : Type 1} (𝓤 : URA M) (H : Heap 𝓤) (A : Atoms 𝓤) (W : Given 𝓤 H A) (mem : Memory → SProp 𝓤) (run : Routine → Fun 𝓤) (κ₀ κ₁ κ₂ κ₃ κ₄ κ₅ κ₆ : Lft) (q₀ q₁ q₂ q₃ q₄ q₅ q₆ : Share)
-    (entries : RefT (List Entry)) (count : ℕ) (allocs : RefT (List ℕ)) (parents : RefT (List ℕ)) (protectors : RefT (List ℕ)) (words : RefT (List ℕ)) (codes : RefT (List ℕ)) (layout : RefT (List ℕ)) (pointer : Place) (settings : Settings)
-    (room-entries : Room E.the-row (length (entries .now))) (fits-count : count < 2 ^ 64) (room-allocs : Room u64 (length (allocs .now))) (room-parents : Room u16 (length (parents .now))) (room-protectors : Room u8 (length (protectors .now))) (room-words : Room u32 (length (words .now))) (room-codes : Room u8 (length (codes .now))) (room-layout : Room u32 (length (layout .now))) (is-pointer : Is Place-T.the-row pointer (LL.val Place-T.the-type Place-L.the-laws pointer ∷ [])) (is-settings : Is Settings-T.the-row settings (LL.val Settings-T.the-type Settings-L.the-laws settings ∷ [])) where
+    (entries : RefT (List Entry)) (count : ℕ) (allocs : RefT (List ℕ)) (parents : RefT (List ℕ)) (protectors : RefT (List ℕ)) (words : RefT (List ℕ)) (codes : RefT (List ℕ)) (layout : RefT (List ℕ)) (pointer : Pointer) (settings : Settings)
+    (room-entries : Room E.the-row (length (entries .now))) (fits-count : count < 2 ^ 64) (room-allocs : Room u64 (length (allocs .now))) (room-parents : Room u16 (length (parents .now))) (room-protectors : Room u8 (length (protectors .now))) (room-words : Room u32 (length (words .now))) (room-codes : Room u8 (length (codes .now))) (room-layout : Room u32 (length (layout .now))) (is-pointer : Is Pointer-T.the-row pointer (LL.val Pointer-T.the-type Pointer-L.the-laws pointer ∷ [])) (is-settings : Is Settings-T.the-row settings (LL.val Settings-T.the-type Settings-L.the-laws settings ∷ [])) where
   abbrev at : Vals fn.signature (κ₀, (κ₁, (κ₂, (κ₃, (κ₄, (κ₅, (κ₆, tt)))))))
-  at = (sliceVal (entries .ptr) (length (entries .now)) ∷ [], (vint w64 count ∷ [], (sliceVal (allocs .ptr) (length (allocs .now)) ∷ [], (sliceVal (parents .ptr) (length (parents .now)) ∷ [], (sliceVal (protectors .ptr) (length (protectors .now)) ∷ [], (sliceVal (words .ptr) (length (words .now)) ∷ [], (sliceVal (codes .ptr) (length (codes .now)) ∷ [], (sliceVal (layout .ptr) (length (layout .now)) ∷ [], (LL.val Place-T.the-type Place-L.the-laws pointer ∷ [], (LL.val Settings-T.the-type Settings-L.the-laws settings ∷ [], tt))))))))))
+  at = (sliceVal (entries .ptr) (length (entries .now)) ∷ [], (vint w64 count ∷ [], (sliceVal (allocs .ptr) (length (allocs .now)) ∷ [], (sliceVal (parents .ptr) (length (parents .now)) ∷ [], (sliceVal (protectors .ptr) (length (protectors .now)) ∷ [], (sliceVal (words .ptr) (length (words .now)) ∷ [], (sliceVal (codes .ptr) (length (codes .now)) ∷ [], (sliceVal (layout .ptr) (length (layout .now)) ∷ [], (LL.val Pointer-T.the-type Pointer-L.the-laws pointer ∷ [], (LL.val Settings-T.the-type Settings-L.the-laws settings ∷ [], tt))))))))))
 
   abbrev bound : walkOf 𝓤 H A fn.ended stayed (fn.clauses 𝓤 H A mem run) .Ghost
   bound = (((κ₀, (κ₁, (κ₂, (κ₃, (κ₄, (κ₅, (κ₆, tt))))))), (q₀, (q₁, (q₂, (q₃, (q₄, (q₅, (q₆, tt))))))), tt, (entries, (count, (allocs, (parents, (protectors, (words, (codes, (layout, (pointer, (settings, tt)))))))))), at), tt)
@@ -105,15 +105,15 @@ module _ {M : Type 1} (𝓤 : URA M) (H : Heap 𝓤) (A : Atoms 𝓤) (W : Given
   exits a z-entries z-allocs z-parents z-protectors z-codes is e l-entries l-allocs l-parents l-protectors l-codes =
       qed W (‵ (flft κ₀ q₀) ∷ ‵ (flft κ₁ q₁) ∷ ‵ (flft κ₂ q₂) ∷ ‵ (flft κ₃ q₃) ∷ ‵ (flft κ₄ q₄) ∷ ‵ (flft κ₅ q₅) ∷ ‵ (flft κ₆ q₆) ∷ ‵ (ShrSlice (named 4) κ₄ u32 .own words (sliceVal (words .ptr) (length (words .now)) ∷ [])) ∷ ‵ (ShrSlice (named 6) κ₆ u32 .own layout (sliceVal (layout .ptr) (length (layout .now)) ∷ [])) ∷ ‵ (finally E.the-row (entries .name) z-entries) ∷ ‵ (finally u64 (allocs .name) z-allocs) ∷ ‵ (finally u16 (parents .name) z-parents) ∷ ‵ (finally u8 (protectors .name) z-protectors) ∷ ‵ (finally u8 (codes .name) z-codes) ∷ []) ∵
       suffices ! _ (ends-at 𝓤 H A fn.ended stayed (fn.clauses 𝓤 H A mem run) W bound (LL.val X.the-type X′.the-laws a) a (z-entries, (tt, (z-allocs, (z-parents, (z-protectors, (tt, (z-codes, (tt, (tt, (tt, tt)))))))))) (l-entries, (tt, (l-allocs, (l-parents, (l-protectors, (tt, (l-codes, (tt, (tt, (tt, tt))))))))))) $ says ! e $
-      nothing ! $ move ! (7 ∷ 0 ∷ []) $ join ! $ move ! (6 ∷ 0 ∷ []) $ join ! $ move ! (5 ∷ 0 ∷ []) $ join ! $ move ! (4 ∷ 0 ∷ []) $ join ! $ move ! (3 ∷ 0 ∷ []) $ join ! $ move ! (2 ∷ 0 ∷ []) $ join ! $ move ! (1 ∷ 0 ∷ []) $ join ! $ frame ! $ nothing ! $ owned ! Settings-T.the-row (Is Settings-T.the-row) (LL.makes Settings-T.the-type Settings-L.the-plain 𝓤 H A) settings _ is-settings $ fjoin ! $ owned ! Place-T.the-row (Is Place-T.the-row) (LL.makes Place-T.the-type Place-L.the-plain 𝓤 H A) pointer _ is-pointer $ fjoin ! $ move ! (2 ∷ 0 ∷ []) $ fjoin ! $ move ! (6 ∷ 0 ∷ []) $ fjoin ! $ move ! (1 ∷ 0 ∷ []) $ fjoin ! $ move ! (4 ∷ 0 ∷ []) $ fjoin ! $ move ! (3 ∷ 0 ∷ []) $ fjoin ! $ move ! (2 ∷ 0 ∷ []) $ fjoin ! $ owned ! usize (Is usize) (uint-makes 𝓤 H A W w64) count _ (refl, fits-count) $ fjoin ! $ move ! (1 ∷ 0 ∷ []) $ fjoin ! $ frame ! $ owned ! X.the-row (Is X.the-row) (LL.makes X.the-type X′.the-plain 𝓤 H A) a _ is $ done !
+      nothing ! $ move ! (7 ∷ 0 ∷ []) $ join ! $ move ! (6 ∷ 0 ∷ []) $ join ! $ move ! (5 ∷ 0 ∷ []) $ join ! $ move ! (4 ∷ 0 ∷ []) $ join ! $ move ! (3 ∷ 0 ∷ []) $ join ! $ move ! (2 ∷ 0 ∷ []) $ join ! $ move ! (1 ∷ 0 ∷ []) $ join ! $ frame ! $ nothing ! $ owned ! Settings-T.the-row (Is Settings-T.the-row) (LL.makes Settings-T.the-type Settings-L.the-plain 𝓤 H A) settings _ is-settings $ fjoin ! $ owned ! Pointer-T.the-row (Is Pointer-T.the-row) (LL.makes Pointer-T.the-type Pointer-L.the-plain 𝓤 H A) pointer _ is-pointer $ fjoin ! $ move ! (2 ∷ 0 ∷ []) $ fjoin ! $ move ! (6 ∷ 0 ∷ []) $ fjoin ! $ move ! (1 ∷ 0 ∷ []) $ fjoin ! $ move ! (4 ∷ 0 ∷ []) $ fjoin ! $ move ! (3 ∷ 0 ∷ []) $ fjoin ! $ move ! (2 ∷ 0 ∷ []) $ fjoin ! $ owned ! usize (Is usize) (uint-makes 𝓤 H A W w64) count _ (refl, fits-count) $ fjoin ! $ move ! (1 ∷ 0 ∷ []) $ fjoin ! $ frame ! $ owned ! X.the-row (Is X.the-row) (LL.makes X.the-type X′.the-plain 𝓤 H A) a _ is $ done !
 
   -- what each callee is passed
   abbrev to-work : Work 𝓤 H A mem run .Ghost
-  to-work = (((κ₁, (κ₂, (κ₃, (κ₄, (κ₅, (κ₆, tt)))))), (q₁, (q₂, (q₃, (q₄, (q₅, (q₆, tt)))))), tt, (length (entries .now), (count, (allocs, (parents, (protectors, (words, (codes, (layout, (pointer, (settings, tt)))))))))), (vint w64 (length (entries .now)) ∷ [], (vint w64 count ∷ [], (sliceVal (allocs .ptr) (length (allocs .now)) ∷ [], (sliceVal (parents .ptr) (length (parents .now)) ∷ [], (sliceVal (protectors .ptr) (length (protectors .now)) ∷ [], (sliceVal (words .ptr) (length (words .now)) ∷ [], (sliceVal (codes .ptr) (length (codes .now)) ∷ [], (sliceVal (layout .ptr) (length (layout .now)) ∷ [], (LL.val Place-T.the-type Place-L.the-laws pointer ∷ [], (LL.val Settings-T.the-type Settings-L.the-laws settings ∷ [], tt))))))))))), tt)
+  to-work = (((κ₁, (κ₂, (κ₃, (κ₄, (κ₅, (κ₆, tt)))))), (q₁, (q₂, (q₃, (q₄, (q₅, (q₆, tt)))))), tt, (length (entries .now), (count, (allocs, (parents, (protectors, (words, (codes, (layout, (pointer, (settings, tt)))))))))), (vint w64 (length (entries .now)) ∷ [], (vint w64 count ∷ [], (sliceVal (allocs .ptr) (length (allocs .now)) ∷ [], (sliceVal (parents .ptr) (length (parents .now)) ∷ [], (sliceVal (protectors .ptr) (length (protectors .now)) ∷ [], (sliceVal (words .ptr) (length (words .now)) ∷ [], (sliceVal (codes .ptr) (length (codes .now)) ∷ [], (sliceVal (layout .ptr) (length (layout .now)) ∷ [], (LL.val Pointer-T.the-type Pointer-L.the-laws pointer ∷ [], (LL.val Settings-T.the-type Settings-L.the-laws settings ∷ [], tt))))))))))), tt)
 
   goes-work : ent 𝓤 (⋆ 𝓤 H A ((‵ (flft κ₁ q₁) ⊛ ‵ (flft κ₂ q₂) ⊛ ‵ (flft κ₃ q₃) ⊛ ‵ (flft κ₄ q₄) ⊛ ‵ (flft κ₅ q₅) ⊛ ‵ (flft κ₆ q₆) ⊛ ‵ ftrue) ∷ (‵ (MutSlice (named 1) κ₁ u64 .own allocs (sliceVal (allocs .ptr) (length (allocs .now)) ∷ [])) ⊛ ‵ (MutSlice (named 2) κ₂ u16 .own parents (sliceVal (parents .ptr) (length (parents .now)) ∷ [])) ⊛ ‵ (MutSlice (named 3) κ₃ u8 .own protectors (sliceVal (protectors .ptr) (length (protectors .now)) ∷ [])) ⊛ ‵ (ShrSlice (named 4) κ₄ u32 .own words (sliceVal (words .ptr) (length (words .now)) ∷ [])) ⊛ ‵ (MutSlice (named 5) κ₅ u8 .own codes (sliceVal (codes .ptr) (length (codes .now)) ∷ [])) ⊛ ‵ (ShrSlice (named 6) κ₆ u32 .own layout (sliceVal (layout .ptr) (length (layout .now)) ∷ [])) ⊛ ‵ ftrue) ∷ [])) (Work 𝓤 H A mem run .pre to-work)
   goes-work =
-      qed W ((‵ (flft κ₁ q₁) ⊛ ‵ (flft κ₂ q₂) ⊛ ‵ (flft κ₃ q₃) ⊛ ‵ (flft κ₄ q₄) ⊛ ‵ (flft κ₅ q₅) ⊛ ‵ (flft κ₆ q₆) ⊛ ‵ ftrue) ∷ (‵ (MutSlice (named 1) κ₁ u64 .own allocs (sliceVal (allocs .ptr) (length (allocs .now)) ∷ [])) ⊛ ‵ (MutSlice (named 2) κ₂ u16 .own parents (sliceVal (parents .ptr) (length (parents .now)) ∷ [])) ⊛ ‵ (MutSlice (named 3) κ₃ u8 .own protectors (sliceVal (protectors .ptr) (length (protectors .now)) ∷ [])) ⊛ ‵ (ShrSlice (named 4) κ₄ u32 .own words (sliceVal (words .ptr) (length (words .now)) ∷ [])) ⊛ ‵ (MutSlice (named 5) κ₅ u8 .own codes (sliceVal (codes .ptr) (length (codes .now)) ∷ [])) ⊛ ‵ (ShrSlice (named 6) κ₆ u32 .own layout (sliceVal (layout .ptr) (length (layout .now)) ∷ [])) ⊛ ‵ ftrue) ∷ []) ∵ move ! (1 ∷ 0 ∷ []) $ split ! $ move ! (1 ∷ []) $ split ! $ move ! (1 ∷ []) $ split ! $ move ! (1 ∷ []) $ split ! $ move ! (1 ∷ []) $ split ! $ move ! (1 ∷ []) $ split ! $ owned ! Settings-T.the-row (Is Settings-T.the-row) (LL.makes Settings-T.the-type Settings-L.the-plain 𝓤 H A) settings _ is-settings $ move ! (0 ∷ 2 ∷ []) $ fjoin ! $ owned ! Place-T.the-row (Is Place-T.the-row) (LL.makes Place-T.the-type Place-L.the-plain 𝓤 H A) pointer _ is-pointer $ fjoin ! $ move ! (1 ∷ 0 ∷ []) $ fjoin ! $ move ! (1 ∷ 0 ∷ []) $ fjoin ! $ move ! (1 ∷ 0 ∷ []) $ fjoin ! $ move ! (1 ∷ 0 ∷ []) $ fjoin ! $ move ! (1 ∷ 0 ∷ []) $ fjoin ! $ move ! (1 ∷ 0 ∷ []) $ fjoin ! $ owned ! usize (Is usize) (uint-makes 𝓤 H A W w64) count _ (refl, fits-count) $ fjoin ! $ owned ! usize (Is usize) (uint-makes 𝓤 H A W w64) (length (entries .now)) _ (refl, room-entries .0) $ fjoin ! $ move ! (1 ∷ 0 ∷ []) $ join ! $ frame ! $ done !
+      qed W ((‵ (flft κ₁ q₁) ⊛ ‵ (flft κ₂ q₂) ⊛ ‵ (flft κ₃ q₃) ⊛ ‵ (flft κ₄ q₄) ⊛ ‵ (flft κ₅ q₅) ⊛ ‵ (flft κ₆ q₆) ⊛ ‵ ftrue) ∷ (‵ (MutSlice (named 1) κ₁ u64 .own allocs (sliceVal (allocs .ptr) (length (allocs .now)) ∷ [])) ⊛ ‵ (MutSlice (named 2) κ₂ u16 .own parents (sliceVal (parents .ptr) (length (parents .now)) ∷ [])) ⊛ ‵ (MutSlice (named 3) κ₃ u8 .own protectors (sliceVal (protectors .ptr) (length (protectors .now)) ∷ [])) ⊛ ‵ (ShrSlice (named 4) κ₄ u32 .own words (sliceVal (words .ptr) (length (words .now)) ∷ [])) ⊛ ‵ (MutSlice (named 5) κ₅ u8 .own codes (sliceVal (codes .ptr) (length (codes .now)) ∷ [])) ⊛ ‵ (ShrSlice (named 6) κ₆ u32 .own layout (sliceVal (layout .ptr) (length (layout .now)) ∷ [])) ⊛ ‵ ftrue) ∷ []) ∵ move ! (1 ∷ 0 ∷ []) $ split ! $ move ! (1 ∷ []) $ split ! $ move ! (1 ∷ []) $ split ! $ move ! (1 ∷ []) $ split ! $ move ! (1 ∷ []) $ split ! $ move ! (1 ∷ []) $ split ! $ owned ! Settings-T.the-row (Is Settings-T.the-row) (LL.makes Settings-T.the-type Settings-L.the-plain 𝓤 H A) settings _ is-settings $ move ! (0 ∷ 2 ∷ []) $ fjoin ! $ owned ! Pointer-T.the-row (Is Pointer-T.the-row) (LL.makes Pointer-T.the-type Pointer-L.the-plain 𝓤 H A) pointer _ is-pointer $ fjoin ! $ move ! (1 ∷ 0 ∷ []) $ fjoin ! $ move ! (1 ∷ 0 ∷ []) $ fjoin ! $ move ! (1 ∷ 0 ∷ []) $ fjoin ! $ move ! (1 ∷ 0 ∷ []) $ fjoin ! $ move ! (1 ∷ 0 ∷ []) $ fjoin ! $ move ! (1 ∷ 0 ∷ []) $ fjoin ! $ owned ! usize (Is usize) (uint-makes 𝓤 H A W w64) count _ (refl, fits-count) $ fjoin ! $ owned ! usize (Is usize) (uint-makes 𝓤 H A W w64) (length (entries .now)) _ (refl, room-entries .0) $ fjoin ! $ move ! (1 ∷ 0 ∷ []) $ join ! $ frame ! $ done !
 
   abbrev Zs : Type 0
   Zs = Lasts work.ended (κ₁, (κ₂, (κ₃, (κ₄, (κ₅, (κ₆, tt)))))) (length (entries .now), (count, (allocs, (parents, (protectors, (words, (codes, (layout, (pointer, (settings, tt))))))))))
@@ -142,11 +142,11 @@ module _ {M : Type 1} (𝓤 : URA M) (H : Heap 𝓤) (A : Atoms 𝓤) (W : Given
     answer-is is = let fields = LL.owed R.the-type R′.the-laws r _ is in fields .0
 
   module _ (C : Calls 𝓤 H) (Λ : Loops 𝓤 H) (fm : FmC 𝓤 H (W .laws) C) (known-work : Triple 𝓤 (C #work) (Work 𝓤 H A mem run)) (known-put : Triple 𝓤 (C #put) (Put 𝓤 H A mem run)) where
-    walk : ent 𝓤 (onEntry 𝓤 H A fn.signature (κ₀, (κ₁, (κ₂, (κ₃, (κ₄, (κ₅, (κ₆, tt))))))) (q₀, (q₁, (q₂, (q₃, (q₄, (q₅, (q₆, tt))))))) (entries, (count, (allocs, (parents, (protectors, (words, (codes, (layout, (pointer, (settings, tt)))))))))) at) (WpFn 𝓤 H C Λ code.function (sliceVal (entries .ptr) (length (entries .now)) ∷ vint w64 count ∷ sliceVal (allocs .ptr) (length (allocs .now)) ∷ sliceVal (parents .ptr) (length (parents .now)) ∷ sliceVal (protectors .ptr) (length (protectors .now)) ∷ sliceVal (words .ptr) (length (words .now)) ∷ sliceVal (codes .ptr) (length (codes .now)) ∷ sliceVal (layout .ptr) (length (layout .now)) ∷ LL.val Place-T.the-type Place-L.the-laws pointer ∷ LL.val Settings-T.the-type Settings-L.the-laws settings ∷ []) Post)
+    walk : ent 𝓤 (onEntry 𝓤 H A fn.signature (κ₀, (κ₁, (κ₂, (κ₃, (κ₄, (κ₅, (κ₆, tt))))))) (q₀, (q₁, (q₂, (q₃, (q₄, (q₅, (q₆, tt))))))) (entries, (count, (allocs, (parents, (protectors, (words, (codes, (layout, (pointer, (settings, tt)))))))))) at) (WpFn 𝓤 H C Λ code.function (sliceVal (entries .ptr) (length (entries .now)) ∷ vint w64 count ∷ sliceVal (allocs .ptr) (length (allocs .now)) ∷ sliceVal (parents .ptr) (length (parents .now)) ∷ sliceVal (protectors .ptr) (length (protectors .now)) ∷ sliceVal (words .ptr) (length (words .now)) ∷ sliceVal (codes .ptr) (length (codes .now)) ∷ sliceVal (layout .ptr) (length (layout .now)) ∷ LL.val Pointer-T.the-type Pointer-L.the-laws pointer ∷ LL.val Settings-T.the-type Settings-L.the-laws settings ∷ []) Post)
     walk =
-        qed W ((‵ (flft κ₀ q₀) ⊛ ‵ (flft κ₁ q₁) ⊛ ‵ (flft κ₂ q₂) ⊛ ‵ (flft κ₃ q₃) ⊛ ‵ (flft κ₄ q₄) ⊛ ‵ (flft κ₅ q₅) ⊛ ‵ (flft κ₆ q₆) ⊛ ‵ ftrue) ∷ ‵ (owns (MutSlice (named 0) κ₀ E.the-row ∷ usize ∷ MutSlice (named 1) κ₁ u64 ∷ MutSlice (named 2) κ₂ u16 ∷ MutSlice (named 3) κ₃ u8 ∷ ShrSlice (named 4) κ₄ u32 ∷ MutSlice (named 5) κ₅ u8 ∷ ShrSlice (named 6) κ₆ u32 ∷ Place-T.the-row ∷ Settings-T.the-row ∷ []) (entries, (count, (allocs, (parents, (protectors, (words, (codes, (layout, (pointer, (settings, tt)))))))))) at) ∷ []) ∵ enter ! C Λ code.function (sliceVal (entries .ptr) (length (entries .now)) ∷ vint w64 count ∷ sliceVal (allocs .ptr) (length (allocs .now)) ∷ sliceVal (parents .ptr) (length (parents .now)) ∷ sliceVal (protectors .ptr) (length (protectors .now)) ∷ sliceVal (words .ptr) (length (words .now)) ∷ sliceVal (codes .ptr) (length (codes .now)) ∷ sliceVal (layout .ptr) (length (layout .now)) ∷ LL.val Place-T.the-type Place-L.the-laws pointer ∷ LL.val Settings-T.the-type Settings-L.the-laws settings ∷ []) _ $
+        qed W ((‵ (flft κ₀ q₀) ⊛ ‵ (flft κ₁ q₁) ⊛ ‵ (flft κ₂ q₂) ⊛ ‵ (flft κ₃ q₃) ⊛ ‵ (flft κ₄ q₄) ⊛ ‵ (flft κ₅ q₅) ⊛ ‵ (flft κ₆ q₆) ⊛ ‵ ftrue) ∷ ‵ (owns (MutSlice (named 0) κ₀ E.the-row ∷ usize ∷ MutSlice (named 1) κ₁ u64 ∷ MutSlice (named 2) κ₂ u16 ∷ MutSlice (named 3) κ₃ u8 ∷ ShrSlice (named 4) κ₄ u32 ∷ MutSlice (named 5) κ₅ u8 ∷ ShrSlice (named 6) κ₆ u32 ∷ Pointer-T.the-row ∷ Settings-T.the-row ∷ []) (entries, (count, (allocs, (parents, (protectors, (words, (codes, (layout, (pointer, (settings, tt)))))))))) at) ∷ []) ∵ enter ! C Λ code.function (sliceVal (entries .ptr) (length (entries .now)) ∷ vint w64 count ∷ sliceVal (allocs .ptr) (length (allocs .now)) ∷ sliceVal (parents .ptr) (length (parents .now)) ∷ sliceVal (protectors .ptr) (length (protectors .now)) ∷ sliceVal (words .ptr) (length (words .now)) ∷ sliceVal (codes .ptr) (length (codes .now)) ∷ sliceVal (layout .ptr) (length (layout .now)) ∷ LL.val Pointer-T.the-type Pointer-L.the-laws pointer ∷ LL.val Settings-T.the-type Settings-L.the-laws settings ∷ []) _ $
         alloc1 ! (λ l₀. alloc1 ! (λ l₁. alloc1 ! (λ l₂. alloc1 ! (λ l₃. alloc1 ! (λ l₄. alloc1 ! (λ l₅. alloc1 ! (λ l₆. alloc1 ! (λ l₇. alloc1 ! (λ l₈. alloc1 ! (λ l₉. alloc1 ! (λ l₁₀. alloc1 ! (λ l₁₁. alloc1 ! (λ l₁₂. alloc1 ! (λ l₁₃. alloc1 ! (λ l₁₄. alloc1 ! (λ l₁₅. alloc1 ! (λ l₁₆. alloc1 ! (λ l₁₇. alloc1 ! (λ l₁₈. alloc1 ! (λ l₁₉. alloc1 ! (λ l₂₀. alloc1 ! (λ l₂₁. alloc1 ! (λ l₂₂. alloc1 ! (λ l₂₃. alloc0 ! $ params1 ! $
-        pass1 ! (init ! 44 refl (tt, (tt, (record { fits = room-entries .0 }, tt)))) $ pass1 ! (init ! 42 refl (tt, record { fits = fits-count })) $ pass1 ! (init ! 40 refl (tt, (tt, (record { fits = room-allocs .0 }, tt)))) $ pass1 ! (init ! 38 refl (tt, (tt, (record { fits = room-parents .0 }, tt)))) $ pass1 ! (init ! 36 refl (tt, (tt, (record { fits = room-protectors .0 }, tt)))) $ pass1 ! (init ! 34 refl (tt, (tt, (record { fits = room-words .0 }, tt)))) $ pass1 ! (init ! 32 refl (tt, (tt, (record { fits = room-codes .0 }, tt)))) $ pass1 ! (init ! 30 refl (tt, (tt, (record { fits = room-layout .0 }, tt)))) $ pass1 ! (init ! 28 refl (LL.lawful Place-T.the-type Place-L.the-laws 𝓤 H A W .typed pointer _ is-pointer .0)) $ pass1 ! (init ! 26 refl (LL.lawful Settings-T.the-type Settings-L.the-laws 𝓤 H A W .typed settings _ is-settings .0)) $ pass0 ! $
+        pass1 ! (init ! 44 refl (tt, (tt, (record { fits = room-entries .0 }, tt)))) $ pass1 ! (init ! 42 refl (tt, record { fits = fits-count })) $ pass1 ! (init ! 40 refl (tt, (tt, (record { fits = room-allocs .0 }, tt)))) $ pass1 ! (init ! 38 refl (tt, (tt, (record { fits = room-parents .0 }, tt)))) $ pass1 ! (init ! 36 refl (tt, (tt, (record { fits = room-protectors .0 }, tt)))) $ pass1 ! (init ! 34 refl (tt, (tt, (record { fits = room-words .0 }, tt)))) $ pass1 ! (init ! 32 refl (tt, (tt, (record { fits = room-codes .0 }, tt)))) $ pass1 ! (init ! 30 refl (tt, (tt, (record { fits = room-layout .0 }, tt)))) $ pass1 ! (init ! 28 refl (LL.lawful Pointer-T.the-type Pointer-L.the-laws 𝓤 H A W .typed pointer _ is-pointer .0)) $ pass1 ! (init ! 26 refl (LL.lawful Settings-T.the-type Settings-L.the-laws 𝓤 H A W .typed settings _ is-settings .0)) $ pass0 ! $
         assigns ! (of-opd ! (load ! (from ! (fld ! refl (stop !))) (look-in ! 44 (sub ! 1 refl (whole !))))) (from ! (stop !)) (init ! 24 refl (tt, record { fits = room-entries .0 })) $
         assigns ! (addr ! (from ! (fld ! refl (hop ! (look-in ! 40 (sub ! 0 refl (whole !))) (stop !))))) (from ! (stop !)) (init ! 20 refl (tt, tt)) $
         assigns ! (agg ! (and-then ! (load ! (from ! (stop !)) (look ! 20 refl)) (and-then ! (load ! (from ! (fld ! refl (stop !))) (look-in ! 40 (sub ! 1 refl (whole !)))) (no-more !)))) (from ! (stop !)) (init ! 18 refl (tt, (tt, (record { fits = room-allocs .0 }, tt)))) $
@@ -186,15 +186,15 @@ module _ {M : Type 1} (𝓤 : URA M) (H : Heap 𝓤) (A : Atoms 𝓤) (W : Given
     (known-work : Triple 𝓤 (𝓣 .C #work) (Work 𝓤 H A mem run)) (known-put : Triple 𝓤 (𝓣 .C #put) (Put 𝓤 H A mem run)) where
   walks : Walks 𝓤 H A fn.ended stayed (WpFn 𝓤 H (𝓣 .C) (𝓣 .Λ) code.function) (fn.clauses 𝓤 H A mem run)
   walks = walked 𝓤 H A fn.ended stayed (fn.clauses 𝓤 H A mem run) (WpFn 𝓤 H (𝓣 .C) (𝓣 .Λ) code.function)
-      (λ κs. (slice-vals, (uint-vals w64, (slice-vals, (slice-vals, (slice-vals, (slice-vals, (slice-vals, (slice-vals, (LL.vals Place-T.the-type Place-L.the-laws, (LL.vals Settings-T.the-type Settings-L.the-laws, tt)))))))))))
-      (λ κs. (mut-slice-tells (named 0) (κs .0) E.the-row, (uint-tells w64, (mut-slice-tells (named 1) (κs .1 .0) u64, (mut-slice-tells (named 2) (κs .1 .1 .0) u16, (mut-slice-tells (named 3) (κs .1 .1 .1 .0) u8, (shr-slice-tells (named 4) (κs .1 .1 .1 .1 .0) u32, (mut-slice-tells (named 5) (κs .1 .1 .1 .1 .1 .0) u8, (shr-slice-tells (named 6) (κs .1 .1 .1 .1 .1 .1 .0) u32, (LL.tells Place-T.the-type Place-L.the-laws, (LL.tells Settings-T.the-type Settings-L.the-laws, tt)))))))))))
+      (λ κs. (slice-vals, (uint-vals w64, (slice-vals, (slice-vals, (slice-vals, (slice-vals, (slice-vals, (slice-vals, (LL.vals Pointer-T.the-type Pointer-L.the-laws, (LL.vals Settings-T.the-type Settings-L.the-laws, tt)))))))))))
+      (λ κs. (mut-slice-tells (named 0) (κs .0) E.the-row, (uint-tells w64, (mut-slice-tells (named 1) (κs .1 .0) u64, (mut-slice-tells (named 2) (κs .1 .1 .0) u16, (mut-slice-tells (named 3) (κs .1 .1 .1 .0) u8, (shr-slice-tells (named 4) (κs .1 .1 .1 .1 .0) u32, (mut-slice-tells (named 5) (κs .1 .1 .1 .1 .1 .0) u8, (shr-slice-tells (named 6) (κs .1 .1 .1 .1 .1 .1 .0) u32, (LL.tells Pointer-T.the-type Pointer-L.the-laws, (LL.tells Settings-T.the-type Settings-L.the-laws, tt)))))))))))
       (λ κs qs bounds a g are. via 𝓤 _ (fst∗ 𝓤 _ (emp 𝓤))
       (walk 𝓤 H A W mem run (κs .0) (κs .1 .0) (κs .1 .1 .0) (κs .1 .1 .1 .0) (κs .1 .1 .1 .1 .0) (κs .1 .1 .1 .1 .1 .0) (κs .1 .1 .1 .1 .1 .1 .0) (qs .0) (qs .1 .0) (qs .1 .1 .0) (qs .1 .1 .1 .0) (qs .1 .1 .1 .1 .0) (qs .1 .1 .1 .1 .1 .0) (qs .1 .1 .1 .1 .1 .1 .0) (a .0) (a .1 .0) (a .1 .1 .0) (a .1 .1 .1 .0) (a .1 .1 .1 .1 .0) (a .1 .1 .1 .1 .1 .0) (a .1 .1 .1 .1 .1 .1 .0) (a .1 .1 .1 .1 .1 .1 .1 .0) (a .1 .1 .1 .1 .1 .1 .1 .1 .0) (a .1 .1 .1 .1 .1 .1 .1 .1 .1 .0)
       (are .0 .0 .1) (are .1 .0 .1) (are .1 .1 .0 .0 .1) (are .1 .1 .1 .0 .0 .1) (are .1 .1 .1 .1 .0 .0 .1) (are .1 .1 .1 .1 .1 .0 .0 .1) (are .1 .1 .1 .1 .1 .1 .0 .0 .1) (are .1 .1 .1 .1 .1 .1 .1 .0 .0 .1) (are .1 .1 .1 .1 .1 .1 .1 .1 .0) (are .1 .1 .1 .1 .1 .1 .1 .1 .1 .0) (𝓣 .C) (𝓣 .Λ) (fmOf 𝓤 H (W .laws) 𝓣) known-work known-put))
 
   meets : Meets 𝓤 H A fn.signature (WpFn 𝓤 H (𝓣 .C) (𝓣 .Λ) code.function) (fn.spec 𝓤 H A mem run)
   meets = walk-meets 𝓤 H A fn.ended stayed W
-      (goes-gave-slice 𝓤 H A W 7 0 tt (plain (λ _. E.the-row)), (goes-none 𝓤 H A W 7 (λ _. usize) yes (λ κs x f. refl), (goes-gave-slice 𝓤 H A W 7 1 tt (plain (λ _. u64)), (goes-gave-slice 𝓤 H A W 7 2 tt (plain (λ _. u16)), (goes-gave-slice 𝓤 H A W 7 3 tt (plain (λ _. u8)), (goes-none-slice 𝓤 H A W 7 (4 ∷ []) tt (plain (λ _. u32)) yes, (goes-gave-slice 𝓤 H A W 7 5 tt (plain (λ _. u8)), (goes-none-slice 𝓤 H A W 7 (6 ∷ []) tt (plain (λ _. u32)) yes, (goes-none 𝓤 H A W 7 (λ _. Place-T.the-row) yes (λ κs x f. refl), (goes-none 𝓤 H A W 7 (λ _. Settings-T.the-row) yes (λ κs x f. refl), tt))))))))))
+      (goes-gave-slice 𝓤 H A W 7 0 tt (plain (λ _. E.the-row)), (goes-none 𝓤 H A W 7 (λ _. usize) yes (λ κs x f. refl), (goes-gave-slice 𝓤 H A W 7 1 tt (plain (λ _. u64)), (goes-gave-slice 𝓤 H A W 7 2 tt (plain (λ _. u16)), (goes-gave-slice 𝓤 H A W 7 3 tt (plain (λ _. u8)), (goes-none-slice 𝓤 H A W 7 (4 ∷ []) tt (plain (λ _. u32)) yes, (goes-gave-slice 𝓤 H A W 7 5 tt (plain (λ _. u8)), (goes-none-slice 𝓤 H A W 7 (6 ∷ []) tt (plain (λ _. u32)) yes, (goes-none 𝓤 H A W 7 (λ _. Pointer-T.the-row) yes (λ κs x f. refl), (goes-none 𝓤 H A W 7 (λ _. Settings-T.the-row) yes (λ κs x f. refl), tt))))))))))
       (fn.clauses 𝓤 H A mem run) (WpFn 𝓤 H (𝓣 .C) (𝓣 .Λ) code.function) (WpFn-mono 𝓤 H (W .laws) 𝓣 code.function) walks
 
 pub tree-borrows-retag-spec : {M : Type 1} → stated.statement M

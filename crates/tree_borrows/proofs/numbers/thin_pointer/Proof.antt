@@ -1,4 +1,4 @@
--- With provenance or without, as the place says.
+-- With provenance or without, as the flag says.
 use mathlib.Core.Path.{refl}
 use borrow.Author.Tests.{eq-eqb, ne-eqb}
 use Rattle.tree_borrows.proofs.numbers.thin_pointer.Statement.{statement}

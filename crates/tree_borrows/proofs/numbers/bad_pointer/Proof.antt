@@ -5,27 +5,27 @@ use mathlib.Core.Bool.{_&&_, _||_}
 use borrow.Author.Tests.{lt-ltb}
 use lib.Dec.{eqb}
 use Rattle.definition.specs.Request.{nonzero}
-use Rattle.tree_borrows.specs.Numbers.{badFlag, badPlace}
+use Rattle.tree_borrows.specs.Numbers.{badFlag, badPointer}
 use native.Mathlib.Omega.{arith}
-use Rattle.tree_borrows.proofs.numbers.bad_place.Statement.{statement}
-use Rattle.tree_borrows.proofs.numbers.bad_place.Tie as tie
+use Rattle.tree_borrows.proofs.numbers.bad_pointer.Statement.{statement}
+use Rattle.tree_borrows.proofs.numbers.bad_pointer.Tie as tie
 
 returns : tie.Need-returns
-unfolding badPlace
+unfolding badPointer
 returns c = sym (rw (lt-ltb 1 _ (c .if1 .taken)))
 
 returns-2 : tie.Need-returns-2
-unfolding badPlace
+unfolding badPointer
 returns-2 c =
     let p = c .before .before .before .before .args .p in
     sym (ap (λ (n : ℕ). badFlag n || (eqb n 0 && (nonzero (p .allocation) || nonzero (p .node)))) (c .if2 .taken))
 
 returns-3 : tie.Need-returns-3
-unfolding badPlace
+unfolding badPointer
 returns-3 c =
     let p = c .before .before .before .before .before .before .args .p in
     let z : p .provenance ≡ 0 = omega arith in
     sym (ap (λ (n : ℕ). badFlag n || (eqb n 0 && (nonzero (p .allocation) || nonzero (p .node)))) z)
 
-pub bad-place-spec : {M : Type 1} → statement M
-bad-place-spec = tie.close (tie.spec returns returns-2 returns-3)
+pub bad-pointer-spec : {M : Type 1} → statement M
+bad-pointer-spec = tie.close (tie.spec returns returns-2 returns-3)
