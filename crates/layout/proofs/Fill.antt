@@ -14,7 +14,7 @@ use Rattle.definition.proofs.Lists.{table-length}
 use Rattle.definition.proofs.Writes.{write-none, write-parts}
 use Rattle.layout.specs.declared.Mask.{Mask}
 use Rattle.layout.specs.declared.Mask.the-variants.{Of, None, WrongLength}
-use Rattle.layout.specs.Filled.{maskByte, maskBytes, fitting, Fills, elementsMask}
+use Rattle.layout.specs.Filled.{maskByte, maskBytes, fitting, Fills}
 use Rattle.layout.proofs.Lists.{drop-behind}
 use Rattle.layout.proofs.Cells.{mask-length, elements}
 
@@ -93,11 +93,6 @@ module _ (before : List ℕ) (bound : length before ≤ 4096) (size total : ℕ)
       let rest : drop total (first ++ drop size before) ≡ drop total before = rw (← one) (drop-behind total first before (omega arith)) in
       room before bound total (λ b. isFreeze cs (b % size)) (all ++ drop total (first ++ drop size before)) h
       (ap₂ _++_ (a ∙ elements size total cs (drop size before) (first ++ drop size before) p (ap (λ (x : List ℕ). x ++ drop size before) e) (omega arith) l) rest)
-
-pub elements-of : (cs : List UnsafeCell) (before after : List ℕ) (r : Mask) (x y count size : ℕ) → x ≡ count → y ≡ size
-    → Fills (elementsMask x y cs) before r after → Fills (elementsMask count size cs) before r after
-elements-of cs before after r x y count size p q h =
-    subst (λ (w : Option FreezeMask). Fills w before r after) (ap₂ (λ (m n : ℕ). elementsMask m n cs) p q) h
 
 -- ---- a tuple
 pub fitting-some : (n : ℕ) (tail : Option FreezeMask) (t : FreezeMask) → fitting n tail ≡ some t → (tail ≡ some t) × (length t ≤ n)

@@ -62,33 +62,33 @@ module _ (tuples : ℕ) (meta : PointerMeta) where
       nested tuples meta (w ∷ ws)
       ∙ (header-mask meta (tailMask tuples meta) w ws ∙ ap (λ (h : Header). underHeader meta (tailMask tuples meta) h ws) (sym e))
 
-  -- the header as the code holds it, its numbers, and the words behind it
-  module _ (ws : List ℕ) (h : code.Header) (cells size : ℕ) (rest : List ℕ) (r : Bool) (n : length ws ≡ 0 → ⊥) (e : headerOf h ≡ header (getD ws 0 0))
-      (c : cells ≡ h .cells) (s : size ≡ h .size) (q : rest ≡ drop 1 ws) (has : r ≡ hasCells cells size rest) where
+  -- the header as the code holds it, and the words behind it
+  module _ (ws : List ℕ) (h : code.Header) {rest : List ℕ} {r : Bool} (n : length ws ≡ 0 → ⊥) (e : headerOf h ≡ header (getD ws 0 0)) (q : rest ≡ drop 1 ws)
+      (has : r ≡ hasCells (h .cells) (h .size) rest) where
     here : nestedMask tuples meta ws
-        ≡ (if r then layoutMask meta (tailMask tuples meta) (headerOf h) (map unsafeCell (take cells rest)) (drop cells rest) else none)
-    here = rw (has, c, s, q) (with-header ws (headerOf h) n e)
+        ≡ (if r then layoutMask meta (tailMask tuples meta) (headerOf h) (map unsafeCell (take (h .cells) rest)) (drop (h .cells) rest) else none)
+    here = rw (has, q) (with-header ws (headerOf h) n e)
 
     pub bad-header : r ≡ false → nestedMask tuples meta ws ≡ none
     bad-header f = here ∙ rw f
 
     pub tuple-header : r ≡ true → isTuple (layoutOf (h .layout)) ≡ true
         → nestedMask tuples meta ws
-        ≡ tupleMask (sizedMask size (map unsafeCell (take cells rest))) (tailMask tuples meta (take (length rest - cells) (drop cells rest)))
+        ≡ tupleMask (sizedMask (h .size) (map unsafeCell (take (h .cells) rest))) (tailMask tuples meta (take (length rest - h .cells) (drop (h .cells) rest)))
     tuple-header f t =
         here
-        ∙ rw (f, s, part-rest cells rest) (go (layoutOf (h .layout)) t)
+        ∙ rw (f, part-rest (h .cells) rest) (go (layoutOf (h .layout)) t)
       where
         go : (l : LayoutStrategy) → isTuple l ≡ true
-            → layoutMask meta (tailMask tuples meta) (record { layout = l; cells = h .cells; size = h .size }) (map unsafeCell (take cells rest)) (drop cells rest)
-            ≡ tupleMask (sizedMask (h .size) (map unsafeCell (take cells rest))) (tailMask tuples meta (drop cells rest))
+            → layoutMask meta (tailMask tuples meta) (record { layout = l; cells = h .cells; size = h .size }) (map unsafeCell (take (h .cells) rest)) (drop (h .cells) rest)
+            ≡ tupleMask (sizedMask (h .size) (map unsafeCell (take (h .cells) rest))) (tailMask tuples meta (drop (h .cells) rest))
         go Sized t = absurd (false≢true t)
         go Slice t = absurd (false≢true t)
         go TraitObject t = absurd (false≢true t)
         go Tuple t = refl
 
     pub last-header : r ≡ true → isTuple (layoutOf (h .layout)) ≡ false → nestedMask tuples meta ws ≡ lastMask (headerOf h) meta rest
-    last-header f t = here ∙ rw (f, c) (go (layoutOf (h .layout)) t)
+    last-header f t = here ∙ rw f (go (layoutOf (h .layout)) t)
       where
         go : (l : LayoutStrategy) → isTuple l ≡ false
             → layoutMask meta (tailMask tuples meta) (record { layout = l; cells = h .cells; size = h .size }) (map unsafeCell (take (h .cells) rest)) (drop (h .cells) rest)

@@ -37,12 +37,6 @@ enum PointerMeta {
     VTablePointer,
 }
 
-fn wide(x: u32) -> usize
-    ensures { λ r. ⌜ r ≡ x ⌝ }
-{
-    x as usize
-}
-
 fn layout_of(word: u32) -> LayoutStrategy
     ensures { λ r. ⌜ layoutOf r ≡ header word .layout ⌝ }
 {
@@ -79,13 +73,13 @@ fn pointer_meta(word: u32) -> PointerMeta
 fn cell_start(word: u32) -> usize
     ensures { λ r. ⌜ r ≡ unsafeCell word .offset ⌝ }
 {
-    wide(word >> 16)
+    (word >> 16) as usize
 }
 
 fn cell_size(word: u32) -> usize
     ensures { λ r. ⌜ r ≡ unsafeCell word .size ⌝ }
 {
-    wide(word % 0x1_0000)
+    (word % 0x1_0000) as usize
 }
 
 // "Cells must come in order, not overlap and end within the size".
@@ -166,8 +160,8 @@ fn fill_elements(cells: &[u32], size: u32, count: u32, mask: &mut [u8]) -> Mask
     requires { ⌜ length (now mask) ≤ 4096 ⌝ }
     ensures { λ r. ⌜ Fills (elementsMask count size (map unsafeCell (now (cells .entry)))) (now (mask .entry)) r (now (mask .exit)) ⌝ }
 {
-    let element = wide(size);
-    let total = wide(count) * element;
+    let element = size as usize;
+    let total = count as usize * element;
     if mask.len() < total {
         return Mask::None;
     }
@@ -197,7 +191,7 @@ fn fill_trait_object(metadata: PointerMeta, cells: &[u32], size: u32, mask: &mut
     match metadata {
         PointerMeta::NoMetadata => Mask::None, // "a trait object without vtable metadata"
         PointerMeta::ElementCount(_) => Mask::None,
-        PointerMeta::VTablePointer => fill_sized(cells, wide(size), mask),
+        PointerMeta::VTablePointer => fill_sized(cells, size as usize, mask),
     }
 }
 
@@ -217,12 +211,12 @@ fn fill_last(head: Header, metadata: PointerMeta, words: &[u32], mask: &mut [u8]
     requires { ⌜ length (now mask) ≤ 4096 ⌝ }
     ensures { λ r. ⌜ Fills (lastMask (headerOf head) (metaOf metadata) (now (words .entry))) (now (mask .entry)) r (now (mask .exit)) ⌝ }
 {
-    if wide(head.cells) < words.len() {
+    if (head.cells as usize) < words.len() {
         return Mask::None;
     }
     let layout = head.layout;
     match layout {
-        LayoutStrategy::Sized => fill_sized(words, wide(head.size), mask),
+        LayoutStrategy::Sized => fill_sized(words, head.size as usize, mask),
         LayoutStrategy::Slice => fill_slice(metadata, words, head.size, mask),
         LayoutStrategy::TraitObject => fill_trait_object(metadata, words, head.size, mask),
         LayoutStrategy::Tuple => Mask::None,
@@ -286,8 +280,8 @@ fn fill_layout(words: &[u32], metadata: PointerMeta, tuples: usize, mask: &mut [
         return Mask::None;
     }
     let head = header_of(words[0]);
-    let cells = wide(head.cells);
-    let size = wide(head.size);
+    let cells = head.cells as usize;
+    let size = head.size as usize;
     let rest = &words[1..];
     if !has_cells(rest, cells, size) {
         return Mask::None;

@@ -11,12 +11,6 @@ pub enum ListRun {
     Answered { at: usize, whole: bool },
 }
 
-pub(crate) fn wide(x: u32) -> usize
-    ensures { λ r. ⌜ r ≡ x ⌝ }
-{
-    x as usize
-}
-
 // The words from one place up to another, as far as there are any.
 pub(crate) fn part<'a>(words: &'a [u32], from: usize, end: usize) -> &'a [u32]
     ensures { λ r. ⌜ now r ≡ take (end - from) (drop from (now (words .entry))) ⌝ }

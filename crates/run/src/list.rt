@@ -1,7 +1,6 @@
 // A list of requests from the empty memory. It goes on after a refusal. specs/Lists.antt says what it comes to, with demand 3.
 use crate::ListRun;
 use crate::part;
-use crate::wide;
 use transcript::Written;
 ghost use Rattle.definition.specs.Frame.{State, empty};
 ghost use Rattle.tables.specs.Held.{buffers};
@@ -52,7 +51,7 @@ fn run_cleared(
     let mut from = 0;
     let mut i = 0;
     while i < ends.len() {
-        let end = wide(ends[i]);
+        let end = ends[i] as usize;
         let request = part(requests, from, end);
         w = turn(
             allocs,

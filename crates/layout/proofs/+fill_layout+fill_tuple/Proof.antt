@@ -1,5 +1,6 @@
 -- By the header (Words), and for a tuple by what the fill of its tail tells (Fill). The number of tuples that may follow falls.
 use Prim.Native.Nat.{ℕ, _+_, _-_, _*_, _≤_, _<_}
+use mathlib.Core.Option.{Option}
 use mathlib.Core.List.{List, map, _++_}
 use mathlib.Core.Path.{_≡_, refl, sym, ap, ap₂, _∙_}
 use native.Mathlib.Omega.{arith}
@@ -7,11 +8,12 @@ use lib.Seq.{length-take-le}
 use lib.ListN.{length, take, drop, length-drop}
 use borrow.Author.Tests.{not-true, not-false}
 use borrow.Author.Needs.{needs}
-use borrow.Fn.Kinds.{In}
+use borrow.Fn.Kinds.{In, Out}
 use borrow.Fn.PlainCycle.{Measures, is, falls, and}
-use Rattle.layout.specs.declared.Mask.the-variants.{Of, None, WrongLength}
+use Rattle.layout.specs.declared.Mask.{Mask}
+use Rattle.layout.specs.declared.Mask.the-variants.{Of}
 use Rattle.definition.specs.Notation.{table}
-use Rattle.definition.specs.Layout.{unsafeCell, isFreeze, sizedMask, tupleMask}
+use Rattle.definition.specs.Layout.{FreezeMask, UnsafeCell, unsafeCell, isFreeze, sizedMask, tupleMask}
 use Rattle.definition.proofs.Parts.{part-rest}
 use Rattle.layout.specs.Filled.{metaOf, maskBytes, tailMask, Fills}
 use Rattle.layout.proofs.Fill.{instead, restated, nothing, head-over, tail-none, tail-over, tail-filled, length-within, never-wrong}
@@ -30,7 +32,6 @@ use Rattle.layout.proofs.has_cells.Reads as has-cells-reads
 use Rattle.layout.proofs.header_of.Reads as header-of-reads
 use Rattle.layout.proofs.is_tuple.Reads as is-tuple-reads
 use Rattle.layout.proofs.tail_start.Reads as tail-start-reads
-use Rattle.layout.proofs.wide.Reads as wide-reads
 use Rattle.layout.proofs.+fill_layout+fill_tuple.Tie.{close}
 
 abbrev μ-fill-layout : Measures 2 fill-layout-kinds.ps ℕ
@@ -56,366 +57,291 @@ fill-tuple-below t =
     and 3 fill-tuple-kinds.ps (falls 3 fill-tuple-kinds.ps _<_ μ-fill-tuple t) fill-tuple.Pre
 
 abbrev fill-layout-claims : ℕ → fill-layout-lts.Claims
-fill-layout-claims t = (header-of-reads.Asked, header-of-reads.Learnt, wide-reads.Asked, wide-reads.Learnt, has-cells-reads.Asked, has-cells-reads.Learnt, is-tuple-reads.Asked, is-tuple-reads.Learnt, fill-tuple-below t, fill-tuple.Post, fill-last-reads.Asked, fill-last-reads.Learnt)
+fill-layout-claims t = (header-of-reads.Asked, header-of-reads.Learnt, has-cells-reads.Asked, has-cells-reads.Learnt, is-tuple-reads.Asked, is-tuple-reads.Learnt, fill-tuple-below t, fill-tuple.Post, fill-last-reads.Asked, fill-last-reads.Learnt)
 
 abbrev fill-tuple-claims : ℕ → fill-tuple-lts.Claims
 fill-tuple-claims t = (tail-start-reads.Asked, tail-start-reads.Learnt, fill-layout-below t, fill-layout.Post, cells-to-freeze-mask-reads.Asked, cells-to-freeze-mask-reads.Learnt)
 
--- ---- states by name: `g-before-f` is the state behind g, as it is known behind f; the first one is `entry`
-abbrev fill-layout-entry-before-header-of : (t : ℕ) → fill-layout-lts.After-header-of (fill-layout-claims t) (fill-layout-at t) fill-layout.Post → fill-layout-lts.Start (fill-layout-claims t) (fill-layout-at t) fill-layout.Post
-fill-layout-entry-before-header-of t c = c .before .before .before .before .before
+module _ (t : ℕ) where
+  -- ---- the states of fill_layout by name
+  abbrev from-layout : (fill-layout-lts.Claims → In 2 fill-layout-kinds.ps → Out 2 fill-layout-kinds.ps fill-layout-kinds.r → Type 0) → Type 0
+  from-layout state = state (fill-layout-claims t) (fill-layout-at t) fill-layout.Post
 
-abbrev fill-layout-entry-before-then2 : (t : ℕ) → fill-layout-lts.Then2 (fill-layout-claims t) (fill-layout-at t) fill-layout.Post → fill-layout-lts.Start (fill-layout-claims t) (fill-layout-at t) fill-layout.Post
-fill-layout-entry-before-then2 t c = fill-layout-entry-before-header-of t (c .before .before .before .before .before)
+  -- there are words, as it is known behind the header
+  abbrev worded : from-layout fill-layout-lts.After-header-of → from-layout fill-layout-lts.Else1
+  worded c = c .before .before
 
-abbrev fill-layout-else1-before-header-of : (t : ℕ) → fill-layout-lts.After-header-of (fill-layout-claims t) (fill-layout-at t) fill-layout.Post → fill-layout-lts.Else1 (fill-layout-claims t) (fill-layout-at t) fill-layout.Post
-fill-layout-else1-before-header-of t c = c .before .before
+  abbrev fill-layout-entry : from-layout fill-layout-lts.After-header-of → from-layout fill-layout-lts.Start
+  fill-layout-entry c = worded c .before .before .before
 
-abbrev fill-layout-else1-before-then2 : (t : ℕ) → fill-layout-lts.Then2 (fill-layout-claims t) (fill-layout-at t) fill-layout.Post → fill-layout-lts.Else1 (fill-layout-claims t) (fill-layout-at t) fill-layout.Post
-fill-layout-else1-before-then2 t c = fill-layout-else1-before-header-of t (c .before .before .before .before .before)
+  -- the header, as it is known behind the test of its cells
+  abbrev headed : from-layout fill-layout-lts.After-has-cells → from-layout fill-layout-lts.After-header-of
+  headed c = c .before .before .before .before
 
-abbrev fill-layout-wide-before-then3 : (t : ℕ) → fill-layout-lts.Then3 (fill-layout-claims t) (fill-layout-at t) fill-layout.Post → fill-layout-lts.After-wide (fill-layout-claims t) (fill-layout-at t) fill-layout.Post
-fill-layout-wide-before-then3 t c = c .before .before .before .before .before .before
+  -- the test of the cells, where it is a tuple's header, and where it is another
+  abbrev tested : from-layout fill-layout-lts.Then3 → from-layout fill-layout-lts.After-has-cells
+  tested c = c .before .before .before
 
-abbrev fill-layout-entry-before-wide : (t : ℕ) → fill-layout-lts.After-wide (fill-layout-claims t) (fill-layout-at t) fill-layout.Post → fill-layout-lts.Start (fill-layout-claims t) (fill-layout-at t) fill-layout.Post
-fill-layout-entry-before-wide t c = c .before .before .before .before .before .before
+  abbrev tested-last : from-layout fill-layout-lts.Else3 → from-layout fill-layout-lts.After-has-cells
+  tested-last c = c .before .before .before
 
-abbrev fill-layout-entry-before-then3 : (t : ℕ) → fill-layout-lts.Then3 (fill-layout-claims t) (fill-layout-at t) fill-layout.Post → fill-layout-lts.Start (fill-layout-claims t) (fill-layout-at t) fill-layout.Post
-fill-layout-entry-before-then3 t c = fill-layout-entry-before-wide t (c .before .before .before .before .before .before)
+  -- it is a tuple's header, as it is known behind the fill
+  abbrev of-tuple : from-layout fill-layout-lts.After-slice-known2 → from-layout fill-layout-lts.Then3
+  of-tuple c = c .before .before .before .before .before .before
+
+  -- ---- its needs
+  fill-layout-returns : from-layout fill-layout-lts.Need-returns
+  fill-layout-returns c =
+      let a = c .before .before .before .args in
+      instead (no-header (a .tuples) (metaOf (a .metadata)) (a .words .now) (c .if1 .taken)) (nothing (a .mask .now))
 
-abbrev fill-layout-entry-before-else2 : (t : ℕ) → fill-layout-lts.Else2 (fill-layout-claims t) (fill-layout-at t) fill-layout.Post → fill-layout-lts.Start (fill-layout-claims t) (fill-layout-at t) fill-layout.Post
-fill-layout-entry-before-else2 t c = fill-layout-entry-before-header-of t (c .before .before .before .before .before)
+  fill-layout-shared-slice-read-header-of : from-layout fill-layout-lts.Need-shared-slice-read-header-of
+  fill-layout-shared-slice-read-header-of c = search needs
+
+  fill-layout-header-of-requires : from-layout fill-layout-lts.Need-header-of-requires
+  fill-layout-header-of-requires c κs = search needs
+
+  fill-layout-cast-cells : from-layout fill-layout-lts.Need-cast-cells
+  fill-layout-cast-cells c = search needs
+
+  fill-layout-cast-size : from-layout fill-layout-lts.Need-cast-size
+  fill-layout-cast-size c = search needs
 
-abbrev fill-layout-entry-before-fill-tuple : (t : ℕ) → fill-layout-lts.After-fill-tuple (fill-layout-claims t) (fill-layout-at t) fill-layout.Post → fill-layout-lts.Start (fill-layout-claims t) (fill-layout-at t) fill-layout.Post
-fill-layout-entry-before-fill-tuple t c = fill-layout-entry-before-else2 t (c .before .before .before .before .before .before)
+  fill-layout-sub-rest : from-layout fill-layout-lts.Need-sub-rest
+  fill-layout-sub-rest c = search needs
 
-abbrev fill-layout-header-of-before-else2 : (t : ℕ) → fill-layout-lts.Else2 (fill-layout-claims t) (fill-layout-at t) fill-layout.Post → fill-layout-lts.After-header-of (fill-layout-claims t) (fill-layout-at t) fill-layout.Post
-fill-layout-header-of-before-else2 t c = c .before .before .before .before .before
+  fill-layout-part-rest-start : from-layout fill-layout-lts.Need-part-rest-start
+  fill-layout-part-rest-start c = search needs
 
-abbrev fill-layout-header-of-before-fill-tuple : (t : ℕ) → fill-layout-lts.After-fill-tuple (fill-layout-claims t) (fill-layout-at t) fill-layout.Post → fill-layout-lts.After-header-of (fill-layout-claims t) (fill-layout-at t) fill-layout.Post
-fill-layout-header-of-before-fill-tuple t c = fill-layout-header-of-before-else2 t (c .before .before .before .before .before .before)
+  fill-layout-part-rest-end : from-layout fill-layout-lts.Need-part-rest-end
+  fill-layout-part-rest-end c = search needs
 
-abbrev fill-layout-wide-before-else2 : (t : ℕ) → fill-layout-lts.Else2 (fill-layout-claims t) (fill-layout-at t) fill-layout.Post → fill-layout-lts.After-wide (fill-layout-claims t) (fill-layout-at t) fill-layout.Post
-fill-layout-wide-before-else2 t c = c .before .before .before .before
+  fill-layout-has-cells-requires : from-layout fill-layout-lts.Need-has-cells-requires
+  fill-layout-has-cells-requires c κs = search needs
 
-abbrev fill-layout-wide-before-fill-tuple : (t : ℕ) → fill-layout-lts.After-fill-tuple (fill-layout-claims t) (fill-layout-at t) fill-layout.Post → fill-layout-lts.After-wide (fill-layout-claims t) (fill-layout-at t) fill-layout.Post
-fill-layout-wide-before-fill-tuple t c = fill-layout-wide-before-else2 t (c .before .before .before .before .before .before)
+  fill-layout-returns-2 : from-layout fill-layout-lts.Need-returns-2
+  fill-layout-returns-2 c =
+      let head = headed (c .before) in
+      let a = fill-layout-entry head .args in
+      instead
+      (bad-header (a .tuples) (metaOf (a .metadata)) (a .words .now) (head .header-of .result) (worded head .if1 .left) (head .header-of .ensures) (part-rest 1 (a .words .now)) (c .before .has-cells .ensures)
+      (not-true _ (c .if2 .taken)))
+      (nothing (a .mask .now))
+
+  fill-layout-is-tuple-requires : from-layout fill-layout-lts.Need-is-tuple-requires
+  fill-layout-is-tuple-requires c κs = search needs
+
+  -- a tuple's cells stand within the words behind its header
+  abbrev cells-of : from-layout fill-layout-lts.Then3 → ℕ
+  cells-of c = headed (tested c) .header-of .result .cells
 
-abbrev fill-layout-wide2-before-else2 : (t : ℕ) → fill-layout-lts.Else2 (fill-layout-claims t) (fill-layout-at t) fill-layout.Post → fill-layout-lts.After-wide2 (fill-layout-claims t) (fill-layout-at t) fill-layout.Post
-fill-layout-wide2-before-else2 t c = c .before .before .before
+  abbrev behind : from-layout fill-layout-lts.Then3 → List ℕ
+  behind c =
+      let words = fill-layout-entry (headed (tested c)) .args .words .now in
+      take (length words - 1) (drop 1 words)
+
+  cells-inside : (c : from-layout fill-layout-lts.Then3) → cells-of c ≤ length (behind c)
+  cells-inside c = cells-within (cells-of c) (headed (tested c) .header-of .result .size) (behind c) (sym (tested c .has-cells .ensures) ∙ not-false _ (c .before .before .if2 .left))
 
-abbrev fill-layout-wide2-before-fill-tuple : (t : ℕ) → fill-layout-lts.After-fill-tuple (fill-layout-claims t) (fill-layout-at t) fill-layout.Post → fill-layout-lts.After-wide2 (fill-layout-claims t) (fill-layout-at t) fill-layout.Post
-fill-layout-wide2-before-fill-tuple t c = fill-layout-wide2-before-else2 t (c .before .before .before .before .before .before)
+  fill-layout-slice-aggregate-fill-tuple : from-layout fill-layout-lts.Need-slice-aggregate-fill-tuple
+  fill-layout-slice-aggregate-fill-tuple c = sym (length-take-le (cells-of (c .before)) (behind (c .before)) (cells-inside (c .before)))
 
-abbrev fill-layout-has-cells-before-else2 : (t : ℕ) → fill-layout-lts.Else2 (fill-layout-claims t) (fill-layout-at t) fill-layout.Post → fill-layout-lts.After-has-cells (fill-layout-claims t) (fill-layout-at t) fill-layout.Post
-fill-layout-has-cells-before-else2 t c = c .before
+  fill-layout-mul-fill-tuple : from-layout fill-layout-lts.Need-mul-fill-tuple
+  fill-layout-mul-fill-tuple c = search needs
 
-abbrev fill-layout-has-cells-before-fill-tuple : (t : ℕ) → fill-layout-lts.After-fill-tuple (fill-layout-claims t) (fill-layout-at t) fill-layout.Post → fill-layout-lts.After-has-cells (fill-layout-claims t) (fill-layout-at t) fill-layout.Post
-fill-layout-has-cells-before-fill-tuple t c = fill-layout-has-cells-before-else2 t (c .before .before .before .before .before .before)
+  fill-layout-sub-fill-tuple : from-layout fill-layout-lts.Need-sub-fill-tuple
+  fill-layout-sub-fill-tuple c = cells-inside (c .before)
 
-abbrev fill-layout-else1-before-else2 : (t : ℕ) → fill-layout-lts.Else2 (fill-layout-claims t) (fill-layout-at t) fill-layout.Post → fill-layout-lts.Else1 (fill-layout-claims t) (fill-layout-at t) fill-layout.Post
-fill-layout-else1-before-else2 t c = fill-layout-else1-before-header-of t (c .before .before .before .before .before)
+  fill-layout-part-fill-tuple-start : from-layout fill-layout-lts.Need-part-fill-tuple-start
+  fill-layout-part-fill-tuple-start c = cells-inside (c .before)
 
-abbrev fill-layout-else1-before-fill-tuple : (t : ℕ) → fill-layout-lts.After-fill-tuple (fill-layout-claims t) (fill-layout-at t) fill-layout.Post → fill-layout-lts.Else1 (fill-layout-claims t) (fill-layout-at t) fill-layout.Post
-fill-layout-else1-before-fill-tuple t c = fill-layout-else1-before-else2 t (c .before .before .before .before .before .before)
+  fill-layout-part-fill-tuple-end : from-layout fill-layout-lts.Need-part-fill-tuple-end
+  fill-layout-part-fill-tuple-end c = search needs
 
-abbrev fill-layout-else2-before-fill-tuple : (t : ℕ) → fill-layout-lts.After-fill-tuple (fill-layout-claims t) (fill-layout-at t) fill-layout.Post → fill-layout-lts.Else2 (fill-layout-claims t) (fill-layout-at t) fill-layout.Post
-fill-layout-else2-before-fill-tuple t c = c .before .before .before .before .before .before
+  fill-layout-fill-tuple-requires : from-layout fill-layout-lts.Need-fill-tuple-requires
+  fill-layout-fill-tuple-requires c κs = search needs
 
-abbrev fill-layout-is-tuple-before-fill-tuple : (t : ℕ) → fill-layout-lts.After-fill-tuple (fill-layout-claims t) (fill-layout-at t) fill-layout.Post → fill-layout-lts.After-is-tuple (fill-layout-claims t) (fill-layout-at t) fill-layout.Post
-fill-layout-is-tuple-before-fill-tuple t c = c .before .before .before .before .before
+  fill-layout-same-length : from-layout fill-layout-lts.Need-same-length
+  fill-layout-same-length c = search needs
+
+  fill-layout-returns-3 : from-layout fill-layout-lts.Need-returns-3
+  fill-layout-returns-3 c =
+      let tuple = of-tuple c in
+      let head = headed (tested tuple) in
+      let a = fill-layout-entry head .args in
+      instead
+      (tuple-header (a .tuples) (metaOf (a .metadata)) (a .words .now) (head .header-of .result) (worded head .if1 .left) (head .header-of .ensures) (part-rest 1 (a .words .now)) (tested tuple .has-cells .ensures)
+      (not-false _ (tuple .before .before .if2 .left)) (sym (tuple .before .is-tuple .ensures) ∙ tuple .if3 .taken))
+      (c .before .before .fill-tuple .ensures)
 
-abbrev fill-layout-entry-before-else1 : (t : ℕ) → fill-layout-lts.Else1 (fill-layout-claims t) (fill-layout-at t) fill-layout.Post → fill-layout-lts.Start (fill-layout-claims t) (fill-layout-at t) fill-layout.Post
-fill-layout-entry-before-else1 t c = c .before .before .before
+  fill-layout-fill-last-requires : from-layout fill-layout-lts.Need-fill-last-requires
+  fill-layout-fill-last-requires c κs = search needs
 
-abbrev fill-layout-entry-before-has-cells : (t : ℕ) → fill-layout-lts.After-has-cells (fill-layout-claims t) (fill-layout-at t) fill-layout.Post → fill-layout-lts.Start (fill-layout-claims t) (fill-layout-at t) fill-layout.Post
-fill-layout-entry-before-has-cells t c = fill-layout-entry-before-else1 t (c .before .before .before .before .before .before)
+  fill-layout-same-length-2 : from-layout fill-layout-lts.Need-same-length-2
+  fill-layout-same-length-2 c = search needs
+
+  fill-layout-returns-4 : from-layout fill-layout-lts.Need-returns-4
+  fill-layout-returns-4 c =
+      let last = c .before .before .before .before in
+      let head = headed (tested-last last) in
+      let a = fill-layout-entry head .args in
+      instead
+      (last-header (a .tuples) (metaOf (a .metadata)) (a .words .now) (head .header-of .result) (worded head .if1 .left) (head .header-of .ensures) (part-rest 1 (a .words .now)) (tested-last last .has-cells .ensures)
+      (not-false _ (last .before .before .if2 .left)) (sym (last .before .is-tuple .ensures) ∙ last .if3 .left))
+      (c .before .before .fill-last .ensures)
 
-abbrev fill-layout-entry-before-fill-last : (t : ℕ) → fill-layout-lts.After-fill-last (fill-layout-claims t) (fill-layout-at t) fill-layout.Post → fill-layout-lts.Start (fill-layout-claims t) (fill-layout-at t) fill-layout.Post
-fill-layout-entry-before-fill-last t c = fill-layout-entry-before-has-cells t (c .before .before .before .before .before)
+  -- ---- the states of fill_tuple by name
+  abbrev from-tuple : (fill-tuple-lts.Claims → In 3 fill-tuple-kinds.ps → Out 3 fill-tuple-kinds.ps fill-tuple-kinds.r → Type 0) → Type 0
+  from-tuple state = state (fill-tuple-claims t) (fill-tuple-at t) fill-tuple.Post
 
-abbrev fill-layout-header-of-before-has-cells : (t : ℕ) → fill-layout-lts.After-has-cells (fill-layout-claims t) (fill-layout-at t) fill-layout.Post → fill-layout-lts.After-header-of (fill-layout-claims t) (fill-layout-at t) fill-layout.Post
-fill-layout-header-of-before-has-cells t c = c .before .before .before .before
+  -- a tuple may stand here, as it is known where the tail starts
+  abbrev allowed : from-tuple fill-tuple-lts.After-tail-start → from-tuple fill-tuple-lts.Else1
+  allowed c = c .before
 
-abbrev fill-layout-header-of-before-fill-last : (t : ℕ) → fill-layout-lts.After-fill-last (fill-layout-claims t) (fill-layout-at t) fill-layout.Post → fill-layout-lts.After-header-of (fill-layout-claims t) (fill-layout-at t) fill-layout.Post
-fill-layout-header-of-before-fill-last t c = fill-layout-header-of-before-has-cells t (c .before .before .before .before .before)
+  abbrev fill-tuple-entry : from-tuple fill-tuple-lts.After-tail-start → from-tuple fill-tuple-lts.Start
+  fill-tuple-entry c = allowed c .before .before .before .before
 
-abbrev fill-layout-wide-before-has-cells : (t : ℕ) → fill-layout-lts.After-has-cells (fill-layout-claims t) (fill-layout-at t) fill-layout.Post → fill-layout-lts.After-wide (fill-layout-claims t) (fill-layout-at t) fill-layout.Post
-fill-layout-wide-before-has-cells t c = c .before .before .before
+  -- the head has room, as it is known behind the tail's fill
+  abbrev roomy : from-tuple fill-tuple-lts.After-fill-layout → from-tuple fill-tuple-lts.Else2
+  roomy c = c .before .before
 
-abbrev fill-layout-wide-before-fill-last : (t : ℕ) → fill-layout-lts.After-fill-last (fill-layout-claims t) (fill-layout-at t) fill-layout.Post → fill-layout-lts.After-wide (fill-layout-claims t) (fill-layout-at t) fill-layout.Post
-fill-layout-wide-before-fill-last t c = fill-layout-wide-before-has-cells t (c .before .before .before .before .before)
+  abbrev tail-starts : from-tuple fill-tuple-lts.After-fill-layout → from-tuple fill-tuple-lts.After-tail-start
+  tail-starts c = roomy c .before
 
-abbrev fill-layout-wide2-before-has-cells : (t : ℕ) → fill-layout-lts.After-has-cells (fill-layout-claims t) (fill-layout-at t) fill-layout.Post → fill-layout-lts.After-wide2 (fill-layout-claims t) (fill-layout-at t) fill-layout.Post
-fill-layout-wide2-before-has-cells t c = c .before .before
+  -- the tail's fill, as it is known where its answer is known to be a mask, and behind the head's
+  abbrev tail-filled-before-after : from-tuple fill-tuple-lts.After-after → from-tuple fill-tuple-lts.After-fill-layout
+  tail-filled-before-after c = c .before .before .before .before
 
-abbrev fill-layout-wide2-before-fill-last : (t : ℕ) → fill-layout-lts.After-fill-last (fill-layout-claims t) (fill-layout-at t) fill-layout.Post → fill-layout-lts.After-wide2 (fill-layout-claims t) (fill-layout-at t) fill-layout.Post
-fill-layout-wide2-before-fill-last t c = fill-layout-wide2-before-has-cells t (c .before .before .before .before .before)
+  abbrev answered : from-tuple fill-tuple-lts.After-cells-to-freeze-mask → from-tuple fill-tuple-lts.After-after
+  answered c = c .before .before .before
 
-abbrev fill-layout-has-cells-before-fill-last : (t : ℕ) → fill-layout-lts.After-fill-last (fill-layout-claims t) (fill-layout-at t) fill-layout.Post → fill-layout-lts.After-has-cells (fill-layout-claims t) (fill-layout-at t) fill-layout.Post
-fill-layout-has-cells-before-fill-last t c = c .before .before .before .before .before
-
-abbrev fill-layout-else1-before-has-cells : (t : ℕ) → fill-layout-lts.After-has-cells (fill-layout-claims t) (fill-layout-at t) fill-layout.Post → fill-layout-lts.Else1 (fill-layout-claims t) (fill-layout-at t) fill-layout.Post
-fill-layout-else1-before-has-cells t c = c .before .before .before .before .before .before
-
-abbrev fill-layout-else1-before-fill-last : (t : ℕ) → fill-layout-lts.After-fill-last (fill-layout-claims t) (fill-layout-at t) fill-layout.Post → fill-layout-lts.Else1 (fill-layout-claims t) (fill-layout-at t) fill-layout.Post
-fill-layout-else1-before-fill-last t c = fill-layout-else1-before-has-cells t (c .before .before .before .before .before)
-
-abbrev fill-tuple-entry-before-else1 : (t : ℕ) → fill-tuple-lts.Else1 (fill-tuple-claims t) (fill-tuple-at t) fill-tuple.Post → fill-tuple-lts.Start (fill-tuple-claims t) (fill-tuple-at t) fill-tuple.Post
-fill-tuple-entry-before-else1 t c = c .before .before .before .before
-
-abbrev fill-tuple-entry-before-fill-layout : (t : ℕ) → fill-tuple-lts.After-fill-layout (fill-tuple-claims t) (fill-tuple-at t) fill-tuple.Post → fill-tuple-lts.Start (fill-tuple-claims t) (fill-tuple-at t) fill-tuple.Post
-fill-tuple-entry-before-fill-layout t c = fill-tuple-entry-before-else1 t (c .before .before .before .before)
-
-abbrev fill-tuple-tail-start-before-fill-layout : (t : ℕ) → fill-tuple-lts.After-fill-layout (fill-tuple-claims t) (fill-tuple-at t) fill-tuple.Post → fill-tuple-lts.After-tail-start (fill-tuple-claims t) (fill-tuple-at t) fill-tuple.Post
-fill-tuple-tail-start-before-fill-layout t c = c .before .before .before
-
-abbrev fill-tuple-else2-before-fill-layout : (t : ℕ) → fill-tuple-lts.After-fill-layout (fill-tuple-claims t) (fill-tuple-at t) fill-tuple.Post → fill-tuple-lts.Else2 (fill-tuple-claims t) (fill-tuple-at t) fill-tuple.Post
-fill-tuple-else2-before-fill-layout t c = c .before .before
-
-abbrev fill-tuple-entry-before-cells-to-freeze-mask : (t : ℕ) → fill-tuple-lts.After-cells-to-freeze-mask (fill-tuple-claims t) (fill-tuple-at t) fill-tuple.Post → fill-tuple-lts.Start (fill-tuple-claims t) (fill-tuple-at t) fill-tuple.Post
-fill-tuple-entry-before-cells-to-freeze-mask t c = let c1 = c .before .before .before .before .before .before in fill-tuple-entry-before-else1 t (c1 .before .before .before .before .before)
-
-abbrev fill-tuple-fill-layout-before-cells-to-freeze-mask : (t : ℕ) → fill-tuple-lts.After-cells-to-freeze-mask (fill-tuple-claims t) (fill-tuple-at t) fill-tuple.Post → fill-tuple-lts.After-fill-layout (fill-tuple-claims t) (fill-tuple-at t) fill-tuple.Post
-fill-tuple-fill-layout-before-cells-to-freeze-mask t c = let c1 = c .before .before .before .before .before .before in c1 .before
-
-abbrev fill-tuple-tail-start-before-cells-to-freeze-mask : (t : ℕ) → fill-tuple-lts.After-cells-to-freeze-mask (fill-tuple-claims t) (fill-tuple-at t) fill-tuple.Post → fill-tuple-lts.After-tail-start (fill-tuple-claims t) (fill-tuple-at t) fill-tuple.Post
-fill-tuple-tail-start-before-cells-to-freeze-mask t c = let c1 = c .before .before .before .before .before .before in c1 .before .before .before .before
-
-abbrev fill-tuple-else2-before-cells-to-freeze-mask : (t : ℕ) → fill-tuple-lts.After-cells-to-freeze-mask (fill-tuple-claims t) (fill-tuple-at t) fill-tuple.Post → fill-tuple-lts.Else2 (fill-tuple-claims t) (fill-tuple-at t) fill-tuple.Post
-fill-tuple-else2-before-cells-to-freeze-mask t c = let c1 = c .before .before .before .before .before .before in c1 .before .before .before
-
-abbrev fill-tuple-else1-before-cells-to-freeze-mask : (t : ℕ) → fill-tuple-lts.After-cells-to-freeze-mask (fill-tuple-claims t) (fill-tuple-at t) fill-tuple.Post → fill-tuple-lts.Else1 (fill-tuple-claims t) (fill-tuple-at t) fill-tuple.Post
-fill-tuple-else1-before-cells-to-freeze-mask t c = let c1 = c .before .before .before .before .before .before in c1 .before .before .before .before .before
-
-abbrev fill-tuple-else1-before-fill-layout : (t : ℕ) → fill-tuple-lts.After-fill-layout (fill-tuple-claims t) (fill-tuple-at t) fill-tuple.Post → fill-tuple-lts.Else1 (fill-tuple-claims t) (fill-tuple-at t) fill-tuple.Post
-fill-tuple-else1-before-fill-layout t c = c .before .before .before .before
-
-fill-layout-returns : (t : ℕ) → fill-layout-lts.Need-returns (fill-layout-claims t) (fill-layout-at t) fill-layout.Post
-fill-layout-returns t c =
-    let a = c .before .before .before .args in
-    instead (no-header (a .tuples) (metaOf (a .metadata)) (a .words .now) (c .if1 .taken)) (nothing (a .mask .now))
-
-fill-layout-shared-slice-read-header-of : (t : ℕ) → fill-layout-lts.Need-shared-slice-read-header-of (fill-layout-claims t) (fill-layout-at t) fill-layout.Post
-fill-layout-shared-slice-read-header-of t c = search needs
-
-fill-layout-header-of-requires : (t : ℕ) → fill-layout-lts.Need-header-of-requires (fill-layout-claims t) (fill-layout-at t) fill-layout.Post
-fill-layout-header-of-requires t c κs = search needs
-
-fill-layout-wide-requires : (t : ℕ) → fill-layout-lts.Need-wide-requires (fill-layout-claims t) (fill-layout-at t) fill-layout.Post
-fill-layout-wide-requires t c κs = search needs
-
-fill-layout-wide-requires-2 : (t : ℕ) → fill-layout-lts.Need-wide-requires-2 (fill-layout-claims t) (fill-layout-at t) fill-layout.Post
-fill-layout-wide-requires-2 t c κs = search needs
-
-fill-layout-sub-rest : (t : ℕ) → fill-layout-lts.Need-sub-rest (fill-layout-claims t) (fill-layout-at t) fill-layout.Post
-fill-layout-sub-rest t c = search needs
-
-fill-layout-part-rest-start : (t : ℕ) → fill-layout-lts.Need-part-rest-start (fill-layout-claims t) (fill-layout-at t) fill-layout.Post
-fill-layout-part-rest-start t c = search needs
-
-fill-layout-part-rest-end : (t : ℕ) → fill-layout-lts.Need-part-rest-end (fill-layout-claims t) (fill-layout-at t) fill-layout.Post
-fill-layout-part-rest-end t c = search needs
-
-fill-layout-has-cells-requires : (t : ℕ) → fill-layout-lts.Need-has-cells-requires (fill-layout-claims t) (fill-layout-at t) fill-layout.Post
-fill-layout-has-cells-requires t c κs = search needs
-
-fill-layout-returns-2 : (t : ℕ) → fill-layout-lts.Need-returns-2 (fill-layout-claims t) (fill-layout-at t) fill-layout.Post
-fill-layout-returns-2 t c =
-    let a = fill-layout-entry-before-then2 t c .args in
-    instead
-    (bad-header (a .tuples) (metaOf (a .metadata)) (a .words .now) (c .before .before .before .before .before .header-of .result) (c .before .before .before .before .wide .result)
-    (c .before .before .before .wide2 .result) (take (length (a .words .now) - 1) (drop 1 (a .words .now))) (c .before .has-cells .result) (fill-layout-else1-before-then2 t c .if1 .left)
-    (c .before .before .before .before .before .header-of .ensures) (c .before .before .before .before .wide .ensures) (c .before .before .before .wide2 .ensures) (part-rest 1 (a .words .now)) (c .before .has-cells .ensures)
-    (not-true _ (c .if2 .taken)))
-    (nothing (a .mask .now))
-
-fill-layout-is-tuple-requires : (t : ℕ) → fill-layout-lts.Need-is-tuple-requires (fill-layout-claims t) (fill-layout-at t) fill-layout.Post
-fill-layout-is-tuple-requires t c κs = search needs
-
--- a tuple's cells stand within the words behind its header
-cells-inside : (t : ℕ) (c : fill-layout-lts.After-fill-tuple-arg (fill-layout-claims t) (fill-layout-at t) fill-layout.Post)
-    → fill-layout-wide-before-then3 t (c .before) .wide .result ≤ length (take (length (fill-layout-entry-before-then3 t (c .before) .args .words .now) - 1) (drop 1 (fill-layout-entry-before-then3 t (c .before) .args .words .now)))
-cells-inside t c = cells-within (fill-layout-wide-before-then3 t (c .before) .wide .result) (c .before .before .before .before .before .before .wide2 .result) (take (length (fill-layout-entry-before-then3 t (c .before) .args .words .now) - 1) (drop 1 (fill-layout-entry-before-then3 t (c .before) .args .words .now)))
-    (sym (c .before .before .before .before .has-cells .ensures) ∙ not-false _ (c .before .before .before .if2 .left))
-
-fill-layout-slice-aggregate-fill-tuple : (t : ℕ) → fill-layout-lts.Need-slice-aggregate-fill-tuple (fill-layout-claims t) (fill-layout-at t) fill-layout.Post
-fill-layout-slice-aggregate-fill-tuple t c = sym (length-take-le (fill-layout-wide-before-then3 t (c .before) .wide .result) (take (length (fill-layout-entry-before-then3 t (c .before) .args .words .now) - 1) (drop 1 (fill-layout-entry-before-then3 t (c .before) .args .words .now))) (cells-inside t c))
-
-fill-layout-mul-fill-tuple : (t : ℕ) → fill-layout-lts.Need-mul-fill-tuple (fill-layout-claims t) (fill-layout-at t) fill-layout.Post
-fill-layout-mul-fill-tuple t c = search needs
-
-fill-layout-sub-fill-tuple : (t : ℕ) → fill-layout-lts.Need-sub-fill-tuple (fill-layout-claims t) (fill-layout-at t) fill-layout.Post
-fill-layout-sub-fill-tuple t c = cells-inside t c
-
-fill-layout-part-fill-tuple-start : (t : ℕ) → fill-layout-lts.Need-part-fill-tuple-start (fill-layout-claims t) (fill-layout-at t) fill-layout.Post
-fill-layout-part-fill-tuple-start t c = cells-inside t c
-
-fill-layout-part-fill-tuple-end : (t : ℕ) → fill-layout-lts.Need-part-fill-tuple-end (fill-layout-claims t) (fill-layout-at t) fill-layout.Post
-fill-layout-part-fill-tuple-end t c = search needs
-
-fill-layout-fill-tuple-requires : (t : ℕ) → fill-layout-lts.Need-fill-tuple-requires (fill-layout-claims t) (fill-layout-at t) fill-layout.Post
-fill-layout-fill-tuple-requires t c κs = search needs
-
-fill-layout-same-length : (t : ℕ) → fill-layout-lts.Need-same-length (fill-layout-claims t) (fill-layout-at t) fill-layout.Post
-fill-layout-same-length t c = search needs
-
-fill-layout-returns-3 : (t : ℕ) → fill-layout-lts.Need-returns-3 (fill-layout-claims t) (fill-layout-at t) fill-layout.Post
-fill-layout-returns-3 t c =
-    let a = fill-layout-entry-before-fill-tuple t (c .before .before) .args in
-    instead
-    (tuple-header (a .tuples) (metaOf (a .metadata)) (a .words .now) (fill-layout-header-of-before-fill-tuple t (c .before .before) .header-of .result) (fill-layout-wide-before-fill-tuple t (c .before .before) .wide .result)
-    (fill-layout-wide2-before-fill-tuple t (c .before .before) .wide2 .result) (take (length (a .words .now) - 1) (drop 1 (a .words .now))) (fill-layout-has-cells-before-fill-tuple t (c .before .before) .has-cells .result) (fill-layout-else1-before-fill-tuple t (c .before .before) .if1 .left)
-    (fill-layout-header-of-before-fill-tuple t (c .before .before) .header-of .ensures) (fill-layout-wide-before-fill-tuple t (c .before .before) .wide .ensures) (fill-layout-wide2-before-fill-tuple t (c .before .before) .wide2 .ensures) (part-rest 1 (a .words .now)) (fill-layout-has-cells-before-fill-tuple t (c .before .before) .has-cells .ensures)
-    (not-false _ (fill-layout-else2-before-fill-tuple t (c .before .before) .if2 .left)) (sym (fill-layout-is-tuple-before-fill-tuple t (c .before .before) .is-tuple .ensures) ∙ c .before .before .before .before .before .before .if3 .taken))
-    (c .before .before .fill-tuple .ensures)
-
-fill-layout-fill-last-requires : (t : ℕ) → fill-layout-lts.Need-fill-last-requires (fill-layout-claims t) (fill-layout-at t) fill-layout.Post
-fill-layout-fill-last-requires t c κs = search needs
-
-fill-layout-same-length-2 : (t : ℕ) → fill-layout-lts.Need-same-length-2 (fill-layout-claims t) (fill-layout-at t) fill-layout.Post
-fill-layout-same-length-2 t c = search needs
-
-fill-layout-returns-4 : (t : ℕ) → fill-layout-lts.Need-returns-4 (fill-layout-claims t) (fill-layout-at t) fill-layout.Post
-fill-layout-returns-4 t c =
-    let a = fill-layout-entry-before-fill-last t (c .before .before) .args in
-    instead
-    (last-header (a .tuples) (metaOf (a .metadata)) (a .words .now) (fill-layout-header-of-before-fill-last t (c .before .before) .header-of .result) (fill-layout-wide-before-fill-last t (c .before .before) .wide .result)
-    (fill-layout-wide2-before-fill-last t (c .before .before) .wide2 .result) (take (length (a .words .now) - 1) (drop 1 (a .words .now))) (fill-layout-has-cells-before-fill-last t (c .before .before) .has-cells .result) (fill-layout-else1-before-fill-last t (c .before .before) .if1 .left)
-    (fill-layout-header-of-before-fill-last t (c .before .before) .header-of .ensures) (fill-layout-wide-before-fill-last t (c .before .before) .wide .ensures) (fill-layout-wide2-before-fill-last t (c .before .before) .wide2 .ensures) (part-rest 1 (a .words .now)) (fill-layout-has-cells-before-fill-last t (c .before .before) .has-cells .ensures)
-    (not-false _ (c .before .before .before .before .before .before .if2 .left)) (sym (c .before .before .before .before .before .is-tuple .ensures) ∙ c .before .before .before .before .if3 .left))
-    (c .before .before .fill-last .ensures)
-
-fill-tuple-returns : (t : ℕ) → fill-tuple-lts.Need-returns (fill-tuple-claims t) (fill-tuple-at t) fill-tuple.Post
-fill-tuple-returns t c =
-    let a = c .before .before .before .before .args in
-    let cells = map unsafeCell (a .cells .now) in
-    let tail = tailMask (a .tuples) (metaOf (a .metadata)) (a .tail .now) in
-    instead (ap (λ (n : ℕ). tupleMask (sizedMask (a .size) cells) (tailMask n (metaOf (a .metadata)) (a .tail .now))) (c .if1 .taken))
-    (tail-none (a .mask .now) (a .size) cells)
-
-fill-tuple-tail-start-requires : (t : ℕ) → fill-tuple-lts.Need-tail-start-requires (fill-tuple-claims t) (fill-tuple-at t) fill-tuple.Post
-fill-tuple-tail-start-requires t c κs = search needs
-
-fill-tuple-returns-2 : (t : ℕ) → fill-tuple-lts.Need-returns-2 (fill-tuple-claims t) (fill-tuple-at t) fill-tuple.Post
-fill-tuple-returns-2 t c =
-    let a = c .before .before .before .before .before .before .args in
-    let cells = map unsafeCell (a .cells .now) in
-    let tail = tailMask (a .tuples) (metaOf (a .metadata)) (a .tail .now) in
-    head-over (a .mask .now) (a .size) cells tail (omega (arith, c .if2 .taken, c .before .tail-start .ensures))
-
-fill-tuple-sub-fill-layout : (t : ℕ) → fill-tuple-lts.Need-sub-fill-layout (fill-tuple-claims t) (fill-tuple-at t) fill-tuple.Post
-fill-tuple-sub-fill-layout t c = search needs
-
-fill-tuple-sub-fill-layout-2 : (t : ℕ) → fill-tuple-lts.Need-sub-fill-layout-2 (fill-tuple-claims t) (fill-tuple-at t) fill-tuple.Post
-fill-tuple-sub-fill-layout-2 t c = search needs
-
-fill-tuple-part-fill-layout-start : (t : ℕ) → fill-tuple-lts.Need-part-fill-layout-start (fill-tuple-claims t) (fill-tuple-at t) fill-tuple.Post
-fill-tuple-part-fill-layout-start t c = search needs
-
-fill-tuple-part-fill-layout-end : (t : ℕ) → fill-tuple-lts.Need-part-fill-layout-end (fill-tuple-claims t) (fill-tuple-at t) fill-tuple.Post
-fill-tuple-part-fill-layout-end t c = search needs
-
-fill-tuple-fill-layout-requires : (t : ℕ) → fill-tuple-lts.Need-fill-layout-requires (fill-tuple-claims t) (fill-tuple-at t) fill-tuple.Post
-fill-tuple-fill-layout-requires t c κs = search needs
-
-fill-tuple-enum-known-after : (t : ℕ) → fill-tuple-lts.Need-enum-known-after (fill-tuple-claims t) (fill-tuple-at t) fill-tuple.Post
-fill-tuple-enum-known-after t c = search needs
-
-fill-tuple-slice-relend-prefix-cells-to-freeze-mask : (t : ℕ) → fill-tuple-lts.Need-slice-relend-prefix-cells-to-freeze-mask (fill-tuple-claims t) (fill-tuple-at t) fill-tuple.Post
-fill-tuple-slice-relend-prefix-cells-to-freeze-mask t c = search needs
-
-fill-tuple-slice-aggregate-cells-to-freeze-mask : (t : ℕ) → fill-tuple-lts.Need-slice-aggregate-cells-to-freeze-mask (fill-tuple-claims t) (fill-tuple-at t) fill-tuple.Post
-fill-tuple-slice-aggregate-cells-to-freeze-mask t c =
-    let a = fill-tuple-entry-before-fill-layout t (c .before .before .before .before .before .before) .args in
-    let e : fill-tuple-tail-start-before-fill-layout t (c .before .before .before .before .before .before) .tail-start .result ≡ a .size = fill-tuple-tail-start-before-fill-layout t (c .before .before .before .before .before .before) .tail-start .ensures in
-    let m = a .mask .now in
-    let after : List ℕ = c .before .before .before .before .before .before .fill-layout .last .1 .1 .1 .0 in
-    sym (ap (λ (n : ℕ). length (take (a .size) (take n m ++ (after ++ drop (length m - n) (drop n m))))) e ∙ replaced-front (a .size) m after (omega (arith, e, fill-tuple-else2-before-fill-layout t (c .before .before .before .before .before .before) .if2 .left)))
-
-fill-tuple-cells-to-freeze-mask-requires : (t : ℕ) → fill-tuple-lts.Need-cells-to-freeze-mask-requires (fill-tuple-claims t) (fill-tuple-at t) fill-tuple.Post
-fill-tuple-cells-to-freeze-mask-requires t c κs = search needs
-
-fill-tuple-add-t20 : (t : ℕ) → fill-tuple-lts.Need-add-t20 (fill-tuple-claims t) (fill-tuple-at t) fill-tuple.Post
-fill-tuple-add-t20 t c =
-    let a = fill-tuple-entry-before-cells-to-freeze-mask t (c .before .before) .args in
-    let cells = map unsafeCell (a .cells .now) in
-    let tail = tailMask (a .tuples) (metaOf (a .metadata)) (a .tail .now) in
-    let m = a .mask .now in
-    let after : List ℕ = fill-tuple-fill-layout-before-cells-to-freeze-mask t (c .before .before) .fill-layout .last .1 .1 .1 .0 in
-    let start = fill-tuple-tail-start-before-cells-to-freeze-mask t (c .before .before) .tail-start .result in
-    let e : start ≡ a .size = fill-tuple-tail-start-before-cells-to-freeze-mask t (c .before .before) .tail-start .ensures in
-    let fits : a .size ≤ length m = omega (arith, e, fill-tuple-else2-before-cells-to-freeze-mask t (c .before .before) .if2 .left) in
-    let f : Fills tail (drop (a .size) m) (Of (c .before .before .before .before .before .after .given .0 .0)) after =
-    instead (tail-mask (a .tuples) (metaOf (a .metadata)) (a .tail .now) (fill-tuple-else1-before-cells-to-freeze-mask t (c .before .before) .if1 .left))
-    (restated (part-rest start m ∙ ap (λ (n : ℕ). drop n m) e) (c .before .before .before .before .before .after .given .1) refl (fill-tuple-fill-layout-before-cells-to-freeze-mask t (c .before .before) .fill-layout .ensures)) in
-    omega (arith, e, length-within tail (drop (a .size) m) after (c .before .before .before .before .before .after .given .0 .0) f, length-drop (a .size) m)
-
-fill-tuple-enum-told : (t : ℕ) → fill-tuple-lts.Need-enum-told (fill-tuple-claims t) (fill-tuple-at t) fill-tuple.Post
-fill-tuple-enum-told t c = search needs
-
-fill-tuple-enum-told-2 : (t : ℕ) → fill-tuple-lts.Need-enum-told-2 (fill-tuple-claims t) (fill-tuple-at t) fill-tuple.Post
-fill-tuple-enum-told-2 t c = search needs
-
-fill-tuple-same-length : (t : ℕ) → fill-tuple-lts.Need-same-length (fill-tuple-claims t) (fill-tuple-at t) fill-tuple.Post
-fill-tuple-same-length t c = search needs
-
-fill-tuple-returns-3 : (t : ℕ) → fill-tuple-lts.Need-returns-3 (fill-tuple-claims t) (fill-tuple-at t) fill-tuple.Post
-fill-tuple-returns-3 t c =
-    let a = fill-tuple-entry-before-cells-to-freeze-mask t (c .before .before) .args in
-    let cells = map unsafeCell (a .cells .now) in
-    let tail = tailMask (a .tuples) (metaOf (a .metadata)) (a .tail .now) in
-    let m = a .mask .now in
-    let after : List ℕ = fill-tuple-fill-layout-before-cells-to-freeze-mask t (c .before .before) .fill-layout .last .1 .1 .1 .0 in
-    let start = fill-tuple-tail-start-before-cells-to-freeze-mask t (c .before .before) .tail-start .result in
-    let e : start ≡ a .size = fill-tuple-tail-start-before-cells-to-freeze-mask t (c .before .before) .tail-start .ensures in
-    let fits : a .size ≤ length m = omega (arith, e, fill-tuple-else2-before-cells-to-freeze-mask t (c .before .before) .if2 .left) in
-    let f : Fills tail (drop (a .size) m) (Of (c .before .before .before .before .before .after .given .0 .0)) after =
-    instead (tail-mask (a .tuples) (metaOf (a .metadata)) (a .tail .now) (fill-tuple-else1-before-cells-to-freeze-mask t (c .before .before) .if1 .left))
-    (restated (part-rest start m ∙ ap (λ (n : ℕ). drop n m) e) (c .before .before .before .before .before .after .given .1) refl (fill-tuple-fill-layout-before-cells-to-freeze-mask t (c .before .before) .fill-layout .ensures)) in
-    let first : c .before .before .cells-to-freeze-mask .last .1 .0 ≡ maskBytes (table (length (take (a .size) (take start m ++ (after ++ drop (length m - start) (drop start m))))) (isFreeze cells)) =
-    c .before .before .cells-to-freeze-mask .ensures in
-    restated refl (ap (λ (n : ℕ). Of (n + (c .before .before .before .before .before .after .given .0 .0))) (sym e))
-    (sym (ap₂ _++_
-    (first ∙ ap (λ (n : ℕ). maskBytes (table n (isFreeze cells))) (ap (λ (n : ℕ). length (take (a .size) (take n m ++ (after ++ drop (length m - n) (drop n m))))) e ∙ replaced-front (a .size) m after fits))
-    (ap (λ (n : ℕ). drop (a .size) (take n m ++ (after ++ drop (length m - n) (drop n m)))) e ∙ replaced-rest (a .size) m after fits)))
-    (tail-filled m (a .size) cells tail fits (c .before .before .before .before .before .after .given .0 .0) after (fill-tuple-entry-before-cells-to-freeze-mask t (c .before .before) .pre .1) f)
-
-fill-tuple-same-length-2 : (t : ℕ) → fill-tuple-lts.Need-same-length-2 (fill-tuple-claims t) (fill-tuple-at t) fill-tuple.Post
-fill-tuple-same-length-2 t c = search needs
-
-fill-tuple-returns-4 : (t : ℕ) → fill-tuple-lts.Need-returns-4 (fill-tuple-claims t) (fill-tuple-at t) fill-tuple.Post
-fill-tuple-returns-4 t c =
-    let a = fill-tuple-entry-before-fill-layout t (c .before .before .before .before) .args in
-    let cells = map unsafeCell (a .cells .now) in
-    let tail = tailMask (a .tuples) (metaOf (a .metadata)) (a .tail .now) in
-    let m = a .mask .now in
-    let after : List ℕ = c .before .before .before .before .fill-layout .last .1 .1 .1 .0 in
-    let start = fill-tuple-tail-start-before-fill-layout t (c .before .before .before .before) .tail-start .result in
-    let e : start ≡ a .size = fill-tuple-tail-start-before-fill-layout t (c .before .before .before .before) .tail-start .ensures in
-    let fits : a .size ≤ length m = omega (arith, e, c .before .before .before .before .before .before .if2 .left) in
-    let f : Fills tail (drop (a .size) m) None after =
-    instead (tail-mask (a .tuples) (metaOf (a .metadata)) (a .tail .now) (fill-tuple-else1-before-fill-layout t (c .before .before .before .before) .if1 .left))
-    (restated (part-rest start m ∙ ap (λ (n : ℕ). drop n m) e) (c .enum-told .given .1) refl (c .before .before .before .before .fill-layout .ensures)) in
-    restated refl refl (sym (ap (λ (n : ℕ). take n m ++ (after ++ drop (length m - n) (drop n m))) e ∙ replaced (a .size) m after fits)) (tail-over m (a .size) cells tail fits after f)
-
-fill-tuple-same-length-3 : (t : ℕ) → fill-tuple-lts.Need-same-length-3 (fill-tuple-claims t) (fill-tuple-at t) fill-tuple.Post
-fill-tuple-same-length-3 t c = search needs
-
-fill-tuple-returns-5 : (t : ℕ) → fill-tuple-lts.Need-returns-5 (fill-tuple-claims t) (fill-tuple-at t) fill-tuple.Post
-fill-tuple-returns-5 t c =
-    let a = fill-tuple-entry-before-fill-layout t (c .before .before .before .before) .args in
-    let cells = map unsafeCell (a .cells .now) in
-    let tail = tailMask (a .tuples) (metaOf (a .metadata)) (a .tail .now) in
-    let m = a .mask .now in
-    let after : List ℕ = c .before .before .before .before .fill-layout .last .1 .1 .1 .0 in
-    let start = fill-tuple-tail-start-before-fill-layout t (c .before .before .before .before) .tail-start .result in
-    let e : start ≡ a .size = fill-tuple-tail-start-before-fill-layout t (c .before .before .before .before) .tail-start .ensures in
-    let fits : a .size ≤ length m = omega (arith, e, c .before .before .before .before .before .before .if2 .left) in
-    let f : Fills tail (drop (a .size) m) WrongLength after =
-    instead (tail-mask (a .tuples) (metaOf (a .metadata)) (a .tail .now) (fill-tuple-else1-before-fill-layout t (c .before .before .before .before) .if1 .left))
-    (restated (part-rest start m ∙ ap (λ (n : ℕ). drop n m) e) (c .enum-told2 .given .1) refl (c .before .before .before .before .fill-layout .ensures)) in
-    absurd (never-wrong tail (drop (a .size) m) after f)
+  -- ---- its needs
+  fill-tuple-returns : from-tuple fill-tuple-lts.Need-returns
+  fill-tuple-returns c =
+      let a = c .before .before .before .before .args in
+      let cells = map unsafeCell (a .cells .now) in
+      instead (ap (λ (n : ℕ). tupleMask (sizedMask (a .size) cells) (tailMask n (metaOf (a .metadata)) (a .tail .now))) (c .if1 .taken))
+      (tail-none (a .mask .now) (a .size) cells)
+
+  fill-tuple-tail-start-requires : from-tuple fill-tuple-lts.Need-tail-start-requires
+  fill-tuple-tail-start-requires c κs = search needs
+
+  fill-tuple-returns-2 : from-tuple fill-tuple-lts.Need-returns-2
+  fill-tuple-returns-2 c =
+      let a = fill-tuple-entry (c .before) .args in
+      head-over (a .mask .now) (a .size) (map unsafeCell (a .cells .now)) (tailMask (a .tuples) (metaOf (a .metadata)) (a .tail .now)) (omega (arith, c .if2 .taken, c .before .tail-start .ensures))
+
+  fill-tuple-sub-fill-layout : from-tuple fill-tuple-lts.Need-sub-fill-layout
+  fill-tuple-sub-fill-layout c = search needs
+
+  fill-tuple-sub-fill-layout-2 : from-tuple fill-tuple-lts.Need-sub-fill-layout-2
+  fill-tuple-sub-fill-layout-2 c = search needs
+
+  fill-tuple-part-fill-layout-start : from-tuple fill-tuple-lts.Need-part-fill-layout-start
+  fill-tuple-part-fill-layout-start c = search needs
+
+  fill-tuple-part-fill-layout-end : from-tuple fill-tuple-lts.Need-part-fill-layout-end
+  fill-tuple-part-fill-layout-end c = search needs
+
+  fill-tuple-fill-layout-requires : from-tuple fill-tuple-lts.Need-fill-layout-requires
+  fill-tuple-fill-layout-requires c κs = search needs
+
+  -- what is known behind the tail's fill
+  module _ (c : from-tuple fill-tuple-lts.After-fill-layout) where
+    abbrev start : ℕ
+    start = tail-starts c .tail-start .result
+
+    abbrev size : ℕ
+    size = fill-tuple-entry (tail-starts c) .args .size
+
+    abbrev mask : List ℕ
+    mask = fill-tuple-entry (tail-starts c) .args .mask .now
+
+    abbrev tail-mask-of : Option FreezeMask
+    tail-mask-of = let a = fill-tuple-entry (tail-starts c) .args in tailMask (a .tuples) (metaOf (a .metadata)) (a .tail .now)
+
+    abbrev cells-of-head : List UnsafeCell
+    cells-of-head = map unsafeCell (fill-tuple-entry (tail-starts c) .args .cells .now)
+
+    -- the part behind the head, and the whole of the buffer
+    abbrev part-after : List ℕ
+    part-after = c .fill-layout .last .1 .1 .1 .0
+
+    abbrev whole-after : ℕ → List ℕ
+    whole-after n = take n mask ++ (part-after ++ drop (length mask - n) (drop n mask))
+
+    is-size : start ≡ size
+    is-size = tail-starts c .tail-start .ensures
+
+    head-fits : size ≤ length mask
+    head-fits = omega (arith, is-size, roomy c .if2 .left)
+
+    tail-fills : {r : Mask} → c .fill-layout .result ≡ r → Fills tail-mask-of (drop size mask) r part-after
+    tail-fills e =
+        let a = fill-tuple-entry (tail-starts c) .args in
+        instead (tail-mask (a .tuples) (metaOf (a .metadata)) (a .tail .now) (allowed (tail-starts c) .if1 .left))
+        (restated (part-rest start mask ∙ ap (λ (n : ℕ). drop n mask) is-size) e refl (c .fill-layout .ensures))
+
+    -- the front of the buffer is as long as the head
+    front-length : length (take size (whole-after start)) ≡ size
+    front-length = ap (λ (n : ℕ). length (take size (whole-after n))) is-size ∙ replaced-front size mask part-after head-fits
+
+  fill-tuple-enum-known-after : from-tuple fill-tuple-lts.Need-enum-known-after
+  fill-tuple-enum-known-after c = search needs
+
+  fill-tuple-slice-relend-prefix-cells-to-freeze-mask : from-tuple fill-tuple-lts.Need-slice-relend-prefix-cells-to-freeze-mask
+  fill-tuple-slice-relend-prefix-cells-to-freeze-mask c = search needs
+
+  fill-tuple-slice-aggregate-cells-to-freeze-mask : from-tuple fill-tuple-lts.Need-slice-aggregate-cells-to-freeze-mask
+  fill-tuple-slice-aggregate-cells-to-freeze-mask c = sym (front-length (tail-filled-before-after (c .before .before)))
+
+  fill-tuple-cells-to-freeze-mask-requires : from-tuple fill-tuple-lts.Need-cells-to-freeze-mask-requires
+  fill-tuple-cells-to-freeze-mask-requires c κs = search needs
+
+  fill-tuple-add-t20 : from-tuple fill-tuple-lts.Need-add-t20
+  fill-tuple-add-t20 c =
+      let known = answered (c .before .before) in
+      let tail = tail-filled-before-after known in
+      omega (arith, is-size tail, head-fits tail, length-within (tail-mask-of tail) (drop (size tail) (mask tail)) (part-after tail) (known .after .given .0 .0) (tail-fills tail (known .after .given .1)), length-drop (size tail) (mask tail))
+
+  fill-tuple-enum-told : from-tuple fill-tuple-lts.Need-enum-told
+  fill-tuple-enum-told c = search needs
+
+  fill-tuple-enum-told-2 : from-tuple fill-tuple-lts.Need-enum-told-2
+  fill-tuple-enum-told-2 c = search needs
+
+  fill-tuple-same-length : from-tuple fill-tuple-lts.Need-same-length
+  fill-tuple-same-length c = search needs
+
+  fill-tuple-returns-3 : from-tuple fill-tuple-lts.Need-returns-3
+  fill-tuple-returns-3 c =
+      let known = answered (c .before .before) in
+      let tail = tail-filled-before-after known in
+      let len = known .after .given .0 .0 in
+      let first : c .before .before .cells-to-freeze-mask .last .1 .0 ≡ maskBytes (table (length (take (size tail) (whole-after tail (start tail)))) (isFreeze (cells-of-head tail))) =
+      c .before .before .cells-to-freeze-mask .ensures in
+      restated refl (ap (λ (n : ℕ). Of (n + len)) (sym (is-size tail)))
+      (sym (ap₂ _++_
+      (first ∙ ap (λ (n : ℕ). maskBytes (table n (isFreeze (cells-of-head tail)))) (front-length tail))
+      (ap (λ (n : ℕ). drop (size tail) (whole-after tail n)) (is-size tail) ∙ replaced-rest (size tail) (mask tail) (part-after tail) (head-fits tail))))
+      (tail-filled (mask tail) (size tail) (cells-of-head tail) (tail-mask-of tail) (head-fits tail) len (part-after tail) (fill-tuple-entry (tail-starts tail) .pre .1) (tail-fills tail (known .after .given .1)))
+
+  fill-tuple-same-length-2 : from-tuple fill-tuple-lts.Need-same-length-2
+  fill-tuple-same-length-2 c = search needs
+
+  fill-tuple-returns-4 : from-tuple fill-tuple-lts.Need-returns-4
+  fill-tuple-returns-4 c =
+      let tail = c .before .before .before .before in
+      restated refl refl (sym (ap (whole-after tail) (is-size tail) ∙ replaced (size tail) (mask tail) (part-after tail) (head-fits tail)))
+      (tail-over (mask tail) (size tail) (cells-of-head tail) (tail-mask-of tail) (head-fits tail) (part-after tail) (tail-fills tail (c .enum-told .given .1)))
+
+  fill-tuple-same-length-3 : from-tuple fill-tuple-lts.Need-same-length-3
+  fill-tuple-same-length-3 c = search needs
+
+  fill-tuple-returns-5 : from-tuple fill-tuple-lts.Need-returns-5
+  fill-tuple-returns-5 c =
+      let tail = c .before .before .before .before in
+      absurd (never-wrong (tail-mask-of tail) (drop (size tail) (mask tail)) (part-after tail) (tail-fills tail (c .enum-told2 .given .1)))
 
 pub +fill-layout+fill-tuple-spec : {M : Type 1} → statement M
 +fill-layout+fill-tuple-spec = close μ-fill-layout μ-fill-tuple (λ t. fill-layout-lts.spec (fill-layout-claims t)
@@ -424,8 +350,8 @@ pub +fill-layout+fill-tuple-spec : {M : Type 1} → statement M
     (fill-layout-returns t)
     (fill-layout-shared-slice-read-header-of t)
     (fill-layout-header-of-requires t)
-    (fill-layout-wide-requires t)
-    (fill-layout-wide-requires-2 t)
+    (fill-layout-cast-cells t)
+    (fill-layout-cast-size t)
     (fill-layout-sub-rest t)
     (fill-layout-part-rest-start t)
     (fill-layout-part-rest-end t)

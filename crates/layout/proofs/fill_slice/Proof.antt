@@ -8,9 +8,12 @@ use Rattle.layout.proofs.Fill.{instead}
 use Rattle.layout.proofs.fill_slice.Statement.{statement}
 use Rattle.layout.proofs.fill_slice.Tie as tie
 
--- ---- states by name: `g-before-f` is the state behind g, as it is known behind f; the first one is `entry`
-abbrev entry-before-fill-elements : tie.After-fill-elements → tie.Start
-entry-before-fill-elements c = let c1 = c .before .before .before .before .before .before in c1 .before
+-- the element count is known, as it is known behind the fill; and the entry
+abbrev counted : tie.After-fill-elements → tie.After-metadata
+counted c = c .before .before .before
+
+abbrev entry : tie.After-metadata → tie.Start
+entry c = c .before .before .before .before
 
 enum-told : tie.Need-enum-told
 enum-told c = search needs
@@ -31,7 +34,10 @@ same-length : tie.Need-same-length
 same-length c = search needs
 
 returns-2 : tie.Need-returns-2
-returns-2 c = instead (ap (λ m. sliceMask (metaOf m) (entry-before-fill-elements (c .before .before) .args .size) (map unsafeCell (entry-before-fill-elements (c .before .before) .args .cells .now))) (c .before .before .before .before .before .metadata .given .1)) (c .before .before .fill-elements .ensures)
+returns-2 c =
+    let known = counted (c .before .before) in
+    let a = entry known .args in
+    instead (ap (λ m. sliceMask (metaOf m) (a .size) (map unsafeCell (a .cells .now))) (known .metadata .given .1)) (c .before .before .fill-elements .ensures)
 
 returns-3 : tie.Need-returns-3
 returns-3 c = search needs
