@@ -3,6 +3,7 @@ use mathlib.Core.Bool.{true}
 use mathlib.Core.Path.{_≡_, sym, _∙_}
 use borrow.Author.Tests.{not-true, not-false}
 use borrow.Author.Needs.{needs}
+use Rattle.tables.specs.Encoding.{Buffers}
 use Rattle.tables.specs.Held.{buffers}
 use Rattle.tables.specs.Decoding.{view}
 use Rattle.library_frames.specs.EndCall.{isLentWithArea}
@@ -11,24 +12,28 @@ use Rattle.parts.proofs.Lent.{holds-marked}
 use Rattle.library_frames.proofs.calls.end_call_list.Statement.{statement}
 use Rattle.library_frames.proofs.calls.end_call_list.Tie as tie
 
--- ---- states by name: `g-before-f` is the state behind g, as it is known behind f; the first one is `entry`
-abbrev entry-before-is-lent-with-area : tie.After-is-lent-with-area → tie.Start
-entry-before-is-lent-with-area c = let c1 = c .before .before .before .before .before .before in c1 .before .before .before .before
+-- ---- states by name
+-- the entry, as it is known behind the test of what is lent
+abbrev entry-before-asking : tie.After-slice-known3 → tie.Start
+entry-before-asking c = c .before .before .before .before .before .before
 
-abbrev entry-before-then1 : tie.Then1 → tie.Start
-entry-before-then1 c = entry-before-is-lent-with-area (c .before)
+abbrev entry : tie.After-is-lent-with-area → tie.Start
+entry c = entry-before-asking (c .before .before .before .before)
 
-abbrev entry-before-else1 : tie.Else1 → tie.Start
-entry-before-else1 c = entry-before-is-lent-with-area (c .before)
+abbrev memory : tie.Start → Buffers
+memory s = buffers (s .args .allocs .now) (s .args .parents .now) (s .args .protectors .now) (s .args .words .now) (s .args .codes .now)
 
-abbrev entry-before-end-call-held : tie.After-end-call-held → tie.Start
-entry-before-end-call-held c = entry-before-is-lent-with-area (c .before .before .before .before .before)
+-- it is passed, as it is known behind the end call
+abbrev passed : tie.After-end-call-held → tie.Else1
+passed c = c .before .before .before .before
 
-abbrev is-lent-with-area-before-end-call-held : tie.After-end-call-held → tie.After-is-lent-with-area
-is-lent-with-area-before-end-call-held c = c .before .before .before .before .before
+-- the end call, as it is known behind all that it leaves
+abbrev ended : tie.After-slice-known6 → tie.After-end-call-held
+ended c = c .before .before .before .before .before .before
 
-abbrev else1-before-end-call-held : tie.After-end-call-held → tie.Else1
-else1-before-end-call-held c = c .before .before .before .before
+-- what is lent is not refused with 1
+fine : (c : tie.Else1) → let s = entry (c .before) in isLentWithArea (s .args .len) (s .args .count) (s .args .area .now) (memory s) ≡ true
+fine c = sym (c .before .is-lent-with-area .ensures) ∙ not-false _ (c .if1 .left)
 
 is-lent-with-area-requires : tie.Need-is-lent-with-area-requires
 is-lent-with-area-requires c κs = search needs
@@ -43,17 +48,17 @@ same-length-3 : tie.Need-same-length-3
 same-length-3 c = search needs
 
 returns : tie.Need-returns
-returns c = let s = entry-before-then1 c in
-    not-lent (s .args .len) (s .args .count) (s .args .area .now) (buffers (s .args .allocs .now) (s .args .parents .now) (s .args .protectors .now) (s .args .words .now) (s .args .codes .now)) (sym (c .before .is-lent-with-area .ensures) ∙ not-true _ (c .if1 .taken)) _
+returns c =
+    let s = entry (c .before) in
+    not-lent (s .args .len) (s .args .count) (s .args .area .now) (memory s) (sym (c .before .is-lent-with-area .ensures) ∙ not-true _ (c .if1 .taken)) _
 
 end-call-held-requires : tie.Need-end-call-held-requires
-end-call-held-requires c κs = let s = entry-before-else1 (c .before .before .before) in
-    let b = buffers (s .args .allocs .now) (s .args .parents .now) (s .args .protectors .now) (s .args .words .now) (s .args .codes .now) in
-    let len = s .args .len in
-    let count = s .args .count in
-    let area = s .args .area .now in
-    let e : isLentWithArea len count area b ≡ true = sym (c .before .before .before .before .is-lent-with-area .ensures) ∙ not-false _ (c .before .before .before .if1 .left) in
-    ((view b, holds-marked (memory-lent len count area b e)), (count-lent len count area b e, area-lent len count area b e))
+end-call-held-requires c κs =
+    let lent = c .before .before .before in
+    let s = entry (lent .before) in
+    let b = memory s in
+    let t = s .args in
+    ((view b, holds-marked (memory-lent (t .len) (t .count) (t .area .now) b (fine lent))), (count-lent (t .len) (t .count) (t .area .now) b (fine lent), area-lent (t .len) (t .count) (t .area .now) b (fine lent)))
 
 same-length-4 : tie.Need-same-length-4
 same-length-4 c = search needs
@@ -65,14 +70,13 @@ same-length-6 : tie.Need-same-length-6
 same-length-6 c = search needs
 
 returns-2 : tie.Need-returns-2
-returns-2 c = let s = entry-before-end-call-held (c .before .before .before .before .before .before) in
-    let b = buffers (s .args .allocs .now) (s .args .parents .now) (s .args .protectors .now) (s .args .words .now) (s .args .codes .now) in
-    let len = s .args .len in
-    let count = s .args .count in
-    let area = s .args .area .now in
-    let e : isLentWithArea len count area b ≡ true = sym (is-lent-with-area-before-end-call-held (c .before .before .before .before .before .before) .is-lent-with-area .ensures) ∙ not-false _ (else1-before-end-call-held (c .before .before .before .before .before .before) .if1 .left) in
-    let k = c .before .before .before .before .before .before .end-call-held .ensures in
-    ended-lent len count area b e (k .0 (view b) (holds-marked (memory-lent len count area b e))) (k .1)
+returns-2 c =
+    let lent = passed (ended c) in
+    let s = entry (lent .before) in
+    let b = memory s in
+    let t = s .args in
+    let left = ended c .end-call-held .ensures in
+    ended-lent (t .len) (t .count) (t .area .now) b (fine lent) (left .0 (view b) (holds-marked (memory-lent (t .len) (t .count) (t .area .now) b (fine lent)))) (left .1)
 
 pub end-call-list-spec : {M : Type 1} → statement M
 end-call-list-spec =

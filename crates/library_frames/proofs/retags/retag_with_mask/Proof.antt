@@ -3,50 +3,42 @@ use Rattle.library_frames.proofs.Masks.{blank, blank-length, performed-
 use mathlib.Core.Path.{sym, _∙_}
 use native.Mathlib.Omega.{arith}
 use Rattle.pointer.specs.Pointer.{thinPointerOf}
-use Rattle.layout.proofs.Answers.{answers-of, answers-none, answers-right}
+use Rattle.layout.specs.Filled.{afterwards}
+use Rattle.layout.proofs.Answers.{HasMask, answers-of, answers-none, answers-right}
 use borrow.Author.Needs.{needs}
 use Rattle.library_frames.proofs.retags.retag_with_mask.Statement.{statement}
 use Rattle.library_frames.proofs.retags.retag_with_mask.Tie as tie
 
--- ---- states by name: `g-before-f` is the state behind g, as it is known behind f; the first one is `entry`
-abbrev entry-before-freeze-mask : tie.After-freeze-mask → tie.Start
-entry-before-freeze-mask c = let c1 = c .before .before .before .before .before .before in c1 .before
+-- ---- states by name
+-- the entry, as it is known behind the fill of the mask
+abbrev entry-before-mask : tie.After-mask → tie.Start
+entry-before-mask c = c .before .before .before .before .before .before
 
-abbrev entry-before-reborrow-settings : tie.After-reborrow-settings → tie.Start
-entry-before-reborrow-settings c = entry-before-freeze-mask (c .before .before .before .before .before)
+abbrev entry : tie.After-freeze-mask → tie.Start
+entry c = entry-before-mask (c .before)
 
-abbrev found-before-reborrow-settings : tie.After-reborrow-settings → tie.After-found
-found-before-reborrow-settings c = c .before .before
+-- the fill, where it answers a mask
+abbrev filled : tie.After-found → tie.After-freeze-mask
+filled c = c .before .before .before
 
-abbrev freeze-mask-before-reborrow-settings : tie.After-reborrow-settings → tie.After-freeze-mask
-freeze-mask-before-reborrow-settings c = c .before .before .before .before .before
+-- it answers a mask, as it is known behind the settings
+abbrev found : tie.After-reborrow-settings → tie.After-found
+found c = c .before .before
 
-abbrev entry-before-reborrow : tie.After-reborrow → tie.Start
-entry-before-reborrow c = entry-before-reborrow-settings (c .before .before .before .before .before .before)
+-- the settings, as they are known where the mask is lent
+abbrev settings : tie.After-mask3 → tie.After-reborrow-settings
+settings c = c .before .before .before .before .before
 
-abbrev entry-before-mask4 : tie.After-mask4 → tie.Start
-entry-before-mask4 c = let c1 = c .before .before .before .before .before .before in entry-before-reborrow (c1 .before .before .before)
+-- the retag, as it is known behind all that it leaves
+abbrev reborrowed-before-protectors : tie.After-slice-known6 → tie.After-reborrow
+reborrowed-before-protectors c = c .before .before .before .before
 
-abbrev found-before-reborrow : tie.After-reborrow → tie.After-found
-found-before-reborrow c = found-before-reborrow-settings (c .before .before .before .before .before .before)
+abbrev reborrowed : tie.After-mask4 → tie.After-reborrow
+reborrowed c = reborrowed-before-protectors (c .before .before .before .before .before)
 
-abbrev found-before-mask4 : tie.After-mask4 → tie.After-found
-found-before-mask4 c = let c1 = c .before .before .before .before .before .before in found-before-reborrow (c1 .before .before .before)
-
-abbrev freeze-mask-before-reborrow : tie.After-reborrow → tie.After-freeze-mask
-freeze-mask-before-reborrow c = freeze-mask-before-reborrow-settings (c .before .before .before .before .before .before)
-
-abbrev freeze-mask-before-mask4 : tie.After-mask4 → tie.After-freeze-mask
-freeze-mask-before-mask4 c = let c1 = c .before .before .before .before .before .before in freeze-mask-before-reborrow (c1 .before .before .before)
-
-abbrev reborrow-settings-before-reborrow : tie.After-reborrow → tie.After-reborrow-settings
-reborrow-settings-before-reborrow c = c .before .before .before .before .before .before
-
-abbrev reborrow-settings-before-mask4 : tie.After-mask4 → tie.After-reborrow-settings
-reborrow-settings-before-mask4 c = let c1 = c .before .before .before .before .before .before in reborrow-settings-before-reborrow (c1 .before .before .before)
-
-abbrev reborrow-before-mask4 : tie.After-mask4 → tie.After-reborrow
-reborrow-before-mask4 c = let c1 = c .before .before .before .before .before .before in c1 .before .before .before
+-- the layout has a mask of the length that is answered
+has-mask : (c : tie.After-found) → let layout = entry (filled c) .args .layout .now in HasMask layout blank (afterwards layout blank) (c .found .given .0 .0)
+has-mask c = answers-of (entry (filled c) .args .layout .now) blank blank-length _ (sym (c .found .given .1) ∙ filled c .freeze-mask .ensures .0)
 
 slice-aggregate-freeze-mask : tie.Need-slice-aggregate-freeze-mask
 slice-aggregate-freeze-mask c = search needs
@@ -65,9 +57,8 @@ slice-aggregate-reborrow c = search needs
 
 reborrow-requires : tie.Need-reborrow-requires
 reborrow-requires c κs =
-    let t = entry-before-reborrow-settings (c .before .before .before .before .before) in
-    let h = answers-of (t .args .layout .now) blank blank-length _ (sym (found-before-reborrow-settings (c .before .before .before .before .before) .found .given .1) ∙ freeze-mask-before-reborrow-settings (c .before .before .before .before .before) .freeze-mask .ensures .0) in
-    (t .pre, omega (arith, h .bound, freeze-mask-before-reborrow-settings (c .before .before .before .before .before) .freeze-mask .kept .1 .0, blank-length))
+    let mask = found (settings c) in
+    (entry (filled mask) .pre, omega (arith, has-mask mask .bound, filled mask .freeze-mask .kept .1 .0, blank-length))
 
 enum-told : tie.Need-enum-told
 enum-told c = search needs
@@ -89,23 +80,25 @@ same-length-4 c = search needs
 
 returns : tie.Need-returns
 returns c =
-    let t = entry-before-mask4 c .args in
-    let h = answers-of (t .layout .now) blank blank-length _ (sym (found-before-mask4 c .found .given .1) ∙ freeze-mask-before-mask4 c .freeze-mask .ensures .0) in
+    let made = reborrowed c in
+    let set = settings (made .before) in
+    let mask = found set in
+    let t = entry (filled mask) .args in
     λ s held count.
-    performed-mask (t .settings) (thinPointerOf (t .p)) (t .layout .now) s (reborrow-settings-before-mask4 c .reborrow-settings .result) (reborrow-settings-before-mask4 c .reborrow-settings .ensures) blank _ h _ (freeze-mask-before-mask4 c .freeze-mask .ensures .1)
-    (reborrow-before-mask4 c .reborrow .ensures .0 s 0 held count)
+    performed-mask (t .settings) (thinPointerOf (t .p)) (t .layout .now) s (set .reborrow-settings .result) (set .reborrow-settings .ensures) blank _ (has-mask mask) _ (filled mask .freeze-mask .ensures .1)
+    (made .reborrow .ensures .0 s 0 held count)
 
 returns-2 : tie.Need-returns-2
 returns-2 c =
-    let t = entry-before-freeze-mask (c .before .before .before) .args in
+    let tried = c .before .before .before in
+    let t = entry tried .args in
     λ s held count.
-    performed-none (t .settings) (thinPointerOf (t .p)) (t .layout .now) s
-    (answers-none (t .layout .now) blank blank-length (sym (c .enum-told .given .1) ∙ c .before .before .before .freeze-mask .ensures .0)) (held .trees)
+    performed-none (t .settings) (thinPointerOf (t .p)) (t .layout .now) s (answers-none (t .layout .now) blank blank-length (sym (c .enum-told .given .1) ∙ tried .freeze-mask .ensures .0)) (held .trees)
 
 returns-3 : tie.Need-returns-3
 returns-3 c =
-    let t = entry-before-freeze-mask (c .before .before .before) .args in
-    λ s held count. absurd (answers-right (t .layout .now) blank blank-length (sym (c .«enum-told2» .given .1) ∙ c .before .before .before .freeze-mask .ensures .0))
+    let tried = c .before .before .before in
+    λ s held count. absurd (answers-right (entry tried .args .layout .now) blank blank-length (sym (c .«enum-told2» .given .1) ∙ tried .freeze-mask .ensures .0))
 
 pub retag-with-mask-spec : {M : Type 1} → statement M
 retag-with-mask-spec =
