@@ -1,11 +1,38 @@
--- 2 for what only C hands over, after 1; or the outcome of `retag`. The answer is in numbers.
+-- 2 for what only C hands over, after 1; or the outcome of `retag_list`. The answer is in numbers.
 use mathlib.Core.Path.{sym, ap₂, _∙_}
 use mathlib.Core.Bool.{_||_}
+use Rattle.tables.specs.Encoding.{Buffers}
 use Rattle.tables.specs.Held.{buffers}
 use Rattle.tree_borrows.proofs.Replies.{bad-retag, good-retag}
 use borrow.Author.Needs.{needs}
 use Rattle.tree_borrows.proofs.retag_reply.Statement.{statement}
 use Rattle.tree_borrows.proofs.retag_reply.Tie as tie
+
+-- ---- states by name
+-- the entry, as it is known behind the tests
+abbrev entry-before-testing : tie.After-shared-slice-known2 → tie.Start
+entry-before-testing c = c .before .before .before .before .before .before
+
+abbrev entry : tie.After-bad-flags → tie.Start
+entry c = entry-before-testing (c .before .before)
+
+abbrev memory : tie.Start → Buffers
+memory s = buffers (s .args .allocs .now) (s .args .parents .now) (s .args .protectors .now) (s .args .words .now) (s .args .codes .now)
+
+-- something falls under 2, as it is known behind the answer
+abbrev refused : tie.After-retag-made → tie.Then1
+refused c = c .before .before .before .before .before .before
+
+-- the settings are read, as it is known behind the retag
+abbrev read : tie.After-retag-list → tie.After-retag-settings
+read c = c .before .before .before .before .before
+
+-- the retag, as it is known behind all that it leaves and the answer
+abbrev retagged-before-protectors : tie.After-slice-known6 → tie.After-retag-list
+retagged-before-protectors c = c .before .before .before .before
+
+abbrev retagged : tie.After-retag-made2 → tie.After-retag-list
+retagged c = retagged-before-protectors (c .before .before .before .before .before)
 
 bad-pointer-requires : tie.Need-bad-pointer-requires
 bad-pointer-requires c κs = search needs
@@ -33,11 +60,9 @@ same-length-4 c = search needs
 
 returns : tie.Need-returns
 returns c = λ places whole.
-    let test = c .before .before .before .before .before .before in
-    let lent = test .before .before .before in
-    let s = lent .before .before .before .before .before .before in
-    bad-retag (s .args .settings) (s .args .p) (s .args .layout .now) (s .args .len) (s .args .count)
-    (buffers (s .args .allocs .now) (s .args .parents .now) (s .args .protectors .now) (s .args .words .now) (s .args .codes .now)) _ (c .retag-made .ensures) places whole
+    let test = refused c in
+    let s = entry (test .before) in
+    bad-retag (s .args .settings) (s .args .p) (s .args .layout .now) (s .args .len) (s .args .count) (memory s) _ (c .retag-made .ensures) places whole
     (sym (ap₂ _||_ (test .before .before .bad-pointer .ensures) (test .before .bad-flags .ensures)) ∙ test .if1 .taken) (c .before .malformed .ensures)
 
 thin-pointer-requires : tie.Need-thin-pointer-requires
@@ -66,16 +91,13 @@ same-length-8 c = search needs
 
 returns-2 : tie.Need-returns-2
 returns-2 c = λ places whole.
-    let kept = c .before .before .before .before in
-    let at = kept .before .before .before .before .before in
-    let read = at .before .before .before .before .before in
-    let test = read .before .before in
-    let lent = test .before .before .before in
-    let s = lent .before .before .before .before .before .before in
-    good-retag (s .args .settings) (s .args .p) (s .args .layout .now) (s .args .len) (s .args .count)
-    (buffers (s .args .allocs .now) (s .args .parents .now) (s .args .protectors .now) (s .args .words .now) (s .args .codes .now)) (at .retag-list .result) (c .retag-made2 .ensures) places whole
+    let at = retagged c in
+    let set = read at in
+    let test = set .before .before in
+    let s = entry (test .before) in
+    good-retag (s .args .settings) (s .args .p) (s .args .layout .now) (s .args .len) (s .args .count) (memory s) (at .retag-list .result) (c .retag-made2 .ensures) places whole
     (sym (ap₂ _||_ (test .before .before .bad-pointer .ensures) (test .before .bad-flags .ensures)) ∙ test .if1 .left)
-    (rw (← read .before .thin-pointer .ensures, ← read .retag-settings .ensures) (at .retag-list .ensures places whole))
+    (rw (← set .before .thin-pointer .ensures, ← set .retag-settings .ensures) (at .retag-list .ensures places whole))
 
 pub retag-reply-spec : {M : Type 1} → statement M
 retag-reply-spec =

@@ -6,6 +6,34 @@ use Rattle.run.proofs.Turns.{not-lent, list-ran}
 use Rattle.run.proofs.list.run_list.Statement.{statement}
 use Rattle.run.proofs.list.run_list.Tie as tie
 
+-- ---- states by name
+-- the lengths are right, as it is known where the buffers are lent to be emptied
+abbrev measured : tie.After-clear-arg6 → tie.Else1
+measured c = c .before .before .before .before .before .before
+
+-- the buffers are empty, as it is known where they are lent for the list
+abbrev cleared-before-words : tie.After-slice-known10 → tie.After-clear
+cleared-before-words c = c .before .before .before .before .before .before
+
+abbrev cleared-before-frames : tie.After-slice-known12 → tie.After-clear
+cleared-before-frames c = cleared-before-words (c .before .before .before .before)
+
+abbrev cleared-before-asking : tie.After-run-cleared-arg → tie.After-clear
+cleared-before-asking c = cleared-before-frames (c .before .before .before)
+
+abbrev cleared : tie.After-run-cleared-arg7 → tie.After-clear
+cleared c = cleared-before-asking (c .before .before .before .before .before .before)
+
+-- the list, as it is known behind all that it leaves
+abbrev ran-before-words : tie.After-slice-known16 → tie.After-run-cleared
+ran-before-words c = c .before .before .before .before .before .before
+
+abbrev ran-before-frames : tie.After-slice-known18 → tie.After-run-cleared
+ran-before-frames c = ran-before-words (c .before .before .before .before)
+
+abbrev ran : tie.After-slice-known20 → tie.After-run-cleared
+ran c = ran-before-frames (c .before .before .before .before)
+
 have-lengths-requires : tie.Need-have-lengths-requires
 have-lengths-requires c κs = search needs
 
@@ -31,9 +59,7 @@ returns : tie.Need-returns
 returns c = not-lent (sym (c .before .have-lengths .ensures) ∙ not-true _ (c .if1 .taken))
 
 clear-requires : tie.Need-clear-requires
-clear-requires c κs =
-    let tested = c .before .before .before .before .before .before in
-    sym (tested .before .have-lengths .ensures) ∙ not-false _ (tested .if1 .left)
+clear-requires c κs = sym (measured c .before .have-lengths .ensures) ∙ not-false _ (measured c .if1 .left)
 
 run-cleared-requires : tie.Need-run-cleared-requires
 run-cleared-requires c κs = search needs
@@ -61,15 +87,8 @@ same-length-13 c = search needs
 
 returns-2 : tie.Need-returns-2
 returns-2 c =
-    let kept = c .before .before .before .before .before .before in
-    let ended = kept .before .before .before .before .before .before in
-    let ran = ended .before .before in
-    let cleared = ran .before .before .before .before .before .before in
-    let emptied = cleared .before .before .before .before .before .before in
-    let lent = emptied .before .before .before .before .before .before in
-    let given = lent .before .before .before .before .before .before in
-    let tested = given .before .before .before in
-    list-ran (sym (tested .before .have-lengths .ensures) ∙ not-false _ (tested .if1 .left)) (ran .run-cleared .ensures)
+    let lengths = measured (cleared (ran c .before) .before) in
+    list-ran (sym (lengths .before .have-lengths .ensures) ∙ not-false _ (lengths .if1 .left)) (ran c .run-cleared .ensures)
 
 pub run-list-spec : {M : Type 1} → statement M
 run-list-spec =

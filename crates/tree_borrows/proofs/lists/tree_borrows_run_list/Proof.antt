@@ -4,6 +4,16 @@ use Rattle.tree_borrows.proofs.Replies.{list-replied}
 use Rattle.tree_borrows.proofs.lists.tree_borrows_run_list.Statement.{statement}
 use Rattle.tree_borrows.proofs.lists.tree_borrows_run_list.Tie as tie
 
+-- the list, as it is known behind all that it leaves and the answer
+abbrev ran-before-words : tie.After-slice-known10 → tie.After-run-list
+ran-before-words c = c .before .before .before .before .before .before
+
+abbrev ran-before-frames : tie.After-slice-known12 → tie.After-run-list
+ran-before-frames c = ran-before-words (c .before .before .before .before)
+
+abbrev ran : tie.After-list-reply → tie.After-run-list
+ran c = ran-before-frames (c .before .before .before .before .before)
+
 run-list-requires : tie.Need-run-list-requires
 run-list-requires c κs = search needs
 
@@ -32,11 +42,7 @@ same-length-7 : tie.Need-same-length-7
 same-length-7 c = search needs
 
 returns : tie.Need-returns
-returns c =
-    let kept = c .before .before .before .before .before in
-    let lent = kept .before .before .before .before .before in
-    let ran = lent .before .before .before .before .before in
-    list-replied (c .list-reply .ensures) (ran .run-list .ensures)
+returns c = list-replied (c .list-reply .ensures) (ran c .run-list .ensures)
 
 pub tree-borrows-run-list-spec : {M : Type 1} → statement M
 tree-borrows-run-list-spec =

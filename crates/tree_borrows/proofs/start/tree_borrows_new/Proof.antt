@@ -4,6 +4,13 @@ use borrow.Author.Needs.{needs}
 use Rattle.tree_borrows.proofs.start.tree_borrows_new.Statement.{statement}
 use Rattle.tree_borrows.proofs.start.tree_borrows_new.Tie as tie
 
+-- the empty memory, as it is known behind all that it leaves and the answer
+abbrev made-before-words : tie.After-slice-known8 → tie.After-new
+made-before-words c = c .before .before .before .before .before .before
+
+abbrev made : tie.After-reply-of → tie.After-new
+made c = made-before-words (c .before .before .before .before .before)
+
 new-requires : tie.Need-new-requires
 new-requires c κs = search needs
 
@@ -26,10 +33,7 @@ same-length-5 : tie.Need-same-length-5
 same-length-5 c = search needs
 
 returns : tie.Need-returns
-returns c =
-    let kept = c .before .before .before .before .before in
-    let made = kept .before .before .before .before .before .before in
-    in-numbers (c .reply-of .ensures) (made .new .ensures)
+returns c = in-numbers (c .reply-of .ensures) (made c .new .ensures)
 
 pub tree-borrows-new-spec : {M : Type 1} → statement M
 tree-borrows-new-spec =
