@@ -1,12 +1,13 @@
 -- A list, turn by turn: what is left to do from the state that is held comes to what the whole list does from the empty one.
 use Prim.Native.Nat.{ℕ, _+_, _-_, _≤_, _<_}
+use mathlib.Core.Logic.{_⊎_, inl, inr}
 use mathlib.Core.Path.{_≡_, refl, sym, ap, subst, _∙_}
 use mathlib.Core.Bool.{true, false}
 use mathlib.Core.List.{List, [], _∷_, _++_, append-nil, append-assoc}
 use native.Mathlib.Numerals.{add-one}
 use native.Mathlib.Omega.{arith}
 use lib.ListN.{length, getD, take, drop, length-drop, drop-of-length-le}
-use lib.Seq.{take-all, take-nil, drop-cons}
+use lib.Seq.{take-all, drop-cons}
 use Rattle.definition.specs.Frame.{State, empty}
 use Rattle.definition.specs.Memory as definition
 use Rattle.definition.specs.Run.{step, answers, final}
@@ -30,19 +31,21 @@ use Rattle.run.specs.Turns.{Turned, Going}
 
 -- ---- a part of the words
 module _ (words : List ℕ) (from end : ℕ) where
-  none : (n : ℕ) → take (n - n) (drop n words) ≡ []
-  none n = let e : n - n ≡ 0 = omega arith in ap (λ (k : ℕ). take k (drop n words)) e
-
-  pub part-behind : length words < from → take (length words - length words) (drop (length words) words) ≡ take (end - from) (drop from words)
-  part-behind h = none (length words) ∙ sym (ap (λ (l : List ℕ). take (end - from) l) (drop-of-length-le words {i = from} (omega arith)) ∙ take-nil (end - from))
-
-  pub part-before : end < from → take (length words - length words) (drop (length words) words) ≡ take (end - from) (drop from words)
-  part-before h = let e : end - from ≡ 0 = omega arith in none (length words) ∙ sym (ap (λ (k : ℕ). take k (drop from words)) e)
-
-  pub part-rest : length words < end → take (length words - from) (drop from words) ≡ take (end - from) (drop from words)
-  part-rest h =
+  -- cut off where they end
+  up-to : (stop : ℕ) → ((length words < end) × (stop ≡ length words)) ⊎ (stop ≡ end) → take (stop - from) (drop from words) ≡ take (end - from) (drop from words)
+  up-to stop (inl w) =
       let n = length-drop from words in
-      take-all (length words - from) (drop from words) (omega (arith, n)) ∙ sym (take-all (end - from) (drop from words) (omega (arith, n)))
+      take-all (stop - from) (drop from words) (omega (arith, w .1, n)) ∙ sym (take-all (end - from) (drop from words) (omega (arith, w .0, n)))
+  up-to stop (inr e) = ap (λ (k : ℕ). take (k - from) (drop from words)) e
+
+  -- and from there where it starts behind its end
+  pub part-cut : (stop start : ℕ) → ((length words < end) × (stop ≡ length words)) ⊎ (stop ≡ end) → ((stop < from) × (start ≡ stop)) ⊎ (start ≡ from)
+      → take (stop - start) (drop start words) ≡ take (end - from) (drop from words)
+  part-cut stop start stops (inl w) =
+      let none : stop - start ≡ 0 = omega (arith, w .1) in
+      let before : stop - from ≡ 0 = omega (arith, w .0) in
+      ap (λ (k : ℕ). take k (drop start words)) none ∙ sym (ap (λ (k : ℕ). take k (drop from words)) before) ∙ up-to stop stops
+  part-cut stop start stops (inr e) = ap (λ (k : ℕ). take (stop - k) (drop k words)) e ∙ up-to stop stops
 
 pub written-length : {text before out : List ℕ} {w : Written} → WrittenTo text before out w → length out ≡ length before
 written-length {text} {before} h = ap length (h .contents) ∙ write-length 0 text before

@@ -15,15 +15,13 @@ pub enum ListRun {
 pub(crate) fn part<'a>(words: &'a [u32], from: usize, end: usize) -> &'a [u32]
     ensures { λ r. ⌜ now r ≡ take (end - from) (drop from (now (words .entry))) ⌝ }
 {
-    let total = words.len();
-    if total < end {
-        if total < from {
-            return &words[total..];
-        }
-        return &words[from..];
+    let mut stop = end;
+    if words.len() < stop {
+        stop = words.len();
     }
-    if end < from {
-        return &words[total..];
+    let mut start = from;
+    if stop < start {
+        start = stop;
     }
-    &words[from..end]
+    &words[start..stop]
 }

@@ -1,87 +1,44 @@
--- Four cases: nothing behind the words, up to their end, nothing before the start, and a part inside.
-use Rattle.run.proofs.Turns.{part-behind, part-before, part-rest}
+-- The end is cut off where the words end, and the start where the part does (Turns).
+use Prim.Native.Nat.{_≤_, _<_}
+use mathlib.Core.Logic.{_⊎_, inl, inr, ⊎-elim}
+use mathlib.Core.Path.{_≡_}
 use native.Mathlib.Omega.{arith}
-use borrow.Author.Needs.{needs}
+use lib.ListN.{length}
+use Rattle.run.proofs.Turns.{part-cut}
 use Rattle.run.proofs.part.Statement.{statement}
 use Rattle.run.proofs.part.Tie as tie
 
+-- where the part ends
+stops : (c : tie.Joined1) → let a = c .before .args in ((length (a .words .now) < a .end) × (c .if1 .stop ≡ length (a .words .now))) ⊎ (c .if1 .stop ≡ a .end)
+stops c = ⊎-elim (λ w. inl (w .0 .taken, w .1)) (λ w. inr (w .1)) (c .if1 .came)
+
+stops-inside : (c : tie.Joined1) → c .if1 .stop ≤ length (c .before .args .words .now)
+stops-inside c = ⊎-elim (λ w. omega (arith, w .1)) (λ w. omega (arith, w .0 .left, w .1)) (c .if1 .came)
+
+-- where it starts
+starts : (c : tie.Joined2) → ((c .before .if1 .stop < c .before .before .args .from) × (c .if2 .start ≡ c .before .if1 .stop)) ⊎ (c .if2 .start ≡ c .before .before .args .from)
+starts c = ⊎-elim (λ w. inl (w .0 .taken, w .1)) (λ w. inr (w .1)) (c .if2 .came)
+
+starts-before : (c : tie.Joined2) → c .if2 .start ≤ c .before .if1 .stop
+starts-before c = ⊎-elim (λ w. omega (arith, w .1)) (λ w. omega (arith, w .0 .left, w .1)) (c .if2 .came)
+
 mul-result : tie.Need-mul-result
-mul-result c = search needs
+mul-result c = omega (arith, starts-before (c .before), stops-inside (c .before .before))
 
 sub-result : tie.Need-sub-result
-sub-result c = search needs
+sub-result c = starts-before (c .before .before)
 
 part-result-start : tie.Need-part-result-start
-part-result-start c = search needs
+part-result-start c = starts-before (c .before .before)
 
 part-result-end : tie.Need-part-result-end
-part-result-end c = search needs
+part-result-end c = stops-inside (c .before .before .before)
 
 returns : tie.Need-returns
-returns c = let s = c .before .before .before in part-behind (s .args .words .now) (s .args .from) (s .args .end) (omega arith)
-
-mul-result-2 : tie.Need-mul-result-2
-mul-result-2 c = search needs
-
-sub-result-2 : tie.Need-sub-result-2
-sub-result-2 c = search needs
-
-part-result-start-2 : tie.Need-part-result-start-2
-part-result-start-2 c = search needs
-
-part-result-end-2 : tie.Need-part-result-end-2
-part-result-end-2 c = search needs
-
-returns-2 : tie.Need-returns-2
-returns-2 c = let s = c .before .before .before in part-rest (s .args .words .now) (s .args .from) (s .args .end) (omega arith)
-
-mul-result-3 : tie.Need-mul-result-3
-mul-result-3 c = search needs
-
-sub-result-3 : tie.Need-sub-result-3
-sub-result-3 c = search needs
-
-part-result-start-3 : tie.Need-part-result-start-3
-part-result-start-3 c = search needs
-
-part-result-end-3 : tie.Need-part-result-end-3
-part-result-end-3 c = search needs
-
-returns-3 : tie.Need-returns-3
-returns-3 c = let s = c .before .before .before in part-before (s .args .words .now) (s .args .from) (s .args .end) (omega arith)
-
-mul-result-4 : tie.Need-mul-result-4
-mul-result-4 c = search needs
-
-part-result-start-4 : tie.Need-part-result-start-4
-part-result-start-4 c = search needs
-
-part-result-end-4 : tie.Need-part-result-end-4
-part-result-end-4 c = search needs
-
-returns-4 : tie.Need-returns-4
-returns-4 c = search needs
+returns c =
+    let cut = c .before .before .before in
+    let a = cut .before .before .args in
+    part-cut (a .words .now) (a .from) (a .end) (cut .before .if1 .stop) (cut .if2 .start) (stops (cut .before)) (starts cut)
 
 pub part-spec : {M : Type 1} → statement M
-part-spec =
-    tie.close
-    (tie.spec
-    mul-result
-    sub-result
-    part-result-start
-    part-result-end
-    returns
-    mul-result-2
-    sub-result-2
-    part-result-start-2
-    part-result-end-2
-    returns-2
-    mul-result-3
-    sub-result-3
-    part-result-start-3
-    part-result-end-3
-    returns-3
-    mul-result-4
-    part-result-start-4
-    part-result-end-4
-    returns-4)
+part-spec = tie.close (tie.spec mul-result sub-result part-result-start part-result-end returns)
