@@ -11,12 +11,11 @@ ghost use mathlib.Core.Path.{_≡_};
 ghost use mathlib.Core.List.{List};
 ghost use Prim.Native.Nat.{ℕ, _≤_};
 ghost use lib.ListN.{length, set};
-ghost use Rattle.definition.specs.Layout.{FreezeMask, freezeMask};
+ghost use Rattle.definition.specs.Layout.{FreezeMask};
 ghost use Rattle.definition.specs.Memory.{Memory};
 ghost use Rattle.definition.specs.Frame.{State, frameAt};
 ghost use Rattle.definition.specs.Frame as frames;
 ghost use Rattle.definition.specs.Request as definition;
-ghost use Rattle.definition.specs.Run.{retagWithMask};
 ghost use Rattle.pointer.specs.Pointer.{provenanceOf, thinPointerOf};
 ghost use Rattle.pointer.specs.declared.Provenance.the-variants.{None};
 ghost use Rattle.answer.specs.Answer.{answerOf};
@@ -24,7 +23,7 @@ ghost use Rattle.permission.specs.Codes as permission;
 ghost use Rattle.tables.specs.Held.{buffers};
 ghost use Rattle.retag.specs.Settings.{settingsOf};
 ghost use Rattle.parts.specs.Trees.{HoldsMarked};
-ghost use Rattle.library_frames.specs.Settings.{requestOf, retagOf, fieldsOf, badFields, protects};
+ghost use Rattle.library_frames.specs.Settings.{retagOf, fieldsOf, badFields, protects};
 ghost use Rattle.library_frames.specs.Retag.{lent, isLent, Served};
 ghost use Rattle.library_frames.specs.Outcome.{Performed, enteredNode, outcomeOf, malformedOutcome};
 
@@ -87,8 +86,8 @@ fn reborrow_settings(settings: RetagSettings) -> ReborrowSettings
 }
 
 // ---- the retag of a memory that is held, for a frame with so many entries
-// 3, or a retag that may add a node.
-fn retag_with_mask(
+// "No node, and the same pointer with 5 to 24 untested"; or 3; or a retag that may add one.
+fn retag_held(
     allocs: &mut [u64],
     parents: &mut [u16],
     protectors: &mut [u8],
@@ -101,9 +100,12 @@ fn retag_with_mask(
     requires { ⌜ ((m : Memory) × HoldsMarked m (now allocs) (now parents) (now protectors) (now codes)) ⌝ }
     ensures { λ r. ⌜ ((s : State) → HoldsMarked (s .memory) (now (allocs .entry)) (now (parents .entry)) (now (protectors .entry)) (now (codes .entry))
         → count ≡ length (frames.entries (frameAt s 0))
-        → Performed (retagWithMask (freezeMask (now (layout .entry))) s (requestOf settings (thinPointerOf p) (now (layout .entry))))
+        → Performed (retagOf settings (thinPointerOf p) (now (layout .entry)) s)
         r (now (allocs .exit)) (now (parents .exit)) (now (protectors .exit)) (now (codes .exit))) ⌝ }
 {
+    if adds_no_node(settings) {
+        return retag::retag_without_node(allocs, p);
+    }
     let mut mask = [0u8; 4096];
     let found = layout::freeze_mask(layout, &mut mask);
     match found {
@@ -124,38 +126,6 @@ fn retag_with_mask(
         Mask::None => Answer::Refused(3),
         Mask::WrongLength => Answer::Refused(3), // the mask has that length
     }
-}
-
-// "No node, and the same pointer with 5 to 24 untested", or a retag that may add one.
-fn retag_held(
-    allocs: &mut [u64],
-    parents: &mut [u16],
-    protectors: &mut [u8],
-    codes: &mut [u8],
-    layout: &[u32],
-    p: ThinPointer,
-    settings: RetagSettings,
-    count: usize,
-) -> Answer
-    requires { ⌜ ((m : Memory) × HoldsMarked m (now allocs) (now parents) (now protectors) (now codes)) ⌝ }
-    ensures { λ r. ⌜ ((s : State) → HoldsMarked (s .memory) (now (allocs .entry)) (now (parents .entry)) (now (protectors .entry)) (now (codes .entry))
-        → count ≡ length (frames.entries (frameAt s 0))
-        → Performed (retagOf settings (thinPointerOf p) (now (layout .entry)) s)
-        r (now (allocs .exit)) (now (parents .exit)) (now (protectors .exit)) (now (codes .exit))) ⌝ }
-{
-    if adds_no_node(settings) {
-        return retag::retag_without_node(allocs, p);
-    }
-    retag_with_mask(
-        allocs,
-        parents,
-        protectors,
-        codes,
-        layout,
-        p,
-        settings,
-        count,
-    )
 }
 
 // ---- the frame's list
