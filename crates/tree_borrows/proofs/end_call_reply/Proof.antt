@@ -1,4 +1,4 @@
--- The answer of `end_call`, as numbers.
+-- The answer of `end_call_list`, as numbers.
 use borrow.Author.Needs.{needs}
 use Rattle.tree_borrows.proofs.Replies.{in-numbers}
 use Rattle.tree_borrows.proofs.end_call_reply.Statement.{statement}
@@ -19,13 +19,12 @@ same-length-2 c = search needs
 same-length-3 : tie.Need-same-length-3
 same-length-3 c = search needs
 
--- behind the end call
-abbrev ended : tie.After-reply-of → tie.After-end-call-list
-ended c = let asked = c .before in asked .before .before .before .before .before .before
+-- the end call, as it is known behind all that it leaves
+abbrev ended : tie.After-slice-known6 → tie.After-end-call-list
+ended c = c .before .before .before .before .before .before
 
 returns : tie.Need-returns
-returns c =
-    in-numbers (c .reply-of .ensures) (ended c .end-call-list .ensures)
+returns c = in-numbers (c .reply-of .ensures) (ended (c .before) .end-call-list .ensures)
 
 pub end-call-reply-spec : {M : Type 1} → statement M
 end-call-reply-spec =
