@@ -89,7 +89,7 @@ fn end_protector(parents: &[u16], codes: &mut [u8], lent: &[u8], width: usize, n
         what: Accesses::AtEnd,
     };
     let v = visit::settled(lent, v);
-    match visit::check(parents, codes, lent, v) {
+    match visit::check_lent(parents, codes, lent, v) {
         Answer::Stays => {
             unprotect_node(codes, width, node);
             0

@@ -68,7 +68,7 @@ pub fn make_reads(
         what: Accesses::AtInit,
     };
     let v = visit::settled(inside, v);
-    match visit::check(parents, codes, inside, v) {
+    match visit::check_lent(parents, codes, inside, v) {
         Answer::Stays => 0,
         Answer::Changes => {
             visit::apply(parents, codes, inside, v);

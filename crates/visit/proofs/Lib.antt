@@ -2,6 +2,7 @@ pub mod Loops
 pub mod Steps
 pub mod Rows
 pub mod Places
+pub mod Untouched
 pub mod Walks
 pub mod Children
 pub mod Plans

@@ -5,6 +5,7 @@ use crate::plan::first_child;
 use crate::plan::make_plan;
 use crate::plan::next_sibling;
 use crate::plan::relation;
+use crate::row::any_access;
 use crate::row::check_at;
 use crate::unrefused;
 ghost use Prim.Native.Nat.{ℕ, _*_, _≤_, _<_};
@@ -82,4 +83,16 @@ pub fn check(parents: &[u16], codes: &[u8], starts: &[u8], v: Reach) -> Answer
     }
     let mut scratch = [0u16; 3072];
     check_planned(&mut scratch, parents, codes, starts, v)
+}
+
+// The same of a visit by lent codes.
+pub fn check_lent(parents: &[u16], codes: &[u8], starts: &[u8], v: Reach) -> Answer
+    requires { ⌜ Ready v (now parents) (now codes) × (0 < v .spared) ⌝ }
+    ensures { λ r. ⌜ ToldOf v (now (parents .entry)) (now (starts .entry)) (now (codes .entry)) (subtree (v .spared) 0 (now (parents .entry))) r ⌝ }
+{
+    let what = v.what;
+    if !any_access(what, starts, v.len) {
+        return Answer::Stays;
+    }
+    check(parents, codes, starts, v)
 }

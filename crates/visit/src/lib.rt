@@ -8,6 +8,7 @@ mod row;
 
 pub use apply_pass::apply;
 pub use check_pass::check;
+pub use check_pass::check_lent;
 use permission::AccessKind;
 pub use plan::make_plan;
 pub use plan::relation;

@@ -8,7 +8,8 @@ use permission::MaybeAccess;
 use permission::NodeRelation;
 use permission::Outcome;
 ghost use mathlib.Core.Path.{_≡_};
-ghost use mathlib.Core.Bool.{true};
+ghost use mathlib.Core.Bool.{true, false};
+ghost use mathlib.Core.Option.{none};
 ghost use Prim.Native.Nat.{ℕ, _+_, _*_, _≤_, _<_};
 ghost use lib.ListN.{length, getD};
 ghost use Rattle.definition.specs.Permission.NodeRelation.{Local, Foreign};
@@ -46,6 +47,21 @@ fn all_alike(starts: &[u8], len: usize) -> bool
         k += 1;
     }
     true
+}
+
+// Some byte has an access. Where none has, nothing is visited (`check_lent`).
+pub(crate) fn any_access(what: Accesses, starts: &[u8], len: usize) -> bool
+    ensures { λ r. ⌜ (r ≡ false → (i : ℕ) → i < len → accessAt what (now (starts .entry)) i ≡ none) ⌝ }
+{
+    let mut k = 0;
+    while k < len {
+        match access_at(what, starts, k) {
+            MaybeAccess::Nothing => {}
+            MaybeAccess::Access(_) => return true,
+        }
+        k += 1;
+    }
+    false
 }
 
 // A visit by lent codes, as one of the same access at each byte where all of them have the same: it is then worked out once, and not at each node.

@@ -22,37 +22,37 @@ use Rattle.tree.proofs.protector.end_protector.Tie as tie
 abbrev entry : tie.After-settled → tie.Start
 entry c = c .before .before .before .before
 
-abbrev settled-before-check : tie.After-check → tie.After-settled
+abbrev settled-before-check : tie.After-check-lent → tie.After-settled
 settled-before-check c = c .before .before
 
-abbrev check-before-unprotect-node : tie.After-unprotect-node → tie.After-check
+abbrev check-before-unprotect-node : tie.After-unprotect-node → tie.After-check-lent
 check-before-unprotect-node c = c .before .before .before .before
 
-abbrev check-before-unprotect-node2 : tie.After-unprotect-node2 → tie.After-check
+abbrev check-before-unprotect-node2 : tie.After-unprotect-node2 → tie.After-check-lent
 check-before-unprotect-node2 c = c .before .before .before .before
 
 abbrev unprotect-node2-before-apply : tie.After-apply → tie.After-unprotect-node2
 unprotect-node2-before-apply c = c .before .before .before .before
 
 -- the node's row ends within the table
-ends : (c : tie.After-check) → let a = entry (settled-before-check c) .args in a .node * a .width + a .width ≤ length (a .codes .now)
+ends : (c : tie.After-check-lent) → let a = entry (settled-before-check c) .args in a .node * a .width + a .width ≤ length (a .codes .now)
 ends c = let s = entry (settled-before-check c) in node-fits (s .pre .0 .1) (s .args .node) (s .pre .1 .0)
 
 -- what the check tells by its answer
-told : (c : tie.After-check) {answer : Answer} → c .check .result ≡ answer → (nodes : List Node) → let a = entry (settled-before-check c) .args in Holds nodes (a .width) (a .parents .now) (a .codes .now)
+told : (c : tie.After-check-lent) {answer : Answer} → c .check-lent .result ≡ answer → (nodes : List Node) → let a = entry (settled-before-check c) .args in Holds nodes (a .width) (a .parents .now) (a .codes .now)
     → Told (releaseVisitRefusal Live (a .node) nodes) (rowsOf nodes) (rowsOf (visited (releaseVisit (a .node) nodes) nodes)) answer
 told c e nodes held =
     let v = settled-before-check c in
     let s = entry v in
     let a = s .args in
     subst (Told (releaseVisitRefusal Live (a .node) nodes) (rowsOf nodes) (rowsOf (visited (releaseVisit (a .node) nodes) nodes))) e
-    (end-told nodes (a .width) (a .parents .now) (a .codes .now) (a .lent .now) held (a .node) (s .pre .1 .0) (s .pre .1 .1) (s .pre .1 .2) (v .settled .result) (v .settled .ensures) (c .check .result) (c .check .ensures))
+    (end-told nodes (a .width) (a .parents .now) (a .codes .now) (a .lent .now) held (a .node) (s .pre .1 .0) (s .pre .1 .1) (s .pre .1 .2) (v .settled .result) (v .settled .ensures) (c .check-lent .result) (c .check-lent .ensures))
 
 settled-requires : tie.Need-settled-requires
 settled-requires c κs = search needs
 
-check-requires : tie.Need-check-requires
-check-requires c κs =
+check-lent-requires : tie.Need-check-lent-requires
+check-lent-requires c κs =
     let v = c .before in
     let s = entry v in
     (same-ready _ _ _ _ _ (v .settled .ensures) (held-ready _ (s .pre .0 .0) _ _ (s .pre .0 .1) (s .pre .1 .0) (omega arith)), omega (arith, same-spared _ _ _ (v .settled .ensures), s .pre .1 .1))
@@ -125,7 +125,7 @@ end-protector-spec =
     tie.close
     (tie.spec
     settled-requires
-    check-requires
+    check-lent-requires
     enum-told
     unprotect-node-requires
     enum-told-2

@@ -22,10 +22,10 @@ use Rattle.tree.proofs.reads.make_reads.Tie as tie
 abbrev entry : tie.After-settled → tie.Start
 entry c = c .before .before .before .before
 
-abbrev settled-before-check : tie.After-check → tie.After-settled
+abbrev settled-before-check : tie.After-check-lent → tie.After-settled
 settled-before-check c = c .before .before
 
-abbrev check-before-apply : tie.After-apply → tie.After-check
+abbrev check-before-apply : tie.After-apply → tie.After-check-lent
 check-before-apply c = c .before .before .before .before
 
 -- ---- the settled visit: the tables are ready for it, and it makes the reads
@@ -42,18 +42,18 @@ module _ (c : tie.After-settled) (nodes : List Node) (holds : let a = entry c .a
   means = let a = entry c .args in means-same _ _ _ _ _ (c .settled .ensures) (means-reads (a .parents .now) (holds .root) (a .width) (a .node) (a .from) (a .inside .now))
 
 -- what the check of it tells by its answer
-told : (c : tie.After-check) {answer : Answer} → c .check .result ≡ answer → (nodes : List Node) → let a = entry (settled-before-check c) .args in Holds nodes (a .width) (a .parents .now) (a .codes .now)
+told : (c : tie.After-check-lent) {answer : Answer} → c .check-lent .result ≡ answer → (nodes : List Node) → let a = entry (settled-before-check c) .args in Holds nodes (a .width) (a .parents .now) (a .codes .now)
     → Checked (readsVisit (a .node) (a .from) (map permission (a .inside .now))) nodes answer
 told c e nodes holds =
     let v = settled-before-check c in
     let a = entry v .args in
-    subst (Checked (readsVisit (a .node) (a .from) (map permission (a .inside .now))) nodes) e (means-told _ _ _ _ (means v nodes holds) nodes (a .codes .now) (wide v nodes holds) (c .check .result) (c .check .ensures))
+    subst (Checked (readsVisit (a .node) (a .from) (map permission (a .inside .now))) nodes) e (means-told _ _ _ _ (means v nodes holds) nodes (a .codes .now) (wide v nodes holds) (c .check-lent .result) (c .check-lent .ensures))
 
 settled-requires : tie.Need-settled-requires
 settled-requires c κs = search needs
 
-check-requires : tie.Need-check-requires
-check-requires c κs = ready (c .before)
+check-lent-requires : tie.Need-check-lent-requires
+check-lent-requires c κs = ready (c .before)
 
 enum-told : tie.Need-enum-told
 enum-told c = search needs
@@ -109,7 +109,7 @@ make-reads-spec =
     tie.close
     (tie.spec
     settled-requires
-    check-requires
+    check-lent-requires
     enum-told
     enum-told-2
     apply-requires
