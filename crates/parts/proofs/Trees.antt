@@ -1,11 +1,9 @@
 -- An allocation's tree, as the tables hold it and as `tree` asks for it.
 use Prim.Native.Nat.{ℕ, _*_, _≤_}
 use mathlib.Core.Path.{_≡_, refl, sym, ap, _∙_}
-use mathlib.Core.List.{List, [], _∷_, _++_, map}
+use mathlib.Core.List.{List}
 use native.Mathlib.Omega.{arith}
 use lib.ListN.{length}
-use Rattle.definition.specs.Permission.{Protected}
-use Rattle.definition.specs.Permission.Protected.{No, Weak, Strong}
 use Rattle.definition.specs.Tree.{Node, noNode, parents, Visit, nodeAfter, visited}
 use Rattle.definition.specs.Memory.{Allocation, Liveness, changed, size, nodeCount, codeCount, isLive}
 use Rattle.definition.specs.Frame.{releasedNodes}
@@ -15,32 +13,18 @@ use Rattle.definition.proofs.Places.{allFrom-at}
 use Rattle.definition.proofs.Trees.{valid-tree}
 use Rattle.definition.proofs.Visits.{visited-length, visited-parents}
 use Rattle.definition.proofs.ValidTrees.{ValidNodes, visited-valid, released-valid, released-length, rows-wide}
-use Rattle.tables.specs.Encoding.{protectorNumber, parentsOf, protectorsOf, rowOf, codesOf, concatMap}
+use Rattle.tables.specs.Encoding.{protectorNumber, parentsOf, protectorsOf, codesOf}
 use Rattle.tables.proofs.Sizes.{length-parents, length-rows}
-use Rattle.tree.specs.Table.{rowsOf, mark, marks, HoldsRows, Holds, HoldsMarks, HoldsAll}
+use Rattle.tree.specs.Table.{rowsOf, marks, HoldsRows, Holds, HoldsMarks, HoldsAll}
 
--- ---- two ways to say the same
-rows-same : (nodes : List Node) → concatMap rowOf nodes ≡ rowsOf nodes
-unfolding concatMap rowsOf
-rows-same [] = refl
-rows-same (x ∷ nodes) = ap (λ (l : List ℕ). rowOf x ++ l) (rows-same nodes)
-
+-- ---- the tables hold the nodes' rows and marks
 pub codes-rows : (a : Allocation) → codesOf a ≡ rowsOf (a .nodes)
 unfolding codesOf
-codes-rows a = rows-same (a .nodes)
-
-same-mark : (p : Protected) → protectorNumber p ≡ mark p
-same-mark No = refl
-same-mark Weak = refl
-same-mark Strong = refl
-
-same-marks : (nodes : List Node) → map (λ (x : Node). protectorNumber (x .protected)) nodes ≡ marks nodes
-same-marks [] = refl
-same-marks (x ∷ nodes) = rw (same-mark (x .protected)) (ap (λ (l : List ℕ). mark (x .protected) ∷ l) (same-marks nodes))
+codes-rows a = refl
 
 pub protectors-marks : (a : Allocation) → protectorsOf a ≡ marks (a .nodes)
 unfolding protectorsOf
-protectors-marks a = same-marks (a .nodes)
+protectors-marks a = refl
 
 -- ---- a well-formed allocation's tree
 module _ (a : Allocation) (v : ValidAllocation a) where
@@ -70,7 +54,7 @@ module _ (a : Allocation) (v : ValidAllocation a) where
   -- ---- a visit and a release keep the number of codes
   kept-codes : (after : List Node) → ValidNodes (size a) (isLive (a .state)) after → length after ≡ nodeCount a → length (rowsOf after) ≡ codeCount a
   kept-codes after w l =
-      ap length (sym (rows-same after)) ∙ length-rows (size a) (isLive (a .state)) 0 after w ∙ ap (λ (k : ℕ). k * size a) l
+      length-rows (size a) (isLive (a .state)) 0 after w ∙ ap (λ (k : ℕ). k * size a) l
 
   pub visited-codes : (w : Visit) → length (rowsOf (visited w (a .nodes))) ≡ codeCount a
   visited-codes w = kept-codes (visited w (a .nodes)) (visited-valid w (size a) (isLive (a .state)) (a .nodes) (v .nodes)) (visited-length w (a .nodes))

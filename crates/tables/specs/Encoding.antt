@@ -3,11 +3,12 @@
 use Prim.Native.Nat.{ℕ, _+_, _-_}
 use mathlib.Core.List.{List, [], _∷_, _++_, map}
 use lib.ListN.{length, replicate}
-use Rattle.definition.specs.Permission.{Protected, code}
-use Rattle.definition.specs.Permission.Protected.{No, Weak, Strong}
-use Rattle.definition.specs.Tree.{Node, parents}
+use Rattle.definition.specs.Tree.{parents}
 use Rattle.definition.specs.Memory.{Liveness, Allocation, Memory, kindNumber, size, nodeCount, codeCount}
 use Rattle.definition.specs.Memory.Liveness.{Live, Dead}
+use Rattle.permission.specs.Nodes.{marks, rowsOf}
+pub use Rattle.permission.specs.Nodes.{protectorNumber, rowOf}
+unfoldable pub use Rattle.permission.specs.Nodes.{concatMap}
 use Rattle.tables.specs.declared.Starts.{Starts}
 
 -- the five lists
@@ -24,10 +25,6 @@ abbrev pub stateNumber : Liveness → ℕ
 stateNumber Live = 1
 stateNumber Dead = 2
 
-abbrev pub protectorNumber : Protected → ℕ
-protectorNumber No = 0
-protectorNumber Weak = 1
-protectorNumber Strong = 2
 
 -- ---- where an allocation's parts start: the struct `Starts`
 abbrev pub firstStarts : Starts
@@ -57,24 +54,15 @@ unfoldable pub parentsOf : Allocation → List ℕ
 parentsOf a = parents (a .nodes)
 
 unfoldable pub protectorsOf : Allocation → List ℕ
-protectorsOf a = map (λ (x : Node). protectorNumber (x .protected)) (a .nodes)
+protectorsOf a = marks (a .nodes)
 
 -- one for each byte
 abbrev pub wordsOf : Allocation → List ℕ
 wordsOf a = a .words
 
--- a node's row: one for each byte
-abbrev pub rowOf : Node → List ℕ
-rowOf x = map code (x .permissions)
-
--- f of each, one behind the other
-unfoldable pub concatMap : {X : Type 0} → (X → List ℕ) → List X → List ℕ
-concatMap f [] = []
-concatMap f (x ∷ xs) = f x ++ concatMap f xs
-
 -- a row for each node
 unfoldable pub codesOf : Allocation → List ℕ
-codesOf a = concatMap rowOf (a .nodes)
+codesOf a = rowsOf (a .nodes)
 
 -- ---- the buffers
 -- xs, and zeros up to n numbers

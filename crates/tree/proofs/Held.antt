@@ -11,7 +11,7 @@ use Rattle.definition.specs.Permission.{code}
 use Rattle.definition.specs.Tree.{Node, nodeAt}
 use Rattle.definition.specs.Valid.{All}
 use Rattle.definition.proofs.Parts.{row-fits}
-use Rattle.tree.specs.Table.{rowsOf, mark, marks, HoldsRows, Holds, HoldsMarks, HoldsAll}
+use Rattle.tree.specs.Table.{rowsOf, concatMap, protectorNumber, marks, HoldsRows, Holds, HoldsMarks, HoldsAll}
 use Rattle.visit.specs.Walk.{rowAt, withRowAt}
 
 module _ (width : ℕ) where
@@ -25,7 +25,7 @@ module _ (width : ℕ) where
   wide-at (x ∷ nodes) w (suc n) l = wide-at nodes (w .1) n (omega arith)
 
   pub rows-length : (nodes : List Node) → Wide nodes → length (rowsOf nodes) ≡ length nodes * width
-  unfolding rowsOf
+  unfolding concatMap
   rows-length [] w = sym (zero-mul width)
   rows-length (x ∷ nodes) w =
       length-append (map code (x .permissions)) (rowsOf nodes)
@@ -43,7 +43,7 @@ module _ (width : ℕ) where
     take-row = ap (λ (k : ℕ). take k (map code (x .permissions) ++ rest)) at ∙ take-append-add (map code (x .permissions)) rest (n * width)
 
   pub row-held : (nodes : List Node) → Wide nodes → (n : ℕ) → n < length nodes → rowAt width n (rowsOf nodes) ≡ map code (nodeAt nodes n .permissions)
-  unfolding rowsOf
+  unfolding concatMap
   row-held [] w n l = absurd (omega arith)
   row-held (x ∷ nodes) w zero l =
       rw (zero-mul width) (take-at (map code (x .permissions)) (rowsOf nodes) width (length-map (x .permissions) code ∙ w .0))
@@ -51,7 +51,7 @@ module _ (width : ℕ) where
 
   pub row-changed : (f : Node → Node) (nodes : List Node) → Wide nodes → (n : ℕ) → n < length nodes
       → withRowAt width n (map code (f (nodeAt nodes n) .permissions)) (rowsOf nodes) ≡ rowsOf (mutateAt n f nodes)
-  unfolding rowsOf mutateAt
+  unfolding concatMap mutateAt
   row-changed f [] w n l = absurd (omega arith)
   row-changed f (x ∷ nodes) w zero l =
       rw (zero-mul width)
@@ -80,7 +80,7 @@ pub node-fits : {nodes : List Node} {width : ℕ} {ps codes : List ℕ} → Hold
 node-fits {nodes} {width} {ps} {codes} h n l = held-fits nodes width codes (h .table) n (omega (arith, held-count h))
 
 pub marks-count : (nodes : List Node) (protectors : List ℕ) → protectors ≡ marks nodes → length protectors ≡ length nodes
-marks-count nodes protectors e = ap length e ∙ length-map nodes (λ x. mark (x .protected))
+marks-count nodes protectors e = ap length e ∙ length-map nodes (λ x. protectorNumber (x .protected))
 
 -- the tables of marks and codes by themselves
 pub held-marks : {nodes : List Node} {width : ℕ} {ps protectors codes : List ℕ} → HoldsAll nodes width ps protectors codes → HoldsMarks nodes width protectors codes

@@ -23,7 +23,7 @@ use Rattle.definition.proofs.Trees.{above-itself}
 use Rattle.definition.proofs.Visits.{visited-length}
 use Rattle.permission.specs.Codes.{isProtectedCode, unprotectedCode}
 use Rattle.permission.proofs.Codes.{is-protected-code, unprotected-code}
-use Rattle.tree.specs.Table.{rowsOf, mark, marks, HoldsRows, Holds, HoldsMarks}
+use Rattle.tree.specs.Table.{rowsOf, protectorNumber, marks, HoldsRows, Holds, HoldsMarks}
 use Rattle.visit.specs.Walk.{rowAt, withRowAt}
 use Rattle.tree.specs.Requests.{releaseRefusal, Released}
 use Rattle.tree.proofs.Held.{Wide, row-held, row-changed, wide-changed}
@@ -36,15 +36,15 @@ module _ (nodes : List Node) (width : ℕ) (codes : List ℕ) (held : HoldsRows 
   held-row = ap (rowAt width n) (held .rows) ∙ row-held width nodes (held .wide) n l
 
 -- ---- marks
-pub mark-at : (nodes : List Node) (n : ℕ) → getD (marks nodes) n 0 ≡ mark (nodeAt nodes n .protected)
-mark-at nodes n = List·getD-map (λ x. mark (x .protected)) nodes n noNode
+pub mark-at : (nodes : List Node) (n : ℕ) → getD (marks nodes) n 0 ≡ protectorNumber (nodeAt nodes n .protected)
+mark-at nodes n = List·getD-map (λ x. protectorNumber (x .protected)) nodes n noNode
 
-unmarked : (p : Protected) → mark p ≡ 0 → isYes p ≡ false
+unmarked : (p : Protected) → protectorNumber p ≡ 0 → isYes p ≡ false
 unmarked No e = refl
 unmarked Weak e = absurd (omega arith)
 unmarked Strong e = absurd (omega arith)
 
-marked : (p : Protected) → (mark p ≡ 0 → ⊥) → isYes p ≡ true
+marked : (p : Protected) → (protectorNumber p ≡ 0 → ⊥) → isYes p ≡ true
 marked No h = absurd (h refl)
 marked Weak h = refl
 marked Strong h = refl
@@ -56,7 +56,7 @@ unprotected-any [] = refl
 unprotected-any (p ∷ row) = rw (is-protected-code p) (ap (λ (b : Bool). if not (isProtected p) then true else b) (unprotected-any row))
 
 module _ (nodes : List Node) (width : ℕ) (protectors codes : List ℕ) (held : HoldsMarks nodes width protectors codes) (n : ℕ) where
-  mark-of : getD protectors n 0 ≡ mark (nodeAt nodes n .protected)
+  mark-of : getD protectors n 0 ≡ protectorNumber (nodeAt nodes n .protected)
   mark-of = ap (λ (l : List ℕ). getD l n 0) (held .marked) ∙ mark-at nodes n
 
   pub lacks-mark : getD protectors n 0 ≡ 0 → true ≡ lacksProtector (nodeAt nodes n)
@@ -104,17 +104,17 @@ cleared : (nodes : List Node) (n : ℕ) → marks (mutateAt n (unprotectNode Liv
 unfolding mutateAt
 cleared [] n = refl
 cleared (x ∷ nodes) zero = refl
-cleared (x ∷ nodes) (suc n) = ap (λ (l : List ℕ). mark (x .protected) ∷ l) (cleared nodes n)
+cleared (x ∷ nodes) (suc n) = ap (λ (l : List ℕ). protectorNumber (x .protected) ∷ l) (cleared nodes n)
 
 visited-marks : (v : Visit) (nodes : List Node) → marks (visited v nodes) ≡ marks nodes
 unfolding visited nodeAfter
-visited-marks v nodes = each-map (λ x. mark (x .protected)) (nodeAfter v (parents nodes)) (λ k x. refl) 0 nodes
+visited-marks v nodes = each-map (λ x. protectorNumber (x .protected)) (nodeAfter v (parents nodes)) (λ k x. refl) 0 nodes
 
 pub released-marks : (nodes : List Node) (n : ℕ) → set (marks nodes) n 0 ≡ marks (releasedNodes Live n nodes)
 released-marks nodes n = sym (visited-marks (releaseVisit n nodes) (mutateAt n (unprotectNode Live) nodes) ∙ cleared nodes n)
 
 pub dead-marks : (nodes : List Node) (n : ℕ) → marks nodes ≡ marks (releasedNodes Dead n nodes)
-dead-marks nodes n = sym (mutate-map (λ x. mark (x .protected)) (unprotectNode Dead) (λ x. refl) n nodes)
+dead-marks nodes n = sym (mutate-map (λ x. protectorNumber (x .protected)) (unprotectNode Dead) (λ x. refl) n nodes)
 
 -- ---- a visit keeps the rows as wide as they are
 wide-visited : (width : ℕ) (v : Visit) (nodes : List Node) → Wide width nodes → Wide width (visited v nodes)

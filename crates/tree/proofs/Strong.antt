@@ -18,7 +18,7 @@ use Rattle.definition.proofs.Places.{each-at}
 use Rattle.definition.proofs.Ranges.{accessIn, range-after}
 use Rattle.permission.specs.Codes.{nextCode, preventsCode}
 use Rattle.permission.proofs.Codes.{next-code, prevents-code}
-use Rattle.tree.specs.Table.{rowsOf, mark, HoldsAll}
+use Rattle.tree.specs.Table.{rowsOf, protectorNumber, HoldsAll}
 use Rattle.visit.specs.Walk.{rowAt}
 use Rattle.tree.specs.Requests.{deallocateRefusal, Deallocated}
 use Rattle.visit.proofs.Rows.{or-positive}
@@ -45,12 +45,12 @@ written r width row e =
     ∙ append-nil (map (next Write r) row)
 
 -- ---- marks
-strong : (p : Protected) → mark p ≡ 2 → isStrong p ≡ true
+strong : (p : Protected) → protectorNumber p ≡ 2 → isStrong p ≡ true
 strong No e = absurd (omega arith)
 strong Weak e = absurd (omega arith)
 strong Strong e = refl
 
-not-strong : (p : Protected) → (mark p ≡ 2 → ⊥) → isStrong p ≡ false
+not-strong : (p : Protected) → (protectorNumber p ≡ 2 → ⊥) → isStrong p ≡ false
 not-strong No h = refl
 not-strong Weak h = refl
 not-strong Strong h = absurd (h refl)
@@ -64,7 +64,7 @@ module _ (nodes : List Node) (width : ℕ) (ps protectors codes : List ℕ) (hel
   unfolding visited
   after-at = each-at (nodeAfter (accessVisit Write node 0 width) (parents nodes)) noNode noNode nodes n l
 
-  mark-of : getD protectors n 0 ≡ mark (nodeAt nodes n .protected)
+  mark-of : getD protectors n 0 ≡ protectorNumber (nodeAt nodes n .protected)
   mark-of = ap (λ (m : List ℕ). getD m n 0) (held .marked) ∙ mark-at nodes n
 
   prevents-at : nodePreventsDeallocation (nodeAt after n) ≡ (isStrong (nodeAt nodes n .protected) && any (preventsAfterWrite (relation ps n node)) (rowAt width n codes))

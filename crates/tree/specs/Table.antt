@@ -2,28 +2,15 @@
 use Prim.Native.Nat.{ℕ, _≤_, _<_}
 use mathlib.Core.Path.{_≡_}
 use mathlib.Core.Bool.{false}
-use mathlib.Core.List.{List, [], _∷_, _++_, map}
+use mathlib.Core.List.{List}
 use lib.ListN.{length}
-use Rattle.definition.specs.Permission.{Protected, isYes, code}
-use Rattle.definition.specs.Permission.Protected.{No, Weak, Strong}
+use Rattle.definition.specs.Permission.{isYes}
 use Rattle.definition.specs.Tree.{Node, nodeAt}
 use Rattle.definition.specs.Tree as tree
 use Rattle.definition.specs.Valid.{All}
 use Rattle.definition.proofs.Trees.{Parents}
-
--- the rows' codes, one after another
-unfoldable pub rowsOf : List Node → List ℕ
-rowsOf [] = []
-rowsOf (x ∷ nodes) = map code (x .permissions) ++ rowsOf nodes
-
--- a protector as a mark
-abbrev pub mark : Protected → ℕ
-mark No = 0
-mark Weak = 1
-mark Strong = 2
-
-abbrev pub marks : List Node → List ℕ
-marks nodes = map (λ x. mark (x .protected)) nodes
+pub use Rattle.permission.specs.Nodes.{protectorNumber, marks, rowsOf}
+unfoldable pub use Rattle.permission.specs.Nodes.{concatMap}
 
 -- the table of codes holds these nodes' rows
 pub record HoldsRows (nodes : List Node) (width : ℕ) (codes : List ℕ) : Type 0 where
