@@ -10,13 +10,13 @@ use lib.ListN.{length, take, drop}
 use Rattle.definition.specs.Notation.{if_then_else_, mutateAt}
 use Rattle.definition.specs.Tree.{Visit, visited}
 use Rattle.definition.specs.Memory.{Allocation, Memory, allocationAt, size, nodeCount, codeCount}
-use Rattle.definition.specs.Valid.{ValidAllocation, Valid}
+use Rattle.definition.specs.Valid.{ValidAllocation}
 use Rattle.definition.proofs.Places.{valid-at}
 use Rattle.tables.specs.Encoding.{Buffers, heldRecords, parentsOf, protectorsOf, wordsOf, codesOf, held}
 use Rattle.tables.specs.Held as tables
 use Rattle.tables.specs.Held.{buffers, Records, StartsAt}
 use Rattle.tables.proofs.Focus.{length-held, focus-same}
-use Rattle.tables.proofs.Sizes.{length-parents, length-protectors, parents-fit, words-fit, codes-fit, codes-at}
+use Rattle.tables.proofs.Sizes.{length-parents, length-protectors, parents-fit, words-fit, codes-at}
 use Rattle.tables.specs.declared.Allocation as record-of
 use Rattle.tables.proofs.Lookup.{recordAt, read-starts, nodes-at, size-at}
 use Rattle.tables.proofs.ReadBack.{holds-allocs, holds-parents, holds-protectors, holds-codes, encode-of}
@@ -45,9 +45,6 @@ holds-trees h = trees-of (holds-marked h)
 
 pub tree-at : {m : Memory} {n : ℕ} {A P C : List ℕ} {r : Parts} → HoldsTrees m A P C → PartsOf m n r → TreeAt m n P C r
 tree-at h t = record { valid = h .records .valid; parents = h .parents; codes = h .codes; part = t }
-
-pub tree-of : {m : Memory} {n : ℕ} {r : Parts} → Valid m → PartsOf m n r → TreeAt m n (held 1024 parentsOf m) (held 32768 codesOf m) r
-tree-of v t = record { valid = v; parents = refl; codes = refl; part = t }
 
 -- ---- from what is read of the records
 pub parts-read : {m : Memory} {A : List ℕ} → Records m A → {n : ℕ} → n < length m → {a : record-of.Allocation} → a ≡ recordAt A n → PartsOf m n (partsIn a)
@@ -101,9 +98,6 @@ module _ {m : Memory} {n : ℕ} {P C : List ℕ} {r : Parts} (h : TreeAt m n P C
 
   pub nodes-small : r .nodes .end ≤ 1024
   nodes-small = omega (arith, parents-in, ap length (h .parents), length-held 1024 parentsOf m (parents-fit m (h .valid)))
-
-  pub codes-small : r .codes .end ≤ 32768
-  codes-small = omega (arith, codes-in, ap length (h .codes), length-held 32768 codesOf m (codes-fit m (h .valid)))
 
   pub width-small : r .width ≤ 4096
   width-small = omega (arith, h .part .width, lent.words-room (whole refl) made starts, length-held 4096 wordsOf m (words-fit m (h .valid)))

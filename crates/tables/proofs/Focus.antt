@@ -5,12 +5,12 @@ use mathlib.Core.Path.{_≡_, refl, sym, ap, _∙_}
 use mathlib.Core.List.{List, [], _∷_, _++_, append-assoc, append-nil}
 use native.Mathlib.Omega.{arith}
 use borrow.Rule.Slice.PartMut.{putMid}
-use lib.ListN.{length, take, drop, getD, set, replicate, length-append, length-replicate, length-set, List·getD-append, replicate-append-replicate}
-use lib.Seq.{take-append-seam, drop-append-seam, take-length, drop-append-add, split-at, set-append-left, getD-append-add, paste, length-paste}
+use lib.ListN.{length, take, drop, replicate, length-append, length-replicate, replicate-append-replicate}
+use lib.Seq.{take-append-seam, drop-append-seam, take-length, drop-append-add, split-at, paste, length-paste}
 use Rattle.definition.specs.Notation.{mutateAt}
 use Rattle.definition.specs.Memory.{Allocation, Memory, noAllocation, allocationAt}
 use Rattle.definition.proofs.Lists.{mutate-split}
-use Rattle.definition.proofs.Parts.{set-after, drop-zeros}
+use Rattle.definition.proofs.Parts.{drop-zeros}
 use Rattle.tables.specs.Encoding.{concatMap, pad, held}
 use Rattle.tables.specs.Held.{startOf, inserted}
 use Rattle.tables.proofs.Parts.{paste-after, paste-before, put-between, insert-between}
@@ -72,9 +72,6 @@ module _ (total : ℕ) (f : Allocation → List ℕ) (m : Memory) (n : ℕ) (mad
   pub focus-part : take (length (f (allocationAt m n))) (drop (startOf f m n) (held total f m)) ≡ f (allocationAt m n)
   focus-part = rw (held-at, drop-append-seam, take-append-seam)
 
-  pub focus-get : (j : ℕ) → j < length (f (allocationAt m n)) → getD (held total f m) (startOf f m n + j) 0 ≡ getD (f (allocationAt m n)) j 0
-  focus-get j k = rw (held-at, getD-append-add, List·getD-append (f (allocationAt m n)) _ 0 j k)
-
   -- ---- writing: g is what happens to allocation n
   module _ (g : Allocation → Allocation) where
     held-mutated : length (f (g (allocationAt m n))) ≡ length (f (allocationAt m n))
@@ -113,16 +110,6 @@ module _ (total : ℕ) (f : Allocation → List ℕ) (m : Memory) (n : ℕ) (mad
         ∙ ap (λ (t : List ℕ). concatMap f (take n m) ++ t) (paste-before (f (allocationAt m n)) behind off s k fits)
         ∙ ap (λ (t : List ℕ). concatMap f (take n m) ++ (t ++ behind)) (sym e)
         ∙ sym (held-mutated (ap length e ∙ length-paste (f (allocationAt m n)) off s k fits enough))
-
-    -- one number of it is set
-    pub focus-set : (j v : ℕ) → j < length (f (allocationAt m n)) → f (g (allocationAt m n)) ≡ set (f (allocationAt m n)) j v
-        → set (held total f m) (startOf f m n + j) v ≡ held total f (mutateAt n g m)
-    focus-set j v k e =
-        ap (λ (t : List ℕ). set t (startOf f m n + j) v) held-at
-        ∙ set-after (concatMap f (take n m)) (f (allocationAt m n) ++ behind) j v
-        ∙ ap (λ (t : List ℕ). concatMap f (take n m) ++ t) (set-append-left (f (allocationAt m n)) behind j v k)
-        ∙ ap (λ (t : List ℕ). concatMap f (take n m) ++ (t ++ behind)) (sym e)
-        ∙ sym (held-mutated (ap length e ∙ length-set (f (allocationAt m n)) j v))
 
     -- a row is put behind it: what stands behind moves up
     pub focus-insert : (row : List ℕ) → length (concatMap f m) + length row ≤ total → f (g (allocationAt m n)) ≡ f (allocationAt m n) ++ row

@@ -23,7 +23,7 @@ use Rattle.tables.specs.Encoding.{firstStarts, nextStarts, protectorNumb
 use Rattle.tables.specs.Held.{buffers, Holds, startOf, Records, StartsAt, AllocationFits, Appended, inserted, withNode, movedStarts, RecordsBehind, Trees, NodeFits, Used, ZerosFrom}
 use Rattle.tables.proofs.Inserts.{held-zeros}
 use Rattle.tables.proofs.Parts.{put-paste}
-use Rattle.tables.proofs.Focus.{concat-append, length-held, focus-used, focus-same, focus-insert, focus-append, focus-append-zeros}
+use Rattle.tables.proofs.Focus.{concat-append, length-held, focus-used, focus-insert, focus-append, focus-append-zeros}
 use Rattle.tables.proofs.Sizes.{length-parents, words-used, parents-used, protectors-used, codes-used}
 use Rattle.tables.proofs.Records.{startsBehind, startsOf, after-nodes, after-codes, after-at, starts-equal, length-before, around, held-around, records-mutate, record-append}
 use Rattle.tables.proofs.Lookup.{start-more, start-all, allocs-length, nodes-at}
@@ -252,9 +252,3 @@ module _ {m : Memory} {a : ℕ} {x : Node} {A P R C : List ℕ} {pa pr : ℕ} (r
     pub new-trees : {A′ : List ℕ} {width : ℕ} → length row ≡ width → A′ ≡ counted ++ (recordsFrom (movedStarts width later) (drop (suc a) m) ++ replicate (1152 - length m * 9) 0)
         → Trees (mutateAt a (withNode x) m) A′ (inserted P n (pa ∷ [])) (inserted R n (pr ∷ [])) (inserted C c row)
     new-trees is e = record { allocs = e ∙ ap (λ (w : ℕ). counted ++ (recordsFrom (movedStarts w later) (drop (suc a) m) ++ replicate (1152 - length m * 9) 0)) (sym is) ∙ moved-records; parents = new-parents; protectors = new-protectors; codes = new-codes }
-
--- the five buffers after it: the words stay as they are
-pub node-encode : (m : Memory) (a : ℕ) (x : Node) (A P R W C A′ P′ R′ C′ : List ℕ) → Holds m (buffers A P R W C) → a < length m
-    → Trees (mutateAt a (withNode x) m) A′ P′ R′ C′ → buffers A′ P′ R′ W C′ ≡ encode (mutateAt a (withNode x) m)
-node-encode m a x A P R W C A′ P′ R′ C′ h made t =
-    encode-of (mutateAt a (withNode x) m) (t .allocs) (t .parents) (t .protectors) (holds-words h ∙ sym (focus-same 4096 wordsOf m a made (withNode x) refl)) (t .codes)

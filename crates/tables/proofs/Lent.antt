@@ -3,16 +3,13 @@
 use Prim.Native.Nat.{ℕ, _+_, _≤_, _<_}
 use mathlib.Core.Path.{_≡_, refl, sym, _∙_}
 use mathlib.Core.List.{List}
-use native.Mathlib.Omega.{arith}
 use borrow.Rule.Slice.PartMut.{putMid}
 use lib.ListN.{length, take, drop}
-use lib.Seq.{paste}
-use Rattle.definition.specs.Notation.{mutateAt, writeAt}
+use Rattle.definition.specs.Notation.{mutateAt}
 use Rattle.definition.specs.Memory.{Allocation, Memory, size, nodeCount, codeCount, allocationAt}
 use Rattle.tables.specs.Encoding.{Buffers, parentsOf, protectorsOf, wordsOf, codesOf, held}
 use Rattle.tables.specs.Held.{startOf, Holds, StartsAt}
-use Rattle.tables.proofs.Parts.{write-paste}
-use Rattle.tables.proofs.Focus.{focus-room, focus-part, focus-same, focus-mutate, focus-paste}
+use Rattle.tables.proofs.Focus.{focus-room, focus-part, focus-same, focus-mutate}
 use Rattle.tables.proofs.Sizes.{length-parents, length-protectors, codes-at}
 use Rattle.tables.proofs.ReadBack.{holds-parents, holds-protectors, holds-words, holds-codes}
 
@@ -41,9 +38,6 @@ module _ {m : Memory} {b : Buffers} (h : Holds m b) {a : ℕ} (made : a < length
   pub same-words : (g : Allocation → Allocation) → wordsOf (g (allocationAt m a)) ≡ wordsOf (allocationAt m a) → b .words ≡ held 4096 wordsOf (mutateAt a g m)
   same-words g e = holds-words h ∙ sym (focus-same 4096 wordsOf m a made g e)
 
-  pub same-codes : (g : Allocation → Allocation) → codesOf (g (allocationAt m a)) ≡ codesOf (allocationAt m a) → b .codes ≡ held 32768 codesOf (mutateAt a g m)
-  same-codes g e = holds-codes h ∙ sym (focus-same 32768 codesOf m a made g e)
-
   -- ---- parts, lent and given back
   module _ {w n c : ℕ} (s : StartsAt m a w n c) where
     pub parents-room : n + nodeCount (allocationAt m a) ≤ length (b .parents)
@@ -67,14 +61,6 @@ module _ {m : Memory} {b : Buffers} (h : Holds m b) {a : ℕ} (made : a < length
 
     pub words-part : take (size (allocationAt m a)) (drop w (b .words)) ≡ allocationAt m a .words
     words-part = lent-part 4096 wordsOf m a made (b .words) (holds-words h) w _ (s .words) refl
-
-    -- bytes written into the words, as the definition writes them
-    pub given-words : (g : Allocation → Allocation) (off : ℕ) (bytes : List ℕ) → off + length bytes ≤ size (allocationAt m a)
-        → g (allocationAt m a) .words ≡ writeAt off bytes (allocationAt m a .words)
-        → paste (b .words) (w + off) bytes (length bytes) ≡ held 4096 wordsOf (mutateAt a g m)
-    given-words g off bytes l e =
-        rw (holds-words h, s .words)
-        (focus-paste 4096 wordsOf m a made g off bytes (length bytes) l (omega arith) (e ∙ write-paste off bytes (allocationAt m a .words) l))
 
     pub codes-room : c + codeCount (allocationAt m a) ≤ length (b .codes)
     codes-room = lent-room 32768 codesOf m a made (b .codes) (holds-codes h) c _ (s .codes) (sym (codes-at m (h .valid) a made))
