@@ -10,26 +10,26 @@ use Rattle.definition.specs.Tree.{Node, nodeAt, visited}
 use Rattle.definition.specs.Memory.Liveness.{Live}
 use Rattle.definition.specs.Frame.{lacksProtector, unprotectNode, releaseVisit, releaseVisitRefusal, releasedNodes}
 use Rattle.permission.specs.Codes.{unprotectedCode}
-use Rattle.visit.specs.declared.Accesses.the-variants.{AtEnd}
+use Rattle.visit.specs.declared.Accesses.the-variants as accesses
 use Rattle.visit.specs.declared.Answer.{Answer}
 use Rattle.visit.specs.declared.Reach.{Reach}
 use Rattle.visit.specs.Walk.{SameVisit, Ready, Told, ToldOf, rowAt, withRowAt, subtree, walkAfter}
 use Rattle.visit.proofs.Places.{same-ready, same-width}
 use Rattle.tree.specs.Table.{rowsOf, marks, Holds}
-use Rattle.tree.specs.Requests.{releaseRefusal, Ended, Released}
+use Rattle.tree.specs.Requests.{endNumber, releaseRefusal, Ended, Released}
 use Rattle.tree.proofs.Held.{held-count}
 use Rattle.tree.proofs.Meaning.{Means, means-same, told-same, means-told, means-after}
 use Rattle.tree.proofs.Visits.{held-ready, means-release, accepted-nodes, refused-nodes}
 use Rattle.tree.proofs.Releases.{held-row, unprotected-table, unprotected-holds, spared-unread, spared-stays, release-visits, release-accepted, release-refused}
 
 module _ (nodes : List Node) (width : ℕ) (ps codes lent : List ℕ) (held : Holds nodes width ps codes) (n : ℕ) (l : n < length ps) (z : 0 < n)
-    (copy : take width lent ≡ rowAt width n codes)
-    (reach : Reach) (same : SameVisit (record { node = n; spared = n; width = width; from = 0; len = width; what = AtEnd }) lent reach) where
+    (told : take width lent ≡ map endNumber (rowAt width n codes))
+    (reach : Reach) (same : SameVisit (record { node = n; spared = n; width = width; from = 0; len = width; what = accesses.Told }) lent reach) where
   inside : n < length nodes
   inside = omega (arith, held-count held)
 
   means : Means reach lent ps (releaseVisit n nodes)
-  means = means-same _ reach lent ps (releaseVisit n nodes) same (means-release ps (held .root) width (held .earlier) n z nodes lent (copy ∙ held-row nodes width codes (held .table) n inside))
+  means = means-same _ reach lent ps (releaseVisit n nodes) same (means-release ps (held .root) width (held .earlier) n z nodes lent (told ∙ ap (map endNumber) (held-row nodes width codes (held .table) n inside)))
 
   as-wide : {held-nodes : List Node} {cs : List ℕ} → Holds held-nodes width ps cs → Holds held-nodes (reach .width) ps cs
   as-wide {held-nodes} {cs} = subst⁻¹ (λ (w : ℕ). Holds held-nodes w ps cs) (same-width _ reach lent same)

@@ -1,13 +1,14 @@
 -- The visits that the requests make, as the definition's.
 use Prim.Native.Nat.{ℕ, _+_, _*_, _≤_, _<_}
 use mathlib.Core.Path.{_≡_, refl, sym, ap, ap₂, subst, _∙_}
-use mathlib.Core.Option.{Option}
+use mathlib.Core.Option.{Option, none, some}
 use mathlib.Core.List.{List, [], _∷_, map}
 use native.Mathlib.Nat.{le-refl}
 use borrow.Author.Tests.{eq-eqb, ne-eqb}
 use lib.ListN.{length, take, length-map}
 use lib.Seq.{take-length}
 use Rattle.definition.specs.Permission.{AccessKind, Permission, endAccess, initAccess, code, permission}
+use Rattle.definition.specs.Permission.AccessKind.{Read, Write}
 use Rattle.definition.specs.Tree.{Node, nodeAt, Visit, visitRefusal, visited, accessVisit}
 use Rattle.definition.specs.Frame.{releaseVisit}
 use Rattle.definition.proofs.Trees.{Parents}
@@ -17,13 +18,13 @@ use Rattle.definition.proofs.Retags.{readsVisit}
 use Rattle.permission.specs.Codes.{accessKind, endAccessCode, initAccessCode}
 use Rattle.permission.proofs.Codes.{end-access-code}
 use Rattle.permission.specs.declared.AccessKind as declared
-use Rattle.visit.specs.declared.Accesses.the-variants.{Each, AtEnd, AtInit}
+use Rattle.visit.specs.declared.Accesses.the-variants.{Each, Told, AtInit}
 use Rattle.visit.specs.declared.Answer.{Answer}
 use Rattle.visit.specs.declared.Answer.the-variants.{Stays, Changes}
 use Rattle.visit.specs.declared.Reach.{Reach}
 use Rattle.tree.specs.Table.{rowsOf, Holds}
-use Rattle.visit.specs.Walk.{Ready}
-use Rattle.tree.specs.Requests.{unlessRefused, Made, Checked}
+use Rattle.visit.specs.Walk.{Ready, toldAccess}
+use Rattle.tree.specs.Requests.{accessNumber, endNumber, unlessRefused, Made, Checked}
 use Rattle.tree.proofs.Held.{rows-length}
 use Rattle.tree.proofs.Meaning.{Means}
 use Rattle.tree.proofs.Inits.{init-access-permission}
@@ -46,9 +47,16 @@ same-accesses inside = each inside ∙ ap (map initAccessCode) (sym (take-length
     each [] = refl
     each (c ∷ cs) = ap₂ _∷_ (sym (init-access-permission c)) (each cs)
 
-same-ends : (row : List Permission) → map endAccessCode (map code row) ≡ map endAccess row
+-- the number of an access tells it
+number-told : (x : Option AccessKind) → toldAccess (accessNumber x) ≡ x
+unfolding toldAccess
+number-told none = refl
+number-told (some Read) = refl
+number-told (some Write) = refl
+
+same-ends : (row : List Permission) → map toldAccess (map endNumber (map code row)) ≡ map endAccess row
 same-ends [] = refl
-same-ends (p ∷ row) = ap₂ _∷_ (end-access-code p) (same-ends row)
+same-ends (p ∷ row) = ap₂ _∷_ (number-told (endAccessCode (code p)) ∙ end-access-code p) (same-ends row)
 
 module _ (ps : List ℕ) (root : 0 < length ps) (width : ℕ) where
   -- an access of one kind
@@ -67,14 +75,14 @@ module _ (ps : List ℕ) (root : 0 < length ps) (width : ℕ) where
         order = walk-none ps (length ps) (le-refl (length ps)) root;
       }
 
-  -- the accesses of a protector's end, by the codes of the node's row
-  pub means-release : Parents ps → (n : ℕ) → 0 < n → (nodes : List Node) (lent : List ℕ) → take width lent ≡ map code (nodeAt nodes n .permissions)
-      → Means (record { node = n; spared = n; width = width; from = 0; len = width; what = AtEnd }) lent ps (releaseVisit n nodes)
+  -- the accesses of a protector's end, by the numbers that tell them
+  pub means-release : Parents ps → (n : ℕ) → 0 < n → (nodes : List Node) (lent : List ℕ) → take width lent ≡ map endNumber (map code (nodeAt nodes n .permissions))
+      → Means (record { node = n; spared = n; width = width; from = 0; len = width; what = Told }) lent ps (releaseVisit n nodes)
   means-release tree n z nodes lent e =
       record {
         accessed = refl;
         places =
-            subst (λ (xs : List (Option AccessKind)). Places (releaseVisit n nodes .accessAt) 0 xs) (sym (ap (map endAccessCode) e ∙ same-ends (nodeAt nodes n .permissions)))
+            subst (λ (xs : List (Option AccessKind)). Places (releaseVisit n nodes .accessAt) 0 xs) (sym (ap (map toldAccess) e ∙ same-ends (nodeAt nodes n .permissions)))
             (release-places (nodeAt nodes n .permissions));
         order = walk-some ps tree n z root;
       }

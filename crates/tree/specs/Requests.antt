@@ -1,17 +1,19 @@
 -- What a request's visits do, said of each list of nodes that the tables hold.
 use Prim.Native.Nat.{ℕ}
 use mathlib.Core.Path.{_≡_}
+use mathlib.Core.Option.{Option, none, some}
 use mathlib.Core.List.{List}
 use lib.Dec.{eqb}
 use Rattle.definition.specs.Notation.{if_then_else_, _when_, _or_, any}
 use Rattle.definition.specs.Refusal.{notProtected, strongProtector}
-use Rattle.definition.specs.Permission.{Permission}
-use Rattle.definition.specs.Permission.AccessKind.{Write}
+use Rattle.definition.specs.Permission.{AccessKind, Permission}
+use Rattle.definition.specs.Permission.AccessKind.{Read, Write}
 use Rattle.definition.specs.Tree.{Node, nodeAt, Visit, accessVisit, visitRefusal, visited}
 use Rattle.definition.specs.Memory.{Liveness, nodePreventsDeallocation}
 use Rattle.definition.specs.Memory.Liveness.{Live}
 use Rattle.definition.specs.Frame.{lacksProtector, releaseVisitRefusal, releasedNodes}
 use Rattle.definition.proofs.Retags.{readsRefusal, readsVisit}
+use Rattle.permission.specs.Codes.{endAccessCode}
 use Rattle.visit.specs.declared.Answer.{Answer}
 use Rattle.visit.specs.Walk.{Told}
 use Rattle.tree.specs.Table.{rowsOf, marks}
@@ -50,7 +52,16 @@ Deallocated node width nodes = Made (deallocateRefusal node width nodes) (access
 unfoldable pub releaseRefusal : Liveness → ℕ → List Node → ℕ
 releaseRefusal state n nodes = notProtected when lacksProtector (nodeAt nodes n) or releaseVisitRefusal state n nodes
 
--- the latter, and what is left
+-- the access of a protector's end, as the number that tells it to the visit
+abbrev pub accessNumber : Option AccessKind → ℕ
+accessNumber none = 0
+accessNumber (some Read) = 1
+accessNumber (some Write) = 2
+
+abbrev pub endNumber : ℕ → ℕ
+endNumber c = accessNumber (endAccessCode c)
+
+-- what the accesses of its protector's end meet, and what is left
 pub record Ended (n : ℕ) (nodes : List Node) (answer : ℕ) (codes : List ℕ) : Type 0 where
   pub refusal : answer ≡ releaseVisitRefusal Live n nodes
   pub table : codes ≡ rowsOf (unlessRefused (releaseVisitRefusal Live n nodes) nodes (releasedNodes Live n nodes))

@@ -1,4 +1,6 @@
 // The release of a protected node.
+use permission::AccessKind;
+use permission::MaybeAccess;
 use visit::Accesses;
 use visit::Answer;
 use visit::Reach;
@@ -11,10 +13,10 @@ ghost use Rattle.definition.specs.Notation.{any};
 ghost use Rattle.definition.specs.Tree.{nodeAt};
 ghost use Rattle.definition.specs.Memory.Liveness.{Live, Dead};
 ghost use Rattle.definition.specs.Frame.{lacksProtector};
-ghost use Rattle.permission.specs.Codes.{isProtectedCode, unprotectedCode};
+ghost use Rattle.permission.specs.Codes.{isProtectedCode, maybeAccess, unprotectedCode};
 ghost use Rattle.tree.specs.Table.{Holds, HoldsMarks, HoldsAll, Some, Each};
 ghost use Rattle.visit.specs.Walk.{rowAt, withRowAt};
-ghost use Rattle.tree.specs.Requests.{Ended, Released};
+ghost use Rattle.tree.specs.Requests.{Ended, Released, accessNumber, endNumber};
 
 fn has_unprotected(row: &[u8]) -> bool
     ensures { λ r. ⌜ r ≡ any (λ c. not (isProtectedCode c)) (now (row .entry)) ⌝ }
@@ -29,13 +31,27 @@ fn has_unprotected(row: &[u8]) -> bool
     false
 }
 
-fn copy_row(row: &[u8], out: &mut [u8])
-    requires { ⌜ length (now row) ≤ length (now out) ⌝ }
-    ensures { λ _. ⌜ now (out .exit) ≡ now (row .entry) ++ drop (length (now (row .entry))) (now (out .entry)) ⌝ }
+// An access as the number that tells it to a visit.
+fn access_number(access: MaybeAccess) -> u8
+    ensures { λ r. ⌜ r ≡ accessNumber (maybeAccess access) ⌝ }
+{
+    match access {
+        MaybeAccess::Nothing => 0,
+        MaybeAccess::Access(kind) => match kind {
+            AccessKind::Read => 1,
+            AccessKind::Write => 2,
+        },
+    }
+}
+
+// The access that the end of each byte's protector makes, worked out once, and not at each node that is visited.
+fn tell_accesses(row: &[u8], told: &mut [u8])
+    requires { ⌜ length (now row) ≤ length (now told) ⌝ }
+    ensures { λ _. ⌜ now (told .exit) ≡ map endNumber (now (row .entry)) ++ drop (length (now (row .entry))) (now (told .entry)) ⌝ }
 {
     let mut i = 0;
     while i < row.len() {
-        out[i] = row[i];
+        told[i] = access_number(permission::end_access(row[i]));
         i += 1;
     }
 }
@@ -74,10 +90,10 @@ fn lacks_protector(protectors: &[u8], codes: &[u8], width: usize, node: usize) -
 }
 
 // The end of a node's protector, on a live allocation: the first refusal of its accesses, with the codes as they were; or 0, with the node unprotected
-// and the accesses made. The lent row has a copy of the node's row, which they do not reach: what the check told holds once that is unprotected.
+// and the accesses made. The lent row tells the accesses. They do not reach the node: what the check told holds once its row is unprotected.
 fn end_protector(parents: &[u16], codes: &mut [u8], lent: &[u8], width: usize, node: usize) -> u8
     requires { ⌜ Some (λ nodes. Holds nodes width (now parents) (now codes)) ⌝ }
-    requires { ⌜ (node < length (now parents)) × (0 < node) × (take width (now lent) ≡ rowAt width node (now codes)) ⌝ }
+    requires { ⌜ (node < length (now parents)) × (0 < node) × (take width (now lent) ≡ map endNumber (rowAt width node (now codes))) ⌝ }
     ensures { λ r. ⌜ Each (λ nodes. Holds nodes width (now (parents .entry)) (now (codes .entry))) (λ nodes. Ended node nodes r (now (codes .exit))) ⌝ }
 {
     let v = Reach {
@@ -86,7 +102,7 @@ fn end_protector(parents: &[u16], codes: &mut [u8], lent: &[u8], width: usize, n
         width,
         from: 0,
         len: width,
-        what: Accesses::AtEnd,
+        what: Accesses::Told,
     };
     let v = visit::settled(lent, v);
     match visit::check_lent(parents, codes, lent, v) {
@@ -115,12 +131,12 @@ pub fn release(
 ) -> u8
     requires { ⌜ Some (λ nodes. HoldsAll nodes width (now parents) (now protectors) (now codes)) ⌝ }
     requires { ⌜ (node < length (now parents)) × (width ≤ length (now lent)) ⌝ }
-    ensures { λ _. ⌜ now (lent .exit) ≡ rowAt width node (now (codes .entry)) ++ drop width (now (lent .entry)) ⌝ }
+    ensures { λ _. ⌜ now (lent .exit) ≡ map endNumber (rowAt width node (now (codes .entry))) ++ drop width (now (lent .entry)) ⌝ }
     ensures { λ r. ⌜ Each (λ nodes. HoldsAll nodes width (now (parents .entry)) (now (protectors .entry)) (now (codes .entry))) (λ nodes. Released Live node nodes r (now (protectors .exit)) (now (codes .exit))) ⌝ }
 {
     let start = node * width;
     let end = start + width;
-    copy_row(&codes[start..end], lent);
+    tell_accesses(&codes[start..end], lent);
     if lacks_protector(protectors, codes, width, node) {
         return 16;
     }

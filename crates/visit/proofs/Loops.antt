@@ -1,38 +1,46 @@
--- Loops through a list: a copy, and a change of each element in place.
+-- Loops through a list: what is written of each element into another, and a change of each in place.
 use Prim.Native.Nat.{ℕ, zero, suc, _+_, _≤_, _<_}
 use mathlib.Core.Path.{_≡_, refl, sym, ap, ap₂, _∙_}
 use mathlib.Core.List.{List, [], _∷_, _++_, map, append-nil}
 use native.Mathlib.Numerals.{add-one}
 use native.Mathlib.Omega.{arith}
 use lib.ListN.{length, getD, take, drop, set, length-append, length-drop, length-map, drop-of-length-le, List·getD-append}
-use lib.Seq.{take-append-seam, take-all, length-take-le}
+use lib.Seq.{take-at, take-all, length-take-le}
 use Rattle.definition.proofs.Lists.{loop-get, loop-set}
 
--- ---- a copy of row into out
-module _ (row out : List ℕ) (fits : length row ≤ length out) where
-  abbrev copied : List ℕ
-  copied = row ++ drop (length row) out
+-- ---- f of each element of row, written into out
+map-at : (f : ℕ → ℕ) (l : List ℕ) (i : ℕ) → i < length l → getD (map f l) i 0 ≡ f (getD l i 0)
+map-at f [] i h = absurd (omega arith)
+map-at f (x ∷ l) zero h = refl
+map-at f (x ∷ l) (suc i) h = map-at f l i (omega arith)
 
-  copied-length : length copied ≡ length out
-  copied-length = length-append row (drop (length row) out) ∙ rw (length-drop (length row) out) (omega arith)
+module _ (f : ℕ → ℕ) (row out : List ℕ) (fits : length row ≤ length out) where
+  abbrev written : List ℕ
+  written = map f row ++ drop (length row) out
 
-  -- the bytes before i are copied
-  abbrev pub copiedTo : ℕ → List ℕ
-  copiedTo i = take i copied ++ drop i out
+  written-length : length written ≡ length out
+  written-length = length-append (map f row) (drop (length row) out) ∙ rw (length-map row f, length-drop (length row) out) (omega arith)
 
-  pub copied-to-length : (i : ℕ) → i ≤ length row → length (copiedTo i) ≡ length out
-  copied-to-length i l =
-      length-append (take i copied) (drop i out) ∙ rw (length-take-le i copied (omega (arith, copied-length)), length-drop i out) (omega arith)
+  -- the elements before i are written
+  abbrev pub writtenTo : ℕ → List ℕ
+  writtenTo i = take i written ++ drop i out
 
-  pub copy-turn : (i : ℕ) → i < length row → (now after : List ℕ) → now ≡ copiedTo i → after ≡ set now i (getD row i 0) → after ≡ copiedTo (i + 1)
-  copy-turn i l now after e s =
+  pub written-to-length : (i : ℕ) → i ≤ length row → length (writtenTo i) ≡ length out
+  written-to-length i l =
+      length-append (take i written) (drop i out) ∙ rw (length-take-le i written (omega (arith, written-length)), length-drop i out) (omega arith)
+
+  pub write-turn : (i : ℕ) → i < length row → (now after : List ℕ) → now ≡ writtenTo i → after ≡ set now i (f (getD row i 0)) → after ≡ writtenTo (i + 1)
+  write-turn i l now after e s =
+      let new : f (getD row i 0) ≡ getD written i 0 =
+      sym (List·getD-append (map f row) (drop (length row) out) 0 i (omega (arith, length-map row f)) ∙ map-at f row i l) in
       s
-      ∙ ap₂ (λ (m : List ℕ) (c : ℕ). set m i c) e (sym (List·getD-append row (drop (length row) out) 0 i l))
-      ∙ loop-set copied out 0 i copied-length (omega arith)
-      ∙ ap copiedTo (sym (add-one i))
+      ∙ ap₂ (λ (m : List ℕ) (c : ℕ). set m i c) e new
+      ∙ loop-set written out 0 i written-length (omega arith)
+      ∙ ap writtenTo (sym (add-one i))
 
-  pub copied-all : (i : ℕ) → i ≡ length row → copiedTo i ≡ row ++ drop (length row) out
-  copied-all i e = ap copiedTo e ∙ ap (λ (l : List ℕ). l ++ drop (length row) out) (take-append-seam row (drop (length row) out))
+  pub written-all : (i : ℕ) → i ≡ length row → writtenTo i ≡ map f row ++ drop (length row) out
+  written-all i e =
+      ap writtenTo e ∙ ap (λ (l : List ℕ). l ++ drop (length row) out) (take-at (map f row) (drop (length row) out) (length row) (length-map row f))
 
 -- ---- each element of row changed in place into that of target
 module _ (row target : List ℕ) (same : length target ≡ length row) where
@@ -56,11 +64,6 @@ module _ (row target : List ℕ) (same : length target ≡ length row) where
       ap₂ (λ (a b : List ℕ). a ++ b) (take-all i target (omega (arith, same))) (drop-of-length-le row {i = i} (omega arith)) ∙ append-nil target
 
 -- ---- f of each element, in place
-map-at : (f : ℕ → ℕ) (l : List ℕ) (i : ℕ) → i < length l → getD (map f l) i 0 ≡ f (getD l i 0)
-map-at f [] i h = absurd (omega arith)
-map-at f (x ∷ l) zero h = refl
-map-at f (x ∷ l) (suc i) h = map-at f l i (omega arith)
-
 module _ (f : ℕ → ℕ) (row : List ℕ) where
   -- the elements before i are changed
   abbrev pub mappedTo : ℕ → List ℕ

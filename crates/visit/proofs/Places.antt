@@ -1,9 +1,9 @@
 -- Where the rows of a table stand.
 use Prim.Native.Nat.{ℕ, _+_, _-_, _*_, _≤_, _<_}
 use mathlib.Core.Path.{_≡_, sym, ap, ap₂, subst⁻¹, _∙_}
-use mathlib.Core.List.{List, _++_, append-assoc}
+use mathlib.Core.List.{List, _++_, map, append-assoc}
 use native.Mathlib.Omega.{arith}
-use lib.ListN.{length, take, drop, length-drop, take-append-drop}
+use lib.ListN.{length, take, drop, length-drop, length-map, take-append-drop}
 use lib.Seq.{length-take-le, take-at, take-take, take-add, take-append-le, drop-append-le, drop-drop}
 use Rattle.definition.specs.Tree.{relation}
 use Rattle.definition.proofs.Parts.{row-fits}
@@ -78,17 +78,17 @@ told-node v ps starts codes n (Refused m) t = t
 pub row-length : (w n : ℕ) (codes : List ℕ) → n * w + w ≤ length codes → length (rowAt w n codes) ≡ w
 row-length w n codes fits = length-take-le w (drop (n * w) codes) (omega (arith, length-drop (n * w) codes))
 
--- row n copied to the front of a lent row
-module _ (w n : ℕ) (codes lent out : List ℕ) (fits : n * w + w ≤ length codes) where
-  pub copied-row : out ≡ take (n * w + w - n * w) (drop (n * w) codes) ++ drop (length (take (n * w + w - n * w) (drop (n * w) codes))) lent
-      → out ≡ rowAt w n codes ++ drop w lent
-  copied-row e =
+-- f of each code of row n, written to the front of a lent row
+module _ (f : ℕ → ℕ) (w n : ℕ) (codes lent out : List ℕ) (fits : n * w + w ≤ length codes) where
+  pub written-row : out ≡ map f (take (n * w + w - n * w) (drop (n * w) codes)) ++ drop (length (take (n * w + w - n * w) (drop (n * w) codes))) lent
+      → out ≡ map f (rowAt w n codes) ++ drop w lent
+  written-row e =
       e
-      ∙ ap (λ (row : List ℕ). row ++ drop (length row) lent) (part-row w n codes)
-      ∙ ap (λ (k : ℕ). rowAt w n codes ++ drop k lent) (row-length w n codes fits)
+      ∙ ap (λ (row : List ℕ). map f row ++ drop (length row) lent) (part-row w n codes)
+      ∙ ap (λ (k : ℕ). map f (rowAt w n codes) ++ drop k lent) (row-length w n codes fits)
 
-  pub lent-row : out ≡ rowAt w n codes ++ drop w lent → take w out ≡ rowAt w n codes
-  lent-row e = ap (take w) e ∙ take-at (rowAt w n codes) (drop w lent) w (row-length w n codes fits)
+  pub lent-row : out ≡ map f (rowAt w n codes) ++ drop w lent → take w out ≡ map f (rowAt w n codes)
+  lent-row e = ap (take w) e ∙ take-at (map f (rowAt w n codes)) (drop w lent) w (length-map (rowAt w n codes) f ∙ row-length w n codes fits)
 
 -- a table of the same length is as ready
 pub ready-again : (v : Reach) (ps codes codes′ : List ℕ) → length codes′ ≡ length codes → Ready v ps codes → Ready v ps codes′

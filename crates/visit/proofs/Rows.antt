@@ -12,19 +12,21 @@ use lib.ListN.{length, getD, take, drop, set, replicate, getD-replicate, length-
 use lib.Seq.{getD-take, drop-cons, length-take-le, set-getD}
 use Rattle.definition.specs.Notation.{if_then_else_, _or_}
 use Rattle.definition.specs.Permission.{AccessKind, NodeRelation}
+use Rattle.definition.specs.Permission.AccessKind.{Read, Write}
 use Rattle.definition.specs.Permission.Permission.{Unprot}
 use Rattle.definition.specs.Permission.PermissionUnprot.{Cell}
-use Rattle.permission.proofs.Codes.{end-access-code, init-access-code, stays-told, becomes-told, refused-told, refused-next, refused-some}
-use Rattle.permission.specs.Codes.{accessKind, transitionCode, refusalCode, nextCode, endAccessCode, initAccessCode}
+use Rattle.permission.proofs.Codes.{init-access-code, stays-told, becomes-told, refused-told, refused-next, refused-some}
+use Rattle.permission.specs.Codes.{accessKind, transitionCode, refusalCode, nextCode, initAccessCode}
 use Rattle.permission.specs.declared.AccessKind as declared
 use Rattle.permission.specs.declared.Outcome.{Outcome}
 use Rattle.permission.specs.declared.Outcome.the-variants.{Stays, Becomes, Refused}
 use Rattle.visit.specs.declared.Accesses.{Accesses}
 use Rattle.visit.specs.declared.Answer.{Answer}
 use Rattle.visit.specs.declared.Answer.the-variants as answer
-use Rattle.visit.specs.declared.Accesses.the-variants.{Each, AtEnd, AtInit}
+use Rattle.visit.specs.declared.Accesses.the-variants as accesses
+use Rattle.visit.specs.declared.Accesses.the-variants.{Each, AtInit}
 use Rattle.visit.specs.declared.Reach.{Reach}
-use Rattle.visit.specs.Walk.{Told, ToldBytes, ToldRow, unrefused, accessAt, accessesAt, codesRefusal, codesAfter, outcomeAt, isStays, stayingUnder, stayingCount}
+use Rattle.visit.specs.Walk.{Told, ToldBytes, ToldRow, unrefused, toldAccess, accessAt, accessesAt, codesRefusal, codesAfter, outcomeAt, isStays, stayingUnder, stayingCount}
 use Rattle.visit.proofs.Steps.{no-refusal, no-change}
 
 abbrev isTrue : Bool → Type 0
@@ -68,19 +70,34 @@ pub at-refused : (x : Option AccessKind) (r : NodeRelation) (c n : ℕ) → outc
 at-refused none r c n e = absurd (true-not-false (ap isStays e))
 at-refused (some a) r c n e = (refused-told a r c n e, refused-next a r c n e, refused-some a r c n e)
 
+-- ---- the access that a number tells
+pub told-none : (n : ℕ) → n ≡ 0 → toldAccess n ≡ none
+unfolding toldAccess
+told-none n e = ap toldAccess e
+
+pub told-read : (n : ℕ) → n ≡ 1 → toldAccess n ≡ some Read
+unfolding toldAccess
+told-read n e = ap toldAccess e
+
+pub told-write : (n : ℕ) → (n ≡ 0 → ⊥) → (n ≡ 1 → ⊥) → toldAccess n ≡ some Write
+unfolding toldAccess
+told-write zero z o = absurd (z refl)
+told-write (suc zero) z o = absurd (o refl)
+told-write (suc (suc k)) z o = refl
+
 -- ---- the accesses of a visit
 pub planned-at : (what : Accesses) (n : ℕ) (starts : List ℕ) (k : ℕ) → k < n → getD (accessesAt what n starts) k none ≡ accessAt what starts k
-unfolding endAccessCode initAccessCode
+unfolding toldAccess initAccessCode
 planned-at (Each a) n starts k l = getD-replicate n k (some (accessKind a)) none l
-planned-at AtEnd n starts k l = List·getD-map endAccessCode (take n starts) k 0 ∙ ap endAccessCode (getD-take n starts k 0 l)
+planned-at accesses.Told n starts k l = List·getD-map toldAccess (take n starts) k 0 ∙ ap toldAccess (getD-take n starts k 0 l)
 planned-at AtInit n starts k l = List·getD-map initAccessCode (take n starts) k 0 ∙ ap initAccessCode (getD-take n starts k 0 l)
 
 pub planned-length : (what : Accesses) (n : ℕ) (starts : List ℕ) → length (accessesAt what n starts) ≤ n
 planned-length (Each a) n starts = omega (arith, length-replicate n (some (accessKind a)))
-planned-length AtEnd n starts = omega (arith, length-map (take n starts) endAccessCode, length-take n starts, min-le-left n (length starts))
+planned-length accesses.Told n starts = omega (arith, length-map (take n starts) toldAccess, length-take n starts, min-le-left n (length starts))
 planned-length AtInit n starts = omega (arith, length-map (take n starts) initAccessCode, length-take n starts, min-le-left n (length starts))
 
--- one access at all bytes: where there is no code there is none, so there is one for each byte
+-- one access at all bytes: where there is no number there is none, so there is one for each byte
 same-each : (f : ℕ → Option AccessKind) → f 0 ≡ none → (a : AccessKind) (n : ℕ) (starts : List ℕ) → ((i : ℕ) → i < n → f (getD starts i 0) ≡ some a)
     → replicate n (some a) ≡ map f (take n starts)
 same-each f z a zero starts h = refl
@@ -91,7 +108,7 @@ same-each f z a (suc n) (c ∷ starts) h =
 pub all-alike : (what : Accesses) (n : ℕ) (starts : List ℕ) (kind : declared.AccessKind) → accessAt what starts 0 ≡ some (accessKind kind)
     → ((i : ℕ) → i < n → getD starts i 0 ≡ getD starts 0 0) → accessesAt (Each kind) n starts ≡ accessesAt what n starts
 all-alike (Each a) n starts kind e h = ap (replicate n) (sym e)
-all-alike AtEnd n starts kind e h = same-each endAccessCode (end-access-code (Unprot Cell)) (accessKind kind) n starts (λ i l. ap endAccessCode (h i l) ∙ e)
+all-alike accesses.Told n starts kind e h = same-each toldAccess (told-none 0 refl) (accessKind kind) n starts (λ i l. ap toldAccess (h i l) ∙ e)
 all-alike AtInit n starts kind e h = same-each initAccessCode (init-access-code (Unprot Cell)) (accessKind kind) n starts (λ i l. ap initAccessCode (h i l) ∙ e)
 
 -- ---- codes under accesses
@@ -295,13 +312,13 @@ module _ (starts : List ℕ) (r : NodeRelation) where
 
   pub count-within : (what : Accesses) (cs : List ℕ) (k : ℕ) → k ≡ stayingCount what r cs → k ≤ length cs
   count-within (Each a) cs k e = omega (arith, e, staying-within (accessKind a) r cs)
-  count-within AtEnd cs k e = omega (arith, e)
+  count-within accesses.Told cs k e = omega (arith, e)
   count-within AtInit cs k e = omega (arith, e)
 
   -- behind those that stay
   pub behind-told : (what : Accesses) (cs : List ℕ) (k : ℕ) (given : Answer) → k ≡ stayingCount what r cs → ToldBytes what starts r (drop k cs) given → ToldBytes what starts r cs given
   behind-told (Each a) cs k given e t = front-told (accessKind a) r cs given (subst (λ (i : ℕ). ToldBytes (Each a) starts r (drop i cs) given) e t)
-  behind-told AtEnd cs k given e t = subst (λ (i : ℕ). ToldBytes AtEnd starts r (drop i cs) given) e t
+  behind-told accesses.Told cs k given e t = subst (λ (i : ℕ). ToldBytes accesses.Told starts r (drop i cs) given) e t
   behind-told AtInit cs k given e t = subst (λ (i : ℕ). ToldBytes AtInit starts r (drop i cs) given) e t
 
   -- all of them stay

@@ -7,14 +7,16 @@ use mathlib.Core.List.{List, [], _∷_, _++_, map}
 use lib.ListN.{length, getD, take, drop, replicate}
 use Rattle.definition.specs.Notation.{if_then_else_, _or_, firstRefusal}
 use Rattle.definition.specs.Permission.{AccessKind, NodeRelation}
+use Rattle.definition.specs.Permission.AccessKind.{Read, Write}
 use Rattle.definition.specs.Tree.{relation}
 use Rattle.definition.proofs.Trees.{Parents}
 use Rattle.definition.proofs.Order.{walk}
-use Rattle.permission.specs.Codes.{accessKind, transitionCode, refusalCode, nextCode, endAccessCode, initAccessCode}
+use Rattle.permission.specs.Codes.{accessKind, transitionCode, refusalCode, nextCode, initAccessCode}
 use Rattle.permission.specs.declared.Outcome.{Outcome}
 use Rattle.permission.specs.declared.Outcome.the-variants as outcome
 use Rattle.visit.specs.declared.Accesses.{Accesses}
-use Rattle.visit.specs.declared.Accesses.the-variants.{Each, AtEnd, AtInit}
+use Rattle.visit.specs.declared.Accesses.the-variants as accesses
+use Rattle.visit.specs.declared.Accesses.the-variants.{Each, AtInit}
 use Rattle.visit.specs.declared.Answer.{Answer}
 use Rattle.visit.specs.declared.Answer.the-variants.{Stays, Changes, Refused}
 use Rattle.visit.specs.declared.Reach.{Reach}
@@ -28,16 +30,22 @@ pub record Ready (v : Reach) (ps codes : List ℕ) : Type 0 where
   pub few : length ps ≤ 1024
 
 -- ---- the accesses at the bytes, from the first visited one on
+-- the one that a number tells
+unfoldable pub toldAccess : ℕ → Option AccessKind
+toldAccess zero = none
+toldAccess (suc zero) = some Read
+toldAccess (suc (suc k)) = some Write
+
 -- at the k-th of them
 abbrev pub accessAt : Accesses → List ℕ → ℕ → Option AccessKind
 accessAt (Each a) starts k = some (accessKind a)
-accessAt AtEnd starts k = endAccessCode (getD starts k 0)
+accessAt accesses.Told starts k = toldAccess (getD starts k 0)
 accessAt AtInit starts k = initAccessCode (getD starts k 0)
 
 -- at n of them
 abbrev pub accessesAt : Accesses → ℕ → List ℕ → List (Option AccessKind)
 accessesAt (Each a) n starts = replicate n (some (accessKind a))
-accessesAt AtEnd n starts = map endAccessCode (take n starts)
+accessesAt accesses.Told n starts = map toldAccess (take n starts)
 accessesAt AtInit n starts = map initAccessCode (take n starts)
 
 abbrev pub planned : Reach → List ℕ → List (Option AccessKind)
@@ -78,7 +86,7 @@ stayingUnder a r (c ∷ cs) = if isStays (transitionCode a r c) then suc (stayin
 -- none are counted where each byte has an access of its own
 abbrev pub stayingCount : Accesses → NodeRelation → List ℕ → ℕ
 stayingCount (Each a) r cs = stayingUnder (accessKind a) r cs
-stayingCount AtEnd r cs = 0
+stayingCount accesses.Told r cs = 0
 stayingCount AtInit r cs = 0
 
 -- ---- a row

@@ -85,7 +85,7 @@ pub fn check(parents: &[u16], codes: &[u8], starts: &[u8], v: Reach) -> Answer
     check_planned(&mut scratch, parents, codes, starts, v)
 }
 
-// The same of a visit by lent codes.
+// The same of a visit by a lent row.
 pub fn check_lent(parents: &[u16], codes: &[u8], starts: &[u8], v: Reach) -> Answer
     requires { ⌜ Ready v (now parents) (now codes) × (0 < v .spared) ⌝ }
     ensures { λ r. ⌜ ToldOf v (now (parents .entry)) (now (starts .entry)) (now (codes .entry)) (subtree (v .spared) 0 (now (parents .entry))) r ⌝ }

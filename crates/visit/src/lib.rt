@@ -16,11 +16,11 @@ pub use row::settled;
 ghost use mathlib.Core.Path.{_≡_};
 ghost use Rattle.visit.specs.Walk as walk;
 
-// The accesses of a visit: the same at each byte; or, by a lent row of codes, the one that the end of the byte's protector makes, or the
-// one by which a retag reads the byte.
+// The accesses of a visit: the same at each byte; or by a lent row of numbers, which tell each byte's access: 0 for none, 1 for a read, 2 for a
+// write; or by a lent row of codes, as a retag reads the bytes.
 pub enum Accesses {
     Each(AccessKind),
-    AtEnd,
+    Told,
     AtInit,
 }
 

@@ -14,14 +14,25 @@ ghost use Prim.Native.Nat.{ℕ, _+_, _*_, _≤_, _<_};
 ghost use lib.ListN.{length, getD};
 ghost use Rattle.definition.specs.Permission.NodeRelation.{Local, Foreign};
 ghost use Rattle.permission.specs.Codes.{accessKind, maybeAccess, nodeRelation};
-ghost use Rattle.visit.specs.Walk.{SameVisit, ToldBytes, ToldRow, accessAt, bytesAfter, isStays, outcomeAt, rowAfter, rowAt, stayingCount, stayingUnder, withRowAt};
+ghost use Rattle.visit.specs.Walk.{SameVisit, ToldBytes, ToldRow, accessAt, bytesAfter, isStays, outcomeAt, rowAfter, rowAt, stayingCount, stayingUnder, toldAccess, withRowAt};
 
 // ---- the accesses at the visited bytes
-// The lent code at the k-th of them, 0 where there is none.
+// The lent number at the k-th of them, 0 where there is none.
 fn start_at(starts: &[u8], k: usize) -> u8
     ensures { λ r. ⌜ r ≡ getD (now (starts .entry)) k 0 ⌝ }
 {
     if k < starts.len() { starts[k] } else { 0 }
+}
+
+// The access that a number tells.
+fn told_access(number: u8) -> MaybeAccess
+    ensures { λ r. ⌜ maybeAccess r ≡ toldAccess number ⌝ }
+{
+    match number {
+        0 => MaybeAccess::Nothing,
+        1 => MaybeAccess::Access(AccessKind::Read),
+        _ => MaybeAccess::Access(AccessKind::Write),
+    }
 }
 
 fn access_at(what: Accesses, starts: &[u8], k: usize) -> MaybeAccess
@@ -29,12 +40,12 @@ fn access_at(what: Accesses, starts: &[u8], k: usize) -> MaybeAccess
 {
     match what {
         Accesses::Each(kind) => MaybeAccess::Access(kind),
-        Accesses::AtEnd => permission::end_access(start_at(starts, k)),
+        Accesses::Told => told_access(start_at(starts, k)),
         Accesses::AtInit => permission::init_access(start_at(starts, k)),
     }
 }
 
-// All bytes have the code of the first.
+// All bytes have the number of the first.
 fn all_alike(starts: &[u8], len: usize) -> bool
     ensures { λ r. ⌜ (r ≡ true → (i : ℕ) → i < len → getD (now (starts .entry)) i 0 ≡ getD (now (starts .entry)) 0 0) ⌝ }
 {
@@ -64,7 +75,7 @@ pub(crate) fn any_access(what: Accesses, starts: &[u8], len: usize) -> bool
     false
 }
 
-// A visit by lent codes, as one of the same access at each byte where all of them have the same: it is then worked out once, and not at each node.
+// A visit by a lent row, as one of the same access at each byte where all of them have the same: it is then worked out once, and not at each node.
 pub fn settled(starts: &[u8], v: Reach) -> Reach
     ensures { λ r. ⌜ SameVisit v (now (starts .entry)) r ⌝ }
 {
@@ -138,7 +149,7 @@ fn staying(row: &[u8], what: Accesses, relation: NodeRelation) -> usize
 {
     match what {
         Accesses::Each(kind) => staying_under(row, kind, relation),
-        Accesses::AtEnd => 0,
+        Accesses::Told => 0,
         Accesses::AtInit => 0,
     }
 }

@@ -1,16 +1,16 @@
 -- 16, or the end of the node's protector; a node that has one is not the root.
 use Prim.Native.Nat.{ℕ, _+_, _*_, _≤_, _<_}
 use mathlib.Core.Bool.{false}
-use mathlib.Core.List.{List, _++_}
+use mathlib.Core.List.{List, _++_, map}
 use mathlib.Core.Path.{_≡_, refl, sym, ap, subst, _∙_}
 use lib.ListN.{length, drop, set}
 use Rattle.definition.specs.Tree.{Node, nodeAt}
 use Rattle.definition.specs.Memory.Liveness.{Live}
 use Rattle.definition.specs.Frame.{lacksProtector}
 use Rattle.visit.specs.Walk.{rowAt}
-use Rattle.visit.proofs.Places.{copied-row, lent-row}
+use Rattle.visit.proofs.Places.{written-row, lent-row}
 use Rattle.tree.specs.Table.{HoldsAll}
-use Rattle.tree.specs.Requests.{Ended}
+use Rattle.tree.specs.Requests.{Ended, endNumber}
 use Rattle.tree.proofs.Held.{node-fits, held-count, marks-count, held-marks}
 use Rattle.tree.proofs.Releases.{root-lacks, released-marks, release-16, release-refused}
 use Rattle.tree.proofs.Ends.{ended-refused, ended-accepted}
@@ -19,15 +19,15 @@ use native.Mathlib.Omega.{arith}
 use Rattle.tree.proofs.protector.release.Statement.{statement}
 use Rattle.tree.proofs.protector.release.Tie as tie
 
--- ---- states by name: `g-before-f` is the state behind g, as it is known behind f; the first one is `entry`. `lent` is where the node's row is lent on, to be copied
+-- ---- states by name: `g-before-f` is the state behind g, as it is known behind f; the first one is `entry`. `lent` is where the node's row is lent on, for its accesses to be told
 abbrev entry-before-lent : tie.After-codes → tie.Start
 entry-before-lent c = c .before .before .before .before .before
 
-abbrev entry : tie.After-copy-row → tie.Start
+abbrev entry : tie.After-tell-accesses → tie.Start
 entry c = entry-before-lent (c .before .before .before)
 
-abbrev copy-row-before-lacks-protector : tie.After-lacks-protector → tie.After-copy-row
-copy-row-before-lacks-protector c = c .before .before .before .before .before
+abbrev tell-accesses-before-lacks-protector : tie.After-lacks-protector → tie.After-tell-accesses
+tell-accesses-before-lacks-protector c = c .before .before .before .before .before
 
 abbrev else1-before-end-protector : tie.After-end-protector → tie.Else1
 else1-before-end-protector c = c .before .before .before
@@ -39,12 +39,12 @@ ends s = node-fits (s .pre .0 .1 .holds) (s .args .node) (s .pre .1 .0)
 has-mark : (s : tie.Start) → s .args .node < length (s .args .protectors .now)
 has-mark s = omega (arith, held-count (s .pre .0 .1 .holds), marks-count (s .pre .0 .0) (s .args .protectors .now) (s .pre .0 .1 .marked), s .pre .1 .0)
 
--- the lent row has a copy of the node's
-row-copied : (c : tie.After-copy-row) → let a = entry c .args in c .copy-row .last .1 .0 ≡ rowAt (a .width) (a .node) (a .codes .now) ++ drop (a .width) (a .lent .now)
-row-copied c = let a = entry c .args in copied-row (a .width) (a .node) (a .codes .now) (a .lent .now) _ (ends (entry c)) (c .copy-row .ensures)
+-- the lent row tells the accesses of the node's
+row-told : (c : tie.After-tell-accesses) → let a = entry c .args in c .tell-accesses .last .1 .0 ≡ map endNumber (rowAt (a .width) (a .node) (a .codes .now)) ++ drop (a .width) (a .lent .now)
+row-told c = let a = entry c .args in written-row endNumber (a .width) (a .node) (a .codes .now) (a .lent .now) _ (ends (entry c)) (c .tell-accesses .ensures)
 
 -- where 16 is not answered the node has a protector
-protected : (c : tie.Else1) (nodes : List Node) → let a = entry (copy-row-before-lacks-protector (c .before)) .args in HoldsAll nodes (a .width) (a .parents .now) (a .protectors .now) (a .codes .now)
+protected : (c : tie.Else1) (nodes : List Node) → let a = entry (tell-accesses-before-lacks-protector (c .before)) .args in HoldsAll nodes (a .width) (a .parents .now) (a .protectors .now) (a .codes .now)
     → lacksProtector (nodeAt nodes (a .node)) ≡ false
 protected c nodes held = sym (c .before .lacks-protector .ensures nodes (held-marks held)) ∙ c .if1 .left
 
@@ -54,17 +54,17 @@ mul-start c = omega (arith, ends (c .before .before .before .before))
 add-end : tie.Need-add-end
 add-end c = omega (arith, ends (c .before .before .before .before))
 
-sub-copy-row : tie.Need-sub-copy-row
-sub-copy-row c = search needs
+sub-tell-accesses : tie.Need-sub-tell-accesses
+sub-tell-accesses c = search needs
 
-part-copy-row-start : tie.Need-part-copy-row-start
-part-copy-row-start c = search needs
+part-tell-accesses-start : tie.Need-part-tell-accesses-start
+part-tell-accesses-start c = search needs
 
-part-copy-row-end : tie.Need-part-copy-row-end
-part-copy-row-end c = ends (entry-before-lent c)
+part-tell-accesses-end : tie.Need-part-tell-accesses-end
+part-tell-accesses-end c = ends (entry-before-lent c)
 
-copy-row-requires : tie.Need-copy-row-requires
-copy-row-requires c κs = search needs
+tell-accesses-requires : tie.Need-tell-accesses-requires
+tell-accesses-requires c κs = search needs
 
 lacks-protector-requires : tie.Need-lacks-protector-requires
 lacks-protector-requires c κs =
@@ -84,17 +84,17 @@ same-length-3 c = search needs
 returns : tie.Need-returns
 returns c =
     let tested = c .before in
-    let copy = copy-row-before-lacks-protector tested in
-    let n = entry copy .args .node in (
-      row-copied copy,
+    let told = tell-accesses-before-lacks-protector tested in
+    let n = entry told .args .node in (
+      row-told told,
       λ nodes held. release-refused Live nodes n 16 _ _ (release-16 Live nodes n (sym (tested .lacks-protector .ensures nodes (held-marks held)) ∙ c .if1 .taken)) (λ q. absurd (omega arith)) (held .marked) (held .holds .table .rows),
     )
 
 end-protector-requires : tie.Need-end-protector-requires
 end-protector-requires c κs =
     let left = c .before .before in
-    let copy = copy-row-before-lacks-protector (left .before) in
-    let s = entry copy in
+    let told = tell-accesses-before-lacks-protector (left .before) in
+    let s = entry told in
     let nodes = s .pre .0 .0 in
     let held = s .pre .0 .1 in
     let a = s .args in (
@@ -102,7 +102,7 @@ end-protector-requires c κs =
       (
         s .pre .1 .0,
         root-lacks nodes (held .rootFree) (a .node) (protected left nodes held),
-        lent-row (a .width) (a .node) (a .codes .now) (a .lent .now) _ (ends s) (row-copied copy),
+        lent-row endNumber (a .width) (a .node) (a .codes .now) (a .lent .now) _ (ends s) (row-told told),
       ),
     )
 
@@ -119,16 +119,16 @@ returns-2 : tie.Need-returns-2
 returns-2 c =
     let end = c .before .before .before in
     let left = else1-before-end-protector end in
-    let copy = copy-row-before-lacks-protector (left .before) in
+    let told = tell-accesses-before-lacks-protector (left .before) in
     let ended = end .end-protector in (
-      row-copied copy,
-      λ nodes held. ended-refused nodes (entry copy .args .node) (ended .result) _ (ended .ensures nodes (held .holds)) (protected left nodes held) _ (c .if2 .taken) (held .marked),
+      row-told told,
+      λ nodes held. ended-refused nodes (entry told .args .node) (ended .result) _ (ended .ensures nodes (held .holds)) (protected left nodes held) _ (c .if2 .taken) (held .marked),
     )
 
 slice-write-protectors : tie.Need-slice-write-protectors
 slice-write-protectors c =
     let left = else1-before-end-protector (c .before .before .before) in
-    has-mark (entry (copy-row-before-lacks-protector (left .before)))
+    has-mark (entry (tell-accesses-before-lacks-protector (left .before)))
 
 same-length-7 : tie.Need-same-length-7
 same-length-7 c = search needs
@@ -143,10 +143,10 @@ returns-3 : tie.Need-returns-3
 returns-3 c =
     let end = c .before .before .before in
     let left = else1-before-end-protector end in
-    let copy = copy-row-before-lacks-protector (left .before) in
-    let n = entry copy .args .node in
+    let told = tell-accesses-before-lacks-protector (left .before) in
+    let n = entry told .args .node in
     let ended = end .end-protector in (
-      row-copied copy,
+      row-told told,
       λ nodes held.
           ended-accepted nodes n 0 _ (subst (λ (k : ℕ). Ended n nodes k (ended .last .1 .0)) (c .if2 .left) (ended .ensures nodes (held .holds))) (protected left nodes held) _ refl
           (ap (λ (m : List ℕ). set m n 0) (held .marked) ∙ released-marks nodes n),
@@ -158,10 +158,10 @@ release-spec =
     (tie.spec
     mul-start
     add-end
-    sub-copy-row
-    part-copy-row-start
-    part-copy-row-end
-    copy-row-requires
+    sub-tell-accesses
+    part-tell-accesses-start
+    part-tell-accesses-end
+    tell-accesses-requires
     lacks-protector-requires
     same-length
     same-length-2

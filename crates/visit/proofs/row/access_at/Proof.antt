@@ -1,6 +1,7 @@
 -- By cases of what the accesses are.
 use mathlib.Core.Path.{ap, _∙_}
-use Rattle.permission.specs.Codes.{endAccessCode, initAccessCode}
+use Rattle.permission.specs.Codes.{initAccessCode}
+use Rattle.visit.specs.Walk.{toldAccess}
 use borrow.Author.Needs.{needs}
 use Rattle.visit.proofs.row.access_at.Statement.{statement}
 use Rattle.visit.proofs.row.access_at.Tie as tie
@@ -14,8 +15,8 @@ enum-told c = search needs
 start-at-requires : tie.Need-start-at-requires
 start-at-requires c κs = search needs
 
-end-access-requires : tie.Need-end-access-requires
-end-access-requires c κs = search needs
+told-access-requires : tie.Need-told-access-requires
+told-access-requires c κs = search needs
 
 enum-told-2 : tie.Need-enum-told-2
 enum-told-2 c = search needs
@@ -30,7 +31,7 @@ returns : tie.Need-returns
 returns c = rw (c .before .what .given .1)
 
 returns-2 : tie.Need-returns-2
-returns-2 c = rw (c .before .before .enum-told .given .1) (c .end-access .ensures ∙ ap endAccessCode (c .before .start-at .ensures))
+returns-2 c = rw (c .before .before .enum-told .given .1) (c .told-access .ensures ∙ ap toldAccess (c .before .start-at .ensures))
 
 returns-3 : tie.Need-returns-3
 returns-3 c = rw (c .before .before .enum-told2 .given .1) (c .init-access .ensures ∙ ap initAccessCode (c .before .start-at2 .ensures))
@@ -42,7 +43,7 @@ access-at-spec =
     enum-known-what
     enum-told
     start-at-requires
-    end-access-requires
+    told-access-requires
     enum-told-2
     start-at-requires-2
     init-access-requires

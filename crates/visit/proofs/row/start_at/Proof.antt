@@ -1,4 +1,4 @@
--- Past the lent codes it is 0.
+-- Past the lent row it is 0.
 use mathlib.Core.Path.{sym}
 use lib.ListN.{List·getD-eq-default}
 use borrow.Author.Needs.{needs}
