@@ -25,7 +25,6 @@ abbrev pub stateNumber : Liveness → ℕ
 stateNumber Live = 1
 stateNumber Dead = 2
 
-
 -- ---- where an allocation's parts start: the struct `Starts`
 abbrev pub firstStarts : Starts
 firstStarts = record { words = 0; nodes = 0; codes = 0 }

@@ -123,35 +123,35 @@ module _ (w : Visit) (ps : List ℕ) where
 
 -- ---- a visit
 -- what v, by the codes lent with it, asks for is the visit w
-pub record Means (v : Reach) (starts ps : List ℕ) (w : Visit) : Type 0 where
+pub record Means (v : Reach) (lent ps : List ℕ) (w : Visit) : Type 0 where
   pub accessed : w .accessed ≡ v .node
-  pub places : Places (w .accessAt) (v .from) (planned v starts)
+  pub places : Places (w .accessAt) (v .from) (planned v lent)
   pub order : visitingOrder ps (w .spared) ≡ subtree (v .spared) 0 ps
 
 -- so does the same visit with its accesses said in another way
-pub means-same : (v r : Reach) (starts ps : List ℕ) (w : Visit) → SameVisit v starts r → Means v starts ps w → Means r starts ps w
-means-same v r starts ps w s means =
-    subst⁻¹ (λ (q : Reach). Means q starts ps w) (s .same)
+pub means-same : (v r : Reach) (lent ps : List ℕ) (w : Visit) → SameVisit v lent r → Means v lent ps w → Means r lent ps w
+means-same v r lent ps w s means =
+    subst⁻¹ (λ (q : Reach). Means q lent ps w) (s .same)
     (record {
       accessed = means .accessed;
       places = subst⁻¹ (λ (xs : List (Option AccessKind)). Places (w .accessAt) (v .from) xs) (s .accesses) (means .places);
       order = means .order;
     })
 
-module _ (v : Reach) (starts ps : List ℕ) (w : Visit) (means : Means v starts ps w) where
+module _ (v : Reach) (lent ps : List ℕ) (w : Visit) (means : Means v lent ps w) where
   -- ---- the first refusal
-  row-refusal : (r : NodeRelation) (row : List Permission) → rowRefusal v starts r (map code row) ≡ definition.rowRefusal (w .accessAt) r 0 row
+  row-refusal : (r : NodeRelation) (row : List Permission) → rowRefusal v lent r (map code row) ≡ definition.rowRefusal (w .accessAt) r 0 row
   row-refusal r row =
-      ap (codesRefusal r (planned v starts)) (drop-map code (v .from) row)
-      ∙ codes-refusal r (planned v starts) (drop (v .from) row)
-      ∙ sym (places-refusal r (w .accessAt) (v .from) (planned v starts) (means .places) row)
+      ap (codesRefusal r (planned v lent)) (drop-map code (v .from) row)
+      ∙ codes-refusal r (planned v lent) (drop (v .from) row)
+      ∙ sym (places-refusal r (w .accessAt) (v .from) (planned v lent) (means .places) row)
 
-  row-after : (r : NodeRelation) (row : List Permission) → rowAfter v starts r (map code row) ≡ map code (definition.rowAfter (w .accessAt) r row)
+  row-after : (r : NodeRelation) (row : List Permission) → rowAfter v lent r (map code row) ≡ map code (definition.rowAfter (w .accessAt) r row)
   row-after r row =
-      ap₂ (λ (a b : List ℕ). a ++ codesAfter r (planned v starts) b) (take-map code (v .from) row) (drop-map code (v .from) row)
-      ∙ ap (λ (b : List ℕ). map code (take (v .from) row) ++ b) (codes-after r (planned v starts) (drop (v .from) row))
-      ∙ sym (map-append code (take (v .from) row) (accessesAfter r (planned v starts) (drop (v .from) row)))
-      ∙ ap (map code) (sym (places-after r (w .accessAt) (v .from) (planned v starts) (means .places) row))
+      ap₂ (λ (a b : List ℕ). a ++ codesAfter r (planned v lent) b) (take-map code (v .from) row) (drop-map code (v .from) row)
+      ∙ ap (λ (b : List ℕ). map code (take (v .from) row) ++ b) (codes-after r (planned v lent) (drop (v .from) row))
+      ∙ sym (map-append code (take (v .from) row) (accessesAfter r (planned v lent) (drop (v .from) row)))
+      ∙ ap (map code) (sym (places-after r (w .accessAt) (v .from) (planned v lent) (means .places) row))
 
   -- a visited node's change
   abbrev touched : ℕ → Node → Node
@@ -167,28 +167,28 @@ module _ (v : Reach) (starts ps : List ℕ) (w : Visit) (means : Means v starts 
 
   -- ---- a node
   module _ (nodes : List Node) (wide : Wide (v .width) nodes) (n : ℕ) (l : n < length nodes) where
-    node-refusal : parents nodes ≡ ps → nodeRefusal v ps starts (rowsOf nodes) n ≡ definition.nodeRefusal w nodes n
+    node-refusal : parents nodes ≡ ps → nodeRefusal v ps lent (rowsOf nodes) n ≡ definition.nodeRefusal w nodes n
     unfolding nodeRefusal definition.nodeRefusal
     node-refusal e =
-        ap₂ (λ (a : ℕ) (row : List ℕ). rowRefusal v starts (relation ps n a) row) (sym (means .accessed)) (row-held (v .width) nodes wide n l)
+        ap₂ (λ (a : ℕ) (row : List ℕ). rowRefusal v lent (relation ps n a) row) (sym (means .accessed)) (row-held (v .width) nodes wide n l)
         ∙ row-refusal (relation ps n (w .accessed)) (nodeAt nodes n .permissions)
         ∙ ap (λ (qs : List ℕ). definition.rowRefusal (w .accessAt) (relation qs n (w .accessed)) 0 (nodeAt nodes n .permissions)) (sym e)
 
-    node-after : nodeAfter v ps starts n (rowsOf nodes) ≡ rowsOf (mutateAt n (touched n) nodes)
+    node-after : nodeAfter v ps lent n (rowsOf nodes) ≡ rowsOf (mutateAt n (touched n) nodes)
     unfolding nodeAfter
     node-after =
         ap (λ (row : List ℕ). withRowAt (v .width) n row (rowsOf nodes))
-        (ap₂ (λ (a : ℕ) (row : List ℕ). rowAfter v starts (relation ps n a) row) (sym (means .accessed)) (row-held (v .width) nodes wide n l)
+        (ap₂ (λ (a : ℕ) (row : List ℕ). rowAfter v lent (relation ps n a) row) (sym (means .accessed)) (row-held (v .width) nodes wide n l)
         ∙ row-after (relation ps n (w .accessed)) (nodeAt nodes n .permissions))
         ∙ row-changed (v .width) (touched n) nodes wide n l
 
   -- ---- the tree
   walk-after : (ns : List ℕ) (nodes : List Node) → Wide (v .width) nodes → All (λ n. n < length nodes) ns
-      → walkAfter v ps starts ns (rowsOf nodes) ≡ rowsOf (changedInTurn touched ns nodes)
+      → walkAfter v ps lent ns (rowsOf nodes) ≡ rowsOf (changedInTurn touched ns nodes)
   unfolding walkAfter changedInTurn
   walk-after [] nodes wide a = refl
   walk-after (n ∷ ns) nodes wide a =
-      ap (walkAfter v ps starts ns) (node-after nodes wide n (a .0))
+      ap (walkAfter v ps lent ns) (node-after nodes wide n (a .0))
       ∙ walk-after ns (mutateAt n (touched n) nodes) (wide-changed (v .width) (touched n) (touched-wide n) nodes n wide)
       (subst (λ (k : ℕ). All (λ m. m < k) ns) (sym (mutate-length n (touched n) nodes)) (a .1))
 
@@ -216,19 +216,19 @@ module _ (v : Reach) (starts ps : List ℕ) (w : Visit) (means : Means v starts 
     only-nodes : All (λ n. n < length nodes) visits
     only-nodes = subst (λ (k : ℕ). All (λ n. n < k) visits) (ap length (holds .parents) ∙ length-map nodes (λ x. x .parent)) (visits-only-nodes ps (w .spared))
 
-    pub means-refusal : walkRefusal v ps starts codes (subtree (v .spared) 0 ps) ≡ visitRefusal w nodes
+    pub means-refusal : walkRefusal v ps lent codes (subtree (v .spared) 0 ps) ≡ visitRefusal w nodes
     unfolding visitRefusal
     means-refusal =
-        ap₂ (λ (cs ns : List ℕ). walkRefusal v ps starts cs ns) (holds .table .rows) (sym (means .order))
-        ∙ first-same-along (λ n. n < length nodes) (nodeRefusal v ps starts (rowsOf nodes)) (definition.nodeRefusal w nodes)
+        ap₂ (λ (cs ns : List ℕ). walkRefusal v ps lent cs ns) (holds .table .rows) (sym (means .order))
+        ∙ first-same-along (λ n. n < length nodes) (nodeRefusal v ps lent (rowsOf nodes)) (definition.nodeRefusal w nodes)
         (λ n l. node-refusal nodes (holds .table .wide) n l (sym (holds .parents))) visits only-nodes
         ∙ ap (λ (qs : List ℕ). firstRefusal (definition.nodeRefusal w nodes) (visitingOrder qs (w .spared))) (holds .parents)
 
-    pub means-after : walkAfter v ps starts (subtree (v .spared) 0 ps) codes ≡ rowsOf (visited w nodes)
+    pub means-after : walkAfter v ps lent (subtree (v .spared) 0 ps) codes ≡ rowsOf (visited w nodes)
     means-after =
-        ap₂ (λ (cs ns : List ℕ). walkAfter v ps starts ns cs) (holds .table .rows) (sym (means .order))
+        ap₂ (λ (cs ns : List ℕ). walkAfter v ps lent ns cs) (holds .table .rows) (sym (means .order))
         ∙ walk-after visits nodes (holds .table .wide) only-nodes
         ∙ ap rowsOf (in-turn-visited nodes (holds .earlier) (sym (holds .parents)))
 
-    pub means-told : (answer : Answer) → ToldOf v ps starts codes (subtree (v .spared) 0 ps) answer → Checked w nodes answer
+    pub means-told : (answer : Answer) → ToldOf v ps lent codes (subtree (v .spared) 0 ps) answer → Checked w nodes answer
     means-told answer t = told-same answer means-refusal (holds .table .rows) means-after t

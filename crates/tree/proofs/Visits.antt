@@ -60,9 +60,9 @@ same-ends (p ∷ row) = ap₂ _∷_ (number-told (endAccessCode (code p)) ∙ en
 
 module _ (ps : List ℕ) (root : 0 < length ps) (width : ℕ) where
   -- an access of one kind
-  pub means-bytes : (kind : declared.AccessKind) (node from len : ℕ) (starts : List ℕ)
-      → Means (record { node = node; spared = length ps; width = width; from = from; len = len; what = Each kind }) starts ps (accessVisit (accessKind kind) node from len)
-  means-bytes kind node from len starts =
+  pub means-bytes : (kind : declared.AccessKind) (node from len : ℕ) (lent : List ℕ)
+      → Means (record { node = node; spared = length ps; width = width; from = from; len = len; what = Each kind }) lent ps (accessVisit (accessKind kind) node from len)
+  means-bytes kind node from len lent =
       record { accessed = refl; places = range-places (accessKind kind) from len; order = walk-none ps (length ps) (le-refl (length ps)) root }
 
   -- a retag's reads, all at once

@@ -16,7 +16,7 @@ ghost use Rattle.definition.specs.Permission.AccessKind.{Write};
 ghost use Rattle.definition.specs.Tree.{accessVisit, visited};
 ghost use Rattle.definition.specs.Memory.{nodePreventsDeallocation};
 ghost use Rattle.permission.specs.Codes.{nodeRelation, nextCode, preventsCode};
-ghost use Rattle.visit.specs.Plan.{Marked, Zeros, Roomy};
+ghost use Rattle.visit.specs.Plan.{TellsPath, Zeros, Roomy};
 ghost use Rattle.tree.specs.Table.{HoldsAll, Some, Each};
 ghost use Rattle.tree.specs.Requests.{Deallocated};
 
@@ -55,7 +55,7 @@ fn strong_protector_in(
 ) -> bool
     requires { ⌜ Some (λ nodes. HoldsAll nodes width (now parents) (now protectors) (now codes)) ⌝ }
     requires { ⌜ Roomy (now parents) (now plan) ⌝ }
-    ensures { λ r. ⌜ ((node : ℕ) → Marked node (now (parents .entry)) (now (plan .entry))
+    ensures { λ r. ⌜ ((node : ℕ) → TellsPath node (now (parents .entry)) (now (plan .entry))
         → Each (λ nodes. HoldsAll nodes width (now (parents .entry)) (now (protectors .entry)) (now (codes .entry))) (λ nodes. r ≡ any nodePreventsDeallocation (visited (accessVisit Write node 0 width) nodes))) ⌝ }
 {
     let mut n = 0;

@@ -154,17 +154,17 @@ module _ (s : ℕ) (ps : List ℕ) where
   sibling-later zero sibling b q = absurd (q b)
   sibling-later (suc m) sibling b q = rw b (let i = found-from s ps (getD ps (suc m) 0) (suc m + 1) (omega arith) .inside (omega arith) in (omega (arith, i .0), i .1, i .2))
 
-module _ (v : Reach) (ps starts : List ℕ) where
+module _ (v : Reach) (ps lent : List ℕ) where
   abbrev refusal : List ℕ → List ℕ → ℕ
-  refusal codes ns = walkRefusal v ps starts codes ns
+  refusal codes ns = walkRefusal v ps lent codes ns
 
   abbrev after : List ℕ → List ℕ → List ℕ
-  after ns codes = walkAfter v ps starts ns codes
+  after ns codes = walkAfter v ps lent ns codes
 
   after-append : (xs ys codes : List ℕ) → after (xs ++ ys) codes ≡ after ys (after xs codes)
   unfolding walkAfter
   after-append [] ys codes = refl
-  after-append (x ∷ xs) ys codes = after-append xs ys (nodeAfter v ps starts x codes)
+  after-append (x ∷ xs) ys codes = after-append xs ys (nodeAfter v ps lent x codes)
 
   abbrev at : ℕ → List ℕ
   at m = nodesFrom (v .spared) ps m
@@ -190,17 +190,17 @@ module _ (v : Reach) (ps starts : List ℕ) where
 
   module _ (codes ns : List ℕ) (m child sibling : ℕ) (l : m < length ps) (f : m ≡ v .spared → ⊥)
       (c : child ≡ childFrom (v .spared) m (m + 1) (drop (m + 1) ps)) (b : sibling ≡ nextSibling (v .spared) ps m) where
-    turn : refusal codes (at m) ≡ (nodeRefusal v ps starts codes m or (refusal codes (rest child) or refusal codes (rest sibling)))
+    turn : refusal codes (at m) ≡ (nodeRefusal v ps lent codes m or (refusal codes (rest child) or refusal codes (rest sibling)))
     unfolding firstRefusal
     turn =
         ap (refusal codes) (step (v .spared) ps m child sibling l f c b)
-        ∙ ap (λ (k : ℕ). nodeRefusal v ps starts codes m or k) (first-append (nodeRefusal v ps starts codes) (rest child) (rest sibling))
+        ∙ ap (λ (k : ℕ). nodeRefusal v ps lent codes m or k) (first-append (nodeRefusal v ps lent codes) (rest child) (rest sibling))
 
-    change : after (at m) codes ≡ after (rest sibling) (after (rest child) (nodeAfter v ps starts m codes))
+    change : after (at m) codes ≡ after (rest sibling) (after (rest child) (nodeAfter v ps lent m codes))
     unfolding walkAfter
     change =
         ap (λ (xs : List ℕ). after xs codes) (step (v .spared) ps m child sibling l f c b)
-        ∙ after-append (rest child) (rest sibling) (nodeAfter v ps starts m codes)
+        ∙ after-append (rest child) (rest sibling) (nodeAfter v ps lent m codes)
 
     nothing-refused : (x : ℕ) → x ≡ 0 → refusal codes (rest x) ≡ 0
     unfolding firstRefusal
@@ -208,12 +208,12 @@ module _ (v : Reach) (ps starts : List ℕ) where
 
     module _ (changes : Bool) (goes : Goes codes ns m changes) where
       -- the node is refused
-      pub refused-node : (n : ℕ) (answer : Answer) → Told (nodeRefusal v ps starts codes m) codes (nodeAfter v ps starts m codes) answer → answer ≡ Refused n → ToldOf v ps starts codes ns (Refused n)
+      pub refused-node : (n : ℕ) (answer : Answer) → Told (nodeRefusal v ps lent codes m) codes (nodeAfter v ps lent m codes) answer → answer ≡ Refused n → ToldOf v ps lent codes ns (Refused n)
       refused-node n answer t e =
-          let u = subst (Told (nodeRefusal v ps starts codes m) codes (nodeAfter v ps starts m codes)) e t in
+          let u = subst (Told (nodeRefusal v ps lent codes m) codes (nodeAfter v ps lent m codes)) e t in
           (sym (turn ∙ ap (λ (k : ℕ). k or (refusal codes (rest child) or refusal codes (rest sibling))) (sym (u .0)) ∙ or-positive n _ (omega (arith, u .1))) ∙ goes .0, u .1)
 
-      module _ (changes′ : Bool) (noted : Noted (nodeRefusal v ps starts codes m) codes (nodeAfter v ps starts m codes) changes changes′) where
+      module _ (changes′ : Bool) (noted : Noted (nodeRefusal v ps lent codes m) codes (nodeAfter v ps lent m codes) changes changes′) where
         passed : (refusal codes (rest child) or refusal codes (rest sibling)) ≡ refusal codes ns
         passed = sym (turn ∙ ap (λ (k : ℕ). k or (refusal codes (rest child) or refusal codes (rest sibling))) (noted .0)) ∙ goes .0
 
@@ -225,13 +225,13 @@ module _ (v : Reach) (ps starts : List ℕ) where
         unchanged x cs q = ap (λ (xs : List ℕ). after xs cs) (left-none (v .spared) ps x q)
 
         -- nothing is left
-        pub done-last : sibling ≡ 0 → child ≡ 0 → ToldOf v ps starts codes ns (unrefused changes′)
+        pub done-last : sibling ≡ 0 → child ≡ 0 → ToldOf v ps lent codes ns (unrefused changes′)
         done-last p q = told changes′ (λ z. stayed z)
           where
             none : refusal codes ns ≡ 0
             none = sym (ap₂ _or_ (sym (nothing-refused child q)) (sym (nothing-refused sibling p)) ∙ passed)
 
-            told : (b : Bool) → (b ≡ false → after (rest sibling) (after (rest child) codes) ≡ after ns codes) → ToldOf v ps starts codes ns (unrefused b)
+            told : (b : Bool) → (b ≡ false → after (rest sibling) (after (rest child) codes) ≡ after ns codes) → ToldOf v ps lent codes ns (unrefused b)
             told true h = none
             told false h = (none, sym (unchanged sibling (after (rest child) codes) p ∙ unchanged child codes q) ∙ h refl)
 
@@ -256,9 +256,9 @@ module _ (v : Reach) (ps starts : List ℕ) where
           below-same : at child ≡ rest child
           below-same = nodes-at (v .spared) ps child (omega arith)
 
-          pub refused-below : (n : ℕ) (answer : Answer) → ToldOf v ps starts codes (at child) answer → answer ≡ Refused n → ToldOf v ps starts codes ns (Refused n)
+          pub refused-below : (n : ℕ) (answer : Answer) → ToldOf v ps lent codes (at child) answer → answer ≡ Refused n → ToldOf v ps lent codes ns (Refused n)
           refused-below n answer t e =
-              let u = subst (ToldOf v ps starts codes (at child)) e t in
+              let u = subst (ToldOf v ps lent codes (at child)) e t in
               (sym (or-positive n (refusal codes (rest sibling)) (omega (arith, u .1))) ∙ ap (λ (k : ℕ). k or refusal codes (rest sibling)) (u .0 ∙ ap (refusal codes) below-same) ∙ passed, u .1)
 
           pub goes-sibling : (changes″ : Bool) → Noted (refusal codes (at child)) codes (after (at child) codes) changes′ changes″ → Goes codes ns sibling changes″
@@ -269,7 +269,7 @@ module _ (v : Reach) (ps starts : List ℕ) where
               )
 
     -- ---- the change: the node is changed
-    module _ (codes′ : List ℕ) (h : codes′ ≡ nodeAfter v ps starts m codes) where
+    module _ (codes′ : List ℕ) (h : codes′ ≡ nodeAfter v ps lent m codes) where
       changed : after (at m) codes ≡ after (rest sibling) (after (rest child) codes′)
       changed = change ∙ ap (λ (cs : List ℕ). after (rest sibling) (after (rest child) cs)) (sym h)
 

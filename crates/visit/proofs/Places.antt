@@ -68,12 +68,12 @@ pub same-row : (w n : ℕ) (codes : List ℕ) → withRowAt w n (rowAt w n codes
 same-row w n codes = ap (λ (l : List ℕ). take (n * w) codes ++ l) (take-append-drop w (drop (n * w) codes)) ∙ take-append-drop (n * w) codes
 
 -- what the check of a row tells of its node
-pub told-node : (v : Reach) (ps starts codes : List ℕ) (n : ℕ) (answer : Answer) → ToldRow v starts (relation ps n (v .node)) (rowAt (v .width) n codes) answer
-    → Told (nodeRefusal v ps starts codes n) codes (nodeAfter v ps starts n codes) answer
+pub told-node : (v : Reach) (ps lent codes : List ℕ) (n : ℕ) (answer : Answer) → ToldRow v lent (relation ps n (v .node)) (rowAt (v .width) n codes) answer
+    → Told (nodeRefusal v ps lent codes n) codes (nodeAfter v ps lent n codes) answer
 unfolding nodeRefusal nodeAfter
-told-node v ps starts codes n Stays t = (t .0, sym (same-row (v .width) n codes) ∙ ap (λ (row : List ℕ). withRowAt (v .width) n row codes) (t .1))
-told-node v ps starts codes n Changes t = t
-told-node v ps starts codes n (Refused m) t = t
+told-node v ps lent codes n Stays t = (t .0, sym (same-row (v .width) n codes) ∙ ap (λ (row : List ℕ). withRowAt (v .width) n row codes) (t .1))
+told-node v ps lent codes n Changes t = t
+told-node v ps lent codes n (Refused m) t = t
 
 pub row-length : (w n : ℕ) (codes : List ℕ) → n * w + w ≤ length codes → length (rowAt w n codes) ≡ w
 row-length w n codes fits = length-take-le w (drop (n * w) codes) (omega (arith, length-drop (n * w) codes))
@@ -95,12 +95,12 @@ pub ready-again : (v : Reach) (ps codes codes′ : List ℕ) → length codes′
 ready-again v ps codes codes′ e r = record { tree = r .tree; node = r .node; inside = r .inside; rows = e ∙ r .rows; few = r .few }
 
 -- the same visit is as ready
-pub same-ready : (v r : Reach) (starts ps codes : List ℕ) → SameVisit v starts r → Ready v ps codes → Ready r ps codes
-same-ready v r starts ps codes s h =
+pub same-ready : (v r : Reach) (lent ps codes : List ℕ) → SameVisit v lent r → Ready v ps codes → Ready r ps codes
+same-ready v r lent ps codes s h =
     subst⁻¹ (λ (q : Reach). Ready q ps codes) (s .same) (record { tree = h .tree; node = h .node; inside = h .inside; rows = h .rows; few = h .few })
 
-pub same-spared : (v r : Reach) (starts : List ℕ) → SameVisit v starts r → r .spared ≡ v .spared
-same-spared v r starts s = ap (λ (q : Reach). q .spared) (s .same)
+pub same-spared : (v r : Reach) (lent : List ℕ) → SameVisit v lent r → r .spared ≡ v .spared
+same-spared v r lent s = ap (λ (q : Reach). q .spared) (s .same)
 
-pub same-width : (v r : Reach) (starts : List ℕ) → SameVisit v starts r → r .width ≡ v .width
-same-width v r starts s = ap (λ (q : Reach). q .width) (s .same)
+pub same-width : (v r : Reach) (lent : List ℕ) → SameVisit v lent r → r .width ≡ v .width
+same-width v r lent s = ap (λ (q : Reach). q .width) (s .same)

@@ -1,4 +1,4 @@
--- How a plan is made, from the last node down: each node is linked in front of the children of its parent, and marked if it is on the path.
+-- How a plan is made, from the last node down: each node is linked in front of the children of its parent, and noted to be on the path if it is on the path.
 use Prim.Native.Nat.{ℕ, _+_, _*_, _≤_, _<_}
 use mathlib.Core.Path.{_≡_, refl, sym, ap, subst, _∙_}
 use mathlib.Core.Bool.{Bool, true, false, not, _||_, or-true, or-false}
@@ -15,7 +15,7 @@ use Rattle.definition.specs.Permission.NodeRelation.{Local, Foreign}
 use Rattle.definition.specs.Tree.{relation, isAbove}
 use Rattle.definition.proofs.Trees.{Parents, above-itself, above-parent, not-above-smaller}
 use Rattle.visit.specs.declared.Reach.{Reach}
-use Rattle.visit.specs.Plan.{childFrom, linkedIn, Linked, Marked, Planned, Zeros, Roomy}
+use Rattle.visit.specs.Plan.{childFrom, linkedIn, Linked, TellsPath, Planned, Zeros, Roomy}
 use Rattle.visit.proofs.Children.{search-here, search-spared, search-other, search-end, search-from, sibling-root, sibling-at}
 
 -- ---- the links
@@ -96,9 +96,9 @@ module _ (s : ℕ) (ps : List ℕ) where
       | no q ↦ rw (ne-eqb m s q) (linked-first q (length-set plan (3 * m + 1) (getD plan (3 * p) 0)))
     ]
 
--- the marks are as before
-pub marks-left : (s p m : ℕ) (plan : List ℕ) (k : ℕ) → getD (linkedIn s p m plan) (3 * k + 2) 0 ≡ getD plan (3 * k + 2) 0
-marks-left s p m plan k =
+-- the path is as before
+pub path-left : (s p m : ℕ) (plan : List ℕ) (k : ℕ) → getD (linkedIn s p m plan) (3 * k + 2) 0 ≡ getD plan (3 * k + 2) 0
+path-left s p m plan k =
     let followed = set plan (3 * m + 1) (getD plan (3 * p) 0) in
     let kept : getD followed (3 * k + 2) 0 ≡ getD plan (3 * k + 2) 0 = getD-set-other plan (3 * m + 1) (3 * k + 2) _ 0 (λ r. absurd (omega arith)) in
     elim (ℕ-discrete m s) [
@@ -115,7 +115,7 @@ linked-length s p m plan =
       | no q ↦ rw (ne-eqb m s q) (length-set followed (3 * p) m ∙ kept)
     ]
 
--- the links are as before where a node is marked
+-- the links are as before where a node is noted
 pub links-left : (s : ℕ) (ps plan : List ℕ) (m n : ℕ) → Linking s ps plan m → Linking s ps (set plan (3 * n + 2) 1) m
 links-left s ps plan m n links =
     record {
@@ -125,41 +125,41 @@ links-left s ps plan m n links =
     }
 
 -- ---- the path
--- what is marked, or lies above n, is what lies above the accessed node
-abbrev pub Marking : List ℕ → ℕ → List ℕ → ℕ → Type 0
-Marking ps accessed plan n = (k : ℕ) → k < length ps → isAbove ps k accessed ≡ (not (eqb (getD plan (3 * k + 2) 0) 0) || isAbove ps k n)
+-- what is noted, or lies above n, is what lies above the accessed node
+abbrev pub Traced : List ℕ → ℕ → List ℕ → ℕ → Type 0
+Traced ps accessed plan n = (k : ℕ) → k < length ps → isAbove ps k accessed ≡ (not (eqb (getD plan (3 * k + 2) 0) 0) || isAbove ps k n)
 
 module _ (ps : List ℕ) (tree : Parents ps) (accessed : ℕ) where
-  pub marking-none : (plan : List ℕ) → Zeros plan → Marking ps accessed plan accessed
-  marking-none plan z k l = sym (rw (z (3 * k + 2)))
+  pub traced-none : (plan : List ℕ) → Zeros plan → Traced ps accessed plan accessed
+  traced-none plan z k l = sym (rw (z (3 * k + 2)))
 
-  pub marking-linked : (s p m : ℕ) (plan : List ℕ) (n : ℕ) → Marking ps accessed plan n → Marking ps accessed (linkedIn s p m plan) n
-  marking-linked s p m plan n marks k l = marks k l ∙ ap (λ (x : ℕ). not (eqb x 0) || isAbove ps k n) (sym (marks-left s p m plan k))
+  pub traced-linked : (s p m : ℕ) (plan : List ℕ) (n : ℕ) → Traced ps accessed plan n → Traced ps accessed (linkedIn s p m plan) n
+  traced-linked s p m plan n traced k l = traced k l ∙ ap (λ (x : ℕ). not (eqb x 0) || isAbove ps k n) (sym (path-left s p m plan k))
 
-  module _ (plan : List ℕ) (n : ℕ) (l : 3 * n + 2 < length plan) (marks : Marking ps accessed plan n) where
-    abbrev marked : List ℕ
-    marked = set plan (3 * n + 2) 1
+  module _ (plan : List ℕ) (n : ℕ) (l : 3 * n + 2 < length plan) (traced : Traced ps accessed plan n) where
+    abbrev stepped : List ℕ
+    stepped = set plan (3 * n + 2) 1
 
-    -- n is marked, and lies above the accessed node
+    -- n is noted, and lies above the accessed node
     here : n < length ps → isAbove ps n accessed ≡ true
-    here i = marks n i ∙ rw (above-itself ps n) (or-true (not (eqb (getD plan (3 * n + 2) 0) 0)))
+    here i = traced n i ∙ rw (above-itself ps n) (or-true (not (eqb (getD plan (3 * n + 2) 0) 0)))
 
-    mark-here : not (eqb (getD marked (3 * n + 2) 0) 0) ≡ true
-    mark-here = rw (getD-set-same plan (3 * n + 2) 1 0 l)
+    stepped-here : not (eqb (getD stepped (3 * n + 2) 0) 0) ≡ true
+    stepped-here = rw (getD-set-same plan (3 * n + 2) 1 0 l)
 
-    mark-other : (k : ℕ) → (k ≡ n → ⊥) → getD marked (3 * k + 2) 0 ≡ getD plan (3 * k + 2) 0
-    mark-other k q = getD-set-other plan (3 * n + 2) (3 * k + 2) 1 0 (λ r. absurd (omega arith))
+    stepped-other : (k : ℕ) → (k ≡ n → ⊥) → getD stepped (3 * k + 2) 0 ≡ getD plan (3 * k + 2) 0
+    stepped-other k q = getD-set-other plan (3 * n + 2) (3 * k + 2) 1 0 (λ r. absurd (omega arith))
 
-    pub marked-up : 0 < n → (up : ℕ) → up ≡ getD ps n 0 → Marking ps accessed marked up
-    marked-up z up e k i =
+    pub traced-up : 0 < n → (up : ℕ) → up ≡ getD ps n 0 → Traced ps accessed stepped up
+    traced-up z up e k i =
         elim (ℕ-discrete k n) [
           | yes q ↦
-              subst (λ (j : ℕ). isAbove ps j accessed ≡ (not (eqb (getD marked (3 * j + 2) 0) 0) || isAbove ps j up)) (sym q)
-              (here (omega arith) ∙ sym (ap (λ (b : Bool). b || isAbove ps n up) mark-here))
+              subst (λ (j : ℕ). isAbove ps j accessed ≡ (not (eqb (getD stepped (3 * j + 2) 0) 0) || isAbove ps j up)) (sym q)
+              (here (omega arith) ∙ sym (ap (λ (b : Bool). b || isAbove ps n up) stepped-here))
           | no q ↦
-              marks k i
+              traced k i
               ∙ ap (λ (b : Bool). not (eqb (getD plan (3 * k + 2) 0) 0) || b) (above-parent ps tree k n z ∙ rw (ne-eqb n k (λ r. q (sym r)), sym e))
-              ∙ ap (λ (x : ℕ). not (eqb x 0) || isAbove ps k up) (sym (mark-other k q))
+              ∙ ap (λ (x : ℕ). not (eqb x 0) || isAbove ps k up) (sym (stepped-other k q))
         ]
 
     told : (up flag : Bool) → up ≡ not flag → (if up then Local else Foreign) ≡ (if flag then Foreign else Local)
@@ -168,19 +168,19 @@ module _ (ps : List ℕ) (tree : Parents ps) (accessed : ℕ) where
     told false true e = refl
     told false false e = cc
 
-    pub marked-root : n ≡ 0 → Marked accessed ps marked
+    pub traced-root : n ≡ 0 → TellsPath accessed ps stepped
     unfolding relation
-    marked-root z k i =
+    traced-root z k i =
         sym
-        (told (isAbove ps k accessed) (eqb (getD marked (3 * k + 2) 0) 0)
+        (told (isAbove ps k accessed) (eqb (getD stepped (3 * k + 2) 0) 0)
         (elim (ℕ-discrete k n) [
           | yes q ↦
-              subst (λ (j : ℕ). isAbove ps j accessed ≡ not (eqb (getD marked (3 * j + 2) 0) 0)) (sym q) (here (omega arith) ∙ sym mark-here)
+              subst (λ (j : ℕ). isAbove ps j accessed ≡ not (eqb (getD stepped (3 * j + 2) 0) 0)) (sym q) (here (omega arith) ∙ sym stepped-here)
           | no q ↦
-              marks k i
+              traced k i
               ∙ ap (λ (b : Bool). not (eqb (getD plan (3 * k + 2) 0) 0) || b) (not-above-smaller ps tree k n (omega arith))
               ∙ or-false (not (eqb (getD plan (3 * k + 2) 0) 0))
-              ∙ ap (λ (x : ℕ). not (eqb x 0)) (sym (mark-other k q))
+              ∙ ap (λ (x : ℕ). not (eqb x 0)) (sym (stepped-other k q))
         ]))
 
 pub roomy-still : {ps plan after : List ℕ} → length after ≡ length plan → Roomy ps plan → Roomy ps after

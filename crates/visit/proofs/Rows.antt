@@ -86,30 +86,30 @@ told-write (suc zero) z o = absurd (o refl)
 told-write (suc (suc k)) z o = refl
 
 -- ---- the accesses of a visit
-pub planned-at : (what : Accesses) (n : ℕ) (starts : List ℕ) (k : ℕ) → k < n → getD (accessesAt what n starts) k none ≡ accessAt what starts k
+pub planned-at : (what : Accesses) (n : ℕ) (lent : List ℕ) (k : ℕ) → k < n → getD (accessesAt what n lent) k none ≡ accessAt what lent k
 unfolding toldAccess initAccessCode
-planned-at (Each a) n starts k l = getD-replicate n k (some (accessKind a)) none l
-planned-at accesses.Told n starts k l = List·getD-map toldAccess (take n starts) k 0 ∙ ap toldAccess (getD-take n starts k 0 l)
-planned-at AtInit n starts k l = List·getD-map initAccessCode (take n starts) k 0 ∙ ap initAccessCode (getD-take n starts k 0 l)
+planned-at (Each a) n lent k l = getD-replicate n k (some (accessKind a)) none l
+planned-at accesses.Told n lent k l = List·getD-map toldAccess (take n lent) k 0 ∙ ap toldAccess (getD-take n lent k 0 l)
+planned-at AtInit n lent k l = List·getD-map initAccessCode (take n lent) k 0 ∙ ap initAccessCode (getD-take n lent k 0 l)
 
-pub planned-length : (what : Accesses) (n : ℕ) (starts : List ℕ) → length (accessesAt what n starts) ≤ n
-planned-length (Each a) n starts = omega (arith, length-replicate n (some (accessKind a)))
-planned-length accesses.Told n starts = omega (arith, length-map (take n starts) toldAccess, length-take n starts, min-le-left n (length starts))
-planned-length AtInit n starts = omega (arith, length-map (take n starts) initAccessCode, length-take n starts, min-le-left n (length starts))
+pub planned-length : (what : Accesses) (n : ℕ) (lent : List ℕ) → length (accessesAt what n lent) ≤ n
+planned-length (Each a) n lent = omega (arith, length-replicate n (some (accessKind a)))
+planned-length accesses.Told n lent = omega (arith, length-map (take n lent) toldAccess, length-take n lent, min-le-left n (length lent))
+planned-length AtInit n lent = omega (arith, length-map (take n lent) initAccessCode, length-take n lent, min-le-left n (length lent))
 
 -- one access at all bytes: where there is no number there is none, so there is one for each byte
-same-each : (f : ℕ → Option AccessKind) → f 0 ≡ none → (a : AccessKind) (n : ℕ) (starts : List ℕ) → ((i : ℕ) → i < n → f (getD starts i 0) ≡ some a)
-    → replicate n (some a) ≡ map f (take n starts)
-same-each f z a zero starts h = refl
+same-each : (f : ℕ → Option AccessKind) → f 0 ≡ none → (a : AccessKind) (n : ℕ) (lent : List ℕ) → ((i : ℕ) → i < n → f (getD lent i 0) ≡ some a)
+    → replicate n (some a) ≡ map f (take n lent)
+same-each f z a zero lent h = refl
 same-each f z a (suc n) [] h = absurd (subst isNone (sym z ∙ h 0 (omega arith)) tt)
-same-each f z a (suc n) (c ∷ starts) h =
-    ap₂ (λ (x : Option AccessKind) (xs : List (Option AccessKind)). x ∷ xs) (sym (h 0 (omega arith))) (same-each f z a n starts (λ i l. h (suc i) (omega arith)))
+same-each f z a (suc n) (c ∷ lent) h =
+    ap₂ (λ (x : Option AccessKind) (xs : List (Option AccessKind)). x ∷ xs) (sym (h 0 (omega arith))) (same-each f z a n lent (λ i l. h (suc i) (omega arith)))
 
-pub all-alike : (what : Accesses) (n : ℕ) (starts : List ℕ) (kind : declared.AccessKind) → accessAt what starts 0 ≡ some (accessKind kind)
-    → ((i : ℕ) → i < n → getD starts i 0 ≡ getD starts 0 0) → accessesAt (Each kind) n starts ≡ accessesAt what n starts
-all-alike (Each a) n starts kind e h = ap (replicate n) (sym e)
-all-alike accesses.Told n starts kind e h = same-each toldAccess (told-none 0 refl) (accessKind kind) n starts (λ i l. ap toldAccess (h i l) ∙ e)
-all-alike AtInit n starts kind e h = same-each initAccessCode (init-access-code (Unprot Cell)) (accessKind kind) n starts (λ i l. ap initAccessCode (h i l) ∙ e)
+pub all-alike : (what : Accesses) (n : ℕ) (lent : List ℕ) (kind : declared.AccessKind) → accessAt what lent 0 ≡ some (accessKind kind)
+    → ((i : ℕ) → i < n → getD lent i 0 ≡ getD lent 0 0) → accessesAt (Each kind) n lent ≡ accessesAt what n lent
+all-alike (Each a) n lent kind e h = ap (replicate n) (sym e)
+all-alike accesses.Told n lent kind e h = same-each toldAccess (told-none 0 refl) (accessKind kind) n lent (λ i l. ap toldAccess (h i l) ∙ e)
+all-alike AtInit n lent kind e h = same-each initAccessCode (init-access-code (Unprot Cell)) (accessKind kind) n lent (λ i l. ap initAccessCode (h i l) ∙ e)
 
 -- ---- codes under accesses
 module _ (r : NodeRelation) where
@@ -305,8 +305,8 @@ module _ (a : AccessKind) (r : NodeRelation) where
   front-told cs (answer.Refused n) t = (t .0 ∙ sym (front-refusal cs), t .1)
 
 -- ---- the visited bytes of a row
-module _ (starts : List ℕ) (r : NodeRelation) where
-  no-bytes : (what : Accesses) → ToldBytes what starts r [] answer.Stays
+module _ (lent : List ℕ) (r : NodeRelation) where
+  no-bytes : (what : Accesses) → ToldBytes what lent r [] answer.Stays
   unfolding codesRefusal codesAfter
   no-bytes what = (refl, refl)
 
@@ -316,18 +316,18 @@ module _ (starts : List ℕ) (r : NodeRelation) where
   count-within AtInit cs k e = omega (arith, e)
 
   -- behind those that stay
-  pub behind-told : (what : Accesses) (cs : List ℕ) (k : ℕ) (given : Answer) → k ≡ stayingCount what r cs → ToldBytes what starts r (drop k cs) given → ToldBytes what starts r cs given
-  behind-told (Each a) cs k given e t = front-told (accessKind a) r cs given (subst (λ (i : ℕ). ToldBytes (Each a) starts r (drop i cs) given) e t)
-  behind-told accesses.Told cs k given e t = subst (λ (i : ℕ). ToldBytes accesses.Told starts r (drop i cs) given) e t
-  behind-told AtInit cs k given e t = subst (λ (i : ℕ). ToldBytes AtInit starts r (drop i cs) given) e t
+  pub behind-told : (what : Accesses) (cs : List ℕ) (k : ℕ) (given : Answer) → k ≡ stayingCount what r cs → ToldBytes what lent r (drop k cs) given → ToldBytes what lent r cs given
+  behind-told (Each a) cs k given e t = front-told (accessKind a) r cs given (subst (λ (i : ℕ). ToldBytes (Each a) lent r (drop i cs) given) e t)
+  behind-told accesses.Told cs k given e t = subst (λ (i : ℕ). ToldBytes accesses.Told lent r (drop i cs) given) e t
+  behind-told AtInit cs k given e t = subst (λ (i : ℕ). ToldBytes AtInit lent r (drop i cs) given) e t
 
   -- all of them stay
-  pub all-stay : (what : Accesses) (cs : List ℕ) (k : ℕ) → k ≡ stayingCount what r cs → k ≡ length cs → ToldBytes what starts r cs answer.Stays
+  pub all-stay : (what : Accesses) (cs : List ℕ) (k : ℕ) → k ≡ stayingCount what r cs → k ≡ length cs → ToldBytes what lent r cs answer.Stays
   all-stay what cs k e q =
-      behind-told what cs k answer.Stays e (subst (λ (ds : List ℕ). ToldBytes what starts r ds answer.Stays) (sym (drop-of-length-le cs {i = k} (omega arith))) (no-bytes what))
+      behind-told what cs k answer.Stays e (subst (λ (ds : List ℕ). ToldBytes what lent r ds answer.Stays) (sym (drop-of-length-le cs {i = k} (omega arith))) (no-bytes what))
 
 -- they are a part of the row
-module _ (v : Reach) (starts : List ℕ) (r : NodeRelation) (row : List ℕ) (inside : v .from + v .len ≤ length row) where
+module _ (v : Reach) (lent : List ℕ) (r : NodeRelation) (row : List ℕ) (inside : v .from + v .len ≤ length row) where
   abbrev bytes : List ℕ
   bytes = drop (v .from) row
 
@@ -335,23 +335,23 @@ module _ (v : Reach) (starts : List ℕ) (r : NodeRelation) (row : List ℕ) (in
   visited = take (v .len) bytes
 
   abbrev xs : List (Option AccessKind)
-  xs = accessesAt (v .what) (v .len) starts
+  xs = accessesAt (v .what) (v .len) lent
 
   long : length visited ≡ v .len
   long = length-take-le (v .len) bytes (omega (arith, length-drop (v .from) row))
 
-  lent : accessesAt (v .what) (length visited) starts ≡ xs
-  lent = ap (λ (n : ℕ). accessesAt (v .what) n starts) long
+  lent-same : accessesAt (v .what) (length visited) lent ≡ xs
+  lent-same = ap (λ (n : ℕ). accessesAt (v .what) n lent) long
 
-  visited-refusal : codesRefusal r (accessesAt (v .what) (length visited) starts) visited ≡ codesRefusal r xs bytes
-  visited-refusal = ap (λ (ys : List (Option AccessKind)). codesRefusal r ys visited) lent ∙ refusal-short r xs bytes (v .len) (planned-length (v .what) (v .len) starts)
+  visited-refusal : codesRefusal r (accessesAt (v .what) (length visited) lent) visited ≡ codesRefusal r xs bytes
+  visited-refusal = ap (λ (ys : List (Option AccessKind)). codesRefusal r ys visited) lent-same ∙ refusal-short r xs bytes (v .len) (planned-length (v .what) (v .len) lent)
 
-  pub visited-after : codesAfter r xs bytes ≡ codesAfter r (accessesAt (v .what) (length visited) starts) visited ++ drop (v .len) bytes
+  pub visited-after : codesAfter r xs bytes ≡ codesAfter r (accessesAt (v .what) (length visited) lent) visited ++ drop (v .len) bytes
   visited-after =
-      after-short r xs bytes (v .len) (planned-length (v .what) (v .len) starts)
-      ∙ ap (λ (ys : List (Option AccessKind)). codesAfter r ys visited ++ drop (v .len) bytes) (sym lent)
+      after-short r xs bytes (v .len) (planned-length (v .what) (v .len) lent)
+      ∙ ap (λ (ys : List (Option AccessKind)). codesAfter r ys visited ++ drop (v .len) bytes) (sym lent-same)
 
-  pub told-row : (given : Answer) → ToldBytes (v .what) starts r visited given → ToldRow v starts r row given
+  pub told-row : (given : Answer) → ToldBytes (v .what) lent r visited given → ToldRow v lent r row given
   told-row answer.Stays t = (
     sym visited-refusal ∙ t .0,
     sym

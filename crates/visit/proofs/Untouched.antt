@@ -32,22 +32,22 @@ codes-stay r (x ∷ xs) (c ∷ cs) h =
       ap₂ (λ (d : ℕ) (ds : List ℕ). d ∷ ds) (ap (λ (y : Option AccessKind). nextCode y r c) (h 0) ∙ no-change r c) (rest .1),
     )
 
-module _ (v : Reach) (starts : List ℕ) (h : (i : ℕ) → i < v .len → accessAt (v .what) starts i ≡ none) where
-  none-planned : (i : ℕ) → getD (planned v starts) i none ≡ none
+module _ (v : Reach) (lent : List ℕ) (h : (i : ℕ) → i < v .len → accessAt (v .what) lent i ≡ none) where
+  none-planned : (i : ℕ) → getD (planned v lent) i none ≡ none
   none-planned i = elim (decLt i (v .len)) [
-    | yes l ↦ planned-at (v .what) (v .len) starts i l ∙ h i l
-    | no l ↦ none-behind (planned v starts) i (omega (arith, planned-length (v .what) (v .len) starts))
+    | yes l ↦ planned-at (v .what) (v .len) lent i l ∙ h i l
+    | no l ↦ none-behind (planned v lent) i (omega (arith, planned-length (v .what) (v .len) lent))
   ]
 
-  row-stays : (r : NodeRelation) (row : List ℕ) → ToldRow v starts r row Stays
+  row-stays : (r : NodeRelation) (row : List ℕ) → ToldRow v lent r row Stays
   row-stays r row =
-      let stay = codes-stay r (planned v starts) (drop (v .from) row) none-planned in
+      let stay = codes-stay r (planned v lent) (drop (v .from) row) none-planned in
       (stay .0, sym (ap (λ (cs : List ℕ). take (v .from) row ++ cs) (stay .1) ∙ take-append-drop (v .from) row))
 
-  pub untouched : (ps codes ns : List ℕ) → ToldOf v ps starts codes ns Stays
+  pub untouched : (ps codes ns : List ℕ) → ToldOf v ps lent codes ns Stays
   unfolding firstRefusal walkAfter
   untouched ps codes [] = (refl, refl)
   untouched ps codes (n ∷ ns) =
-      let here = told-node v ps starts codes n Stays (row-stays (relation ps n (v .node)) (rowAt (v .width) n codes)) in
+      let here = told-node v ps lent codes n Stays (row-stays (relation ps n (v .node)) (rowAt (v .width) n codes)) in
       let rest = untouched ps codes ns in
-      (ap₂ (λ (m n : ℕ). m or n) (here .0) (rest .0), rest .1 ∙ ap (walkAfter v ps starts ns) (here .1))
+      (ap₂ (λ (m n : ℕ). m or n) (here .0) (rest .0), rest .1 ∙ ap (walkAfter v ps lent ns) (here .1))

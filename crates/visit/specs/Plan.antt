@@ -22,8 +22,8 @@ nextSibling s ps zero = 0
 nextSibling s ps (suc m) = childFrom s (getD ps (suc m) 0) (suc m + 1) (drop (suc m + 1) ps)
 
 -- what the plan says that node n is to the accessed one
-abbrev pub marked : List ℕ → ℕ → NodeRelation
-marked plan n = if eqb (getD plan (3 * n + 2) 0) 0 then Foreign else Local
+abbrev pub relationIn : List ℕ → ℕ → NodeRelation
+relationIn plan n = if eqb (getD plan (3 * n + 2) 0) 0 then Foreign else Local
 
 -- each node's first child and next sibling are in the plan; the root has no sibling
 pub record Linked (s : ℕ) (ps plan : List ℕ) : Type 0 where
@@ -31,8 +31,8 @@ pub record Linked (s : ℕ) (ps plan : List ℕ) : Type 0 where
   pub next : (k : ℕ) → k < length ps → getD plan (3 * k + 1) 0 ≡ nextSibling s ps k
 
 -- and so is what it is to the accessed node
-abbrev pub Marked : ℕ → List ℕ → List ℕ → Type 0
-Marked accessed ps plan = (k : ℕ) → k < length ps → marked plan k ≡ relation ps k accessed
+abbrev pub TellsPath : ℕ → List ℕ → List ℕ → Type 0
+TellsPath accessed ps plan = (k : ℕ) → k < length ps → relationIn plan k ≡ relation ps k accessed
 
 -- a plan has three numbers for each of at most 1,024 nodes
 pub record Roomy (ps plan : List ℕ) : Type 0 where
@@ -43,7 +43,7 @@ pub record Roomy (ps plan : List ℕ) : Type 0 where
 pub record Planned (v : Reach) (ps plan : List ℕ) : Type 0 where
   pub room : Roomy ps plan
   pub links : Linked (v .spared) ps plan
-  pub marks : Marked (v .node) ps plan
+  pub path : TellsPath (v .node) ps plan
 
 -- a visit that can be made from a node on
 pub record VisitFrom (v : Reach) (ps plan codes : List ℕ) (first : ℕ) : Type 0 where

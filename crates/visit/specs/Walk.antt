@@ -38,23 +38,23 @@ toldAccess (suc (suc k)) = some Write
 
 -- at the k-th of them
 abbrev pub accessAt : Accesses → List ℕ → ℕ → Option AccessKind
-accessAt (Each a) starts k = some (accessKind a)
-accessAt accesses.Told starts k = toldAccess (getD starts k 0)
-accessAt AtInit starts k = initAccessCode (getD starts k 0)
+accessAt (Each a) lent k = some (accessKind a)
+accessAt accesses.Told lent k = toldAccess (getD lent k 0)
+accessAt AtInit lent k = initAccessCode (getD lent k 0)
 
 -- at n of them
 abbrev pub accessesAt : Accesses → ℕ → List ℕ → List (Option AccessKind)
-accessesAt (Each a) n starts = replicate n (some (accessKind a))
-accessesAt accesses.Told n starts = map toldAccess (take n starts)
-accessesAt AtInit n starts = map initAccessCode (take n starts)
+accessesAt (Each a) n lent = replicate n (some (accessKind a))
+accessesAt accesses.Told n lent = map toldAccess (take n lent)
+accessesAt AtInit n lent = map initAccessCode (take n lent)
 
 abbrev pub planned : Reach → List ℕ → List (Option AccessKind)
-planned v starts = accessesAt (v .what) (v .len) starts
+planned v lent = accessesAt (v .what) (v .len) lent
 
 -- the same visit with its accesses said in another way
-pub record SameVisit (v : Reach) (starts : List ℕ) (r : Reach) : Type 0 where
+pub record SameVisit (v : Reach) (lent : List ℕ) (r : Reach) : Type 0 where
   pub same : r ≡ record { node = v .node; spared = v .spared; width = v .width; from = v .from; len = v .len; what = r .what }
-  pub accesses : accessesAt (r .what) (v .len) starts ≡ planned v starts
+  pub accesses : accessesAt (r .what) (v .len) lent ≡ planned v lent
 
 -- ---- what a check tells: of what is refused, and of the codes before and after
 abbrev pub Told : ℕ → List ℕ → List ℕ → Answer → Type 0
@@ -104,23 +104,23 @@ codesAfter r (x ∷ xs) (c ∷ cs) = nextCode x r c ∷ codesAfter r xs cs
 
 -- the same of the visited bytes of a row, by themselves
 abbrev pub bytesRefusal : Accesses → List ℕ → NodeRelation → List ℕ → ℕ
-bytesRefusal what starts r cs = codesRefusal r (accessesAt what (length cs) starts) cs
+bytesRefusal what lent r cs = codesRefusal r (accessesAt what (length cs) lent) cs
 
 abbrev pub bytesAfter : Accesses → List ℕ → NodeRelation → List ℕ → List ℕ
-bytesAfter what starts r cs = codesAfter r (accessesAt what (length cs) starts) cs
+bytesAfter what lent r cs = codesAfter r (accessesAt what (length cs) lent) cs
 
 abbrev pub ToldBytes : Accesses → List ℕ → NodeRelation → List ℕ → Answer → Type 0
-ToldBytes what starts r cs = Told (bytesRefusal what starts r cs) cs (bytesAfter what starts r cs)
+ToldBytes what lent r cs = Told (bytesRefusal what lent r cs) cs (bytesAfter what lent r cs)
 
 abbrev pub rowRefusal : Reach → List ℕ → NodeRelation → List ℕ → ℕ
-rowRefusal v starts r row = codesRefusal r (planned v starts) (drop (v .from) row)
+rowRefusal v lent r row = codesRefusal r (planned v lent) (drop (v .from) row)
 
 abbrev pub rowAfter : Reach → List ℕ → NodeRelation → List ℕ → List ℕ
-rowAfter v starts r row = take (v .from) row ++ codesAfter r (planned v starts) (drop (v .from) row)
+rowAfter v lent r row = take (v .from) row ++ codesAfter r (planned v lent) (drop (v .from) row)
 
 -- what the check of a row tells
 abbrev pub ToldRow : Reach → List ℕ → NodeRelation → List ℕ → Answer → Type 0
-ToldRow v starts r row = Told (rowRefusal v starts r row) row (rowAfter v starts r row)
+ToldRow v lent r row = Told (rowRefusal v lent r row) row (rowAfter v lent r row)
 
 -- ---- a node
 -- row n of a table, and the table with another row there
@@ -131,11 +131,11 @@ abbrev pub withRowAt : ℕ → ℕ → List ℕ → List ℕ → List ℕ
 withRowAt width n row codes = take (n * width) codes ++ (row ++ drop width (drop (n * width) codes))
 
 unfoldable pub nodeRefusal : Reach → List ℕ → List ℕ → List ℕ → ℕ → ℕ
-nodeRefusal v ps starts codes n = rowRefusal v starts (relation ps n (v .node)) (rowAt (v .width) n codes)
+nodeRefusal v ps lent codes n = rowRefusal v lent (relation ps n (v .node)) (rowAt (v .width) n codes)
 
 unfoldable pub nodeAfter : Reach → List ℕ → List ℕ → ℕ → List ℕ → List ℕ
-nodeAfter v ps starts n codes =
-    withRowAt (v .width) n (rowAfter v starts (relation ps n (v .node)) (rowAt (v .width) n codes)) codes
+nodeAfter v ps lent n codes =
+    withRowAt (v .width) n (rowAfter v lent (relation ps n (v .node)) (rowAt (v .width) n codes)) codes
 
 -- ---- the tree
 -- the descendants of a node, without s and its own; and the node with them
@@ -152,13 +152,13 @@ nodesFrom s ps (suc m) = walk s (getD ps (suc m) 0) (suc m) (drop (suc m) ps)
 
 -- the first refusal at the nodes of a list
 abbrev pub walkRefusal : Reach → List ℕ → List ℕ → List ℕ → List ℕ → ℕ
-walkRefusal v ps starts codes ns = firstRefusal (nodeRefusal v ps starts codes) ns
+walkRefusal v ps lent codes ns = firstRefusal (nodeRefusal v ps lent codes) ns
 
 -- the table after the nodes of a list
 unfoldable pub walkAfter : Reach → List ℕ → List ℕ → List ℕ → List ℕ → List ℕ
-walkAfter v ps starts [] codes = codes
-walkAfter v ps starts (n ∷ ns) codes = walkAfter v ps starts ns (nodeAfter v ps starts n codes)
+walkAfter v ps lent [] codes = codes
+walkAfter v ps lent (n ∷ ns) codes = walkAfter v ps lent ns (nodeAfter v ps lent n codes)
 
 -- what the check of the nodes of a list tells
 abbrev pub ToldOf : Reach → List ℕ → List ℕ → List ℕ → List ℕ → Answer → Type 0
-ToldOf v ps starts codes ns = Told (walkRefusal v ps starts codes ns) codes (walkAfter v ps starts ns codes)
+ToldOf v ps lent codes ns = Told (walkRefusal v ps lent codes ns) codes (walkAfter v ps lent ns codes)

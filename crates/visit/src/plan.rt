@@ -7,7 +7,7 @@ ghost use Prim.Native.Nat.{_+_, _*_, _≤_, _<_};
 ghost use lib.ListN.{length, getD};
 ghost use Rattle.definition.proofs.Trees.{Parents};
 ghost use Rattle.permission.specs.Codes.{nodeRelation};
-ghost use Rattle.visit.specs.Plan.{marked, linkedIn, Planned, Zeros, Roomy};
+ghost use Rattle.visit.specs.Plan.{relationIn, linkedIn, Planned, Zeros, Roomy};
 
 fn wide(x: u16) -> usize
     ensures { λ r. ⌜ r ≡ x ⌝ }
@@ -32,7 +32,7 @@ pub(crate) fn next_sibling(plan: &[u16], n: usize) -> usize
 // What a node is to the accessed one.
 pub fn relation(plan: &[u16], n: usize) -> NodeRelation
     requires { ⌜ (3 * n + 2 < length (now plan)) × (length (now plan) ≤ 3072) ⌝ }
-    ensures { λ r. ⌜ nodeRelation r ≡ marked (now (plan .entry)) n ⌝ }
+    ensures { λ r. ⌜ nodeRelation r ≡ relationIn (now (plan .entry)) n ⌝ }
 {
     if plan[3 * n + 2] == 0 {
         return NodeRelation::Foreign;

@@ -18,10 +18,10 @@ ghost use Rattle.visit.specs.Walk.{SameVisit, ToldBytes, ToldRow, access
 
 // ---- the accesses at the visited bytes
 // The lent number at the k-th of them, 0 where there is none.
-fn start_at(starts: &[u8], k: usize) -> u8
-    ensures { λ r. ⌜ r ≡ getD (now (starts .entry)) k 0 ⌝ }
+fn lent_at(lent: &[u8], k: usize) -> u8
+    ensures { λ r. ⌜ r ≡ getD (now (lent .entry)) k 0 ⌝ }
 {
-    if k < starts.len() { starts[k] } else { 0 }
+    if k < lent.len() { lent[k] } else { 0 }
 }
 
 // The access that a number tells.
@@ -35,24 +35,24 @@ fn told_access(number: u8) -> MaybeAccess
     }
 }
 
-fn access_at(what: Accesses, starts: &[u8], k: usize) -> MaybeAccess
-    ensures { λ r. ⌜ maybeAccess r ≡ accessAt what (now (starts .entry)) k ⌝ }
+fn access_at(what: Accesses, lent: &[u8], k: usize) -> MaybeAccess
+    ensures { λ r. ⌜ maybeAccess r ≡ accessAt what (now (lent .entry)) k ⌝ }
 {
     match what {
         Accesses::Each(kind) => MaybeAccess::Access(kind),
-        Accesses::Told => told_access(start_at(starts, k)),
-        Accesses::AtInit => permission::init_access(start_at(starts, k)),
+        Accesses::Told => told_access(lent_at(lent, k)),
+        Accesses::AtInit => permission::init_access(lent_at(lent, k)),
     }
 }
 
 // All bytes have the number of the first.
-fn all_alike(starts: &[u8], len: usize) -> bool
-    ensures { λ r. ⌜ (r ≡ true → (i : ℕ) → i < len → getD (now (starts .entry)) i 0 ≡ getD (now (starts .entry)) 0 0) ⌝ }
+fn all_alike(lent: &[u8], len: usize) -> bool
+    ensures { λ r. ⌜ (r ≡ true → (i : ℕ) → i < len → getD (now (lent .entry)) i 0 ≡ getD (now (lent .entry)) 0 0) ⌝ }
 {
-    let first = start_at(starts, 0);
+    let first = lent_at(lent, 0);
     let mut k = 0;
     while k < len {
-        if start_at(starts, k) != first {
+        if lent_at(lent, k) != first {
             return false;
         }
         k += 1;
@@ -61,12 +61,12 @@ fn all_alike(starts: &[u8], len: usize) -> bool
 }
 
 // Some byte has an access. Where none has, nothing is visited (`check_lent`).
-pub(crate) fn any_access(what: Accesses, starts: &[u8], len: usize) -> bool
-    ensures { λ r. ⌜ (r ≡ false → (i : ℕ) → i < len → accessAt what (now (starts .entry)) i ≡ none) ⌝ }
+pub(crate) fn any_access(what: Accesses, lent: &[u8], len: usize) -> bool
+    ensures { λ r. ⌜ (r ≡ false → (i : ℕ) → i < len → accessAt what (now (lent .entry)) i ≡ none) ⌝ }
 {
     let mut k = 0;
     while k < len {
-        match access_at(what, starts, k) {
+        match access_at(what, lent, k) {
             MaybeAccess::Nothing => {}
             MaybeAccess::Access(_) => return true,
         }
@@ -76,15 +76,15 @@ pub(crate) fn any_access(what: Accesses, starts: &[u8], len: usize) -> bool
 }
 
 // A visit by a lent row, as one of the same access at each byte where all of them have the same: it is then worked out once, and not at each node.
-pub fn settled(starts: &[u8], v: Reach) -> Reach
-    ensures { λ r. ⌜ SameVisit v (now (starts .entry)) r ⌝ }
+pub fn settled(lent: &[u8], v: Reach) -> Reach
+    ensures { λ r. ⌜ SameVisit v (now (lent .entry)) r ⌝ }
 {
     let what = v.what;
     let len = v.len;
-    if !all_alike(starts, len) {
+    if !all_alike(lent, len) {
         return v;
     }
-    match access_at(what, starts, 0) {
+    match access_at(what, lent, 0) {
         MaybeAccess::Nothing => v,
         MaybeAccess::Access(kind) => Reach {
             node: v.node,
@@ -164,13 +164,13 @@ fn outcome(code: u8, access: MaybeAccess, relation: NodeRelation) -> Outcome
     }
 }
 
-fn check_bytes(row: &[u8], starts: &[u8], what: Accesses, relation: NodeRelation) -> Answer
-    ensures { λ r. ⌜ ToldBytes what (now (starts .entry)) (nodeRelation relation) (now (row .entry)) r ⌝ }
+fn check_bytes(row: &[u8], lent: &[u8], what: Accesses, relation: NodeRelation) -> Answer
+    ensures { λ r. ⌜ ToldBytes what (now (lent .entry)) (nodeRelation relation) (now (row .entry)) r ⌝ }
 {
     let mut changes = false;
     let mut k = 0;
     while k < row.len() {
-        match outcome(row[k], access_at(what, starts, k), relation) {
+        match outcome(row[k], access_at(what, lent, k), relation) {
             Outcome::Stays => {}
             Outcome::Becomes(_) => changes = true,
             Outcome::Refused(n) => return Answer::Refused(n),
@@ -180,12 +180,12 @@ fn check_bytes(row: &[u8], starts: &[u8], what: Accesses, relation: NodeRelation
     unrefused(changes)
 }
 
-fn apply_bytes(row: &mut [u8], starts: &[u8], what: Accesses, relation: NodeRelation)
-    ensures { λ _. ⌜ now (row .exit) ≡ bytesAfter what (now (starts .entry)) (nodeRelation relation) (now (row .entry)) ⌝ }
+fn apply_bytes(row: &mut [u8], lent: &[u8], what: Accesses, relation: NodeRelation)
+    ensures { λ _. ⌜ now (row .exit) ≡ bytesAfter what (now (lent .entry)) (nodeRelation relation) (now (row .entry)) ⌝ }
 {
     let mut k = 0;
     while k < row.len() {
-        match outcome(row[k], access_at(what, starts, k), relation) {
+        match outcome(row[k], access_at(what, lent, k), relation) {
             Outcome::Stays => {}
             Outcome::Becomes(next) => row[k] = next,
             Outcome::Refused(_) => {}
@@ -195,39 +195,39 @@ fn apply_bytes(row: &mut [u8], starts: &[u8], what: Accesses, relation: NodeRela
 }
 
 // The codes that stay are passed over; from the first that does not, byte by byte.
-fn check_row(row: &[u8], starts: &[u8], what: Accesses, relation: NodeRelation) -> Answer
-    ensures { λ r. ⌜ ToldBytes what (now (starts .entry)) (nodeRelation relation) (now (row .entry)) r ⌝ }
+fn check_row(row: &[u8], lent: &[u8], what: Accesses, relation: NodeRelation) -> Answer
+    ensures { λ r. ⌜ ToldBytes what (now (lent .entry)) (nodeRelation relation) (now (row .entry)) r ⌝ }
 {
     let k = staying(row, what, relation);
     if k == row.len() {
         return Answer::Stays;
     }
-    check_bytes(&row[k..], starts, what, relation)
+    check_bytes(&row[k..], lent, what, relation)
 }
 
 // ---- the row of node n in a table: its visited bytes are the part that is handed on
 pub(crate) fn check_at(
     codes: &[u8],
-    starts: &[u8],
+    lent: &[u8],
     v: Reach,
     n: usize,
     relation: NodeRelation,
 ) -> Answer
     requires { ⌜ (n * v .width + v .width ≤ length (now codes)) × (v .from + v .len ≤ v .width) ⌝ }
-    ensures { λ r. ⌜ ToldRow v (now (starts .entry)) (nodeRelation relation) (rowAt (v .width) n (now (codes .entry))) r ⌝ }
+    ensures { λ r. ⌜ ToldRow v (now (lent .entry)) (nodeRelation relation) (rowAt (v .width) n (now (codes .entry))) r ⌝ }
 {
     let what = v.what;
     let start = n * v.width + v.from;
     let end = start + v.len;
-    check_row(&codes[start..end], starts, what, relation)
+    check_row(&codes[start..end], lent, what, relation)
 }
 
-pub(crate) fn apply_at(codes: &mut [u8], starts: &[u8], v: Reach, n: usize, relation: NodeRelation)
+pub(crate) fn apply_at(codes: &mut [u8], lent: &[u8], v: Reach, n: usize, relation: NodeRelation)
     requires { ⌜ (n * v .width + v .width ≤ length (now codes)) × (v .from + v .len ≤ v .width) ⌝ }
-    ensures { λ _. ⌜ now (codes .exit) ≡ withRowAt (v .width) n (rowAfter v (now (starts .entry)) (nodeRelation relation) (rowAt (v .width) n (now (codes .entry)))) (now (codes .entry)) ⌝ }
+    ensures { λ _. ⌜ now (codes .exit) ≡ withRowAt (v .width) n (rowAfter v (now (lent .entry)) (nodeRelation relation) (rowAt (v .width) n (now (codes .entry)))) (now (codes .entry)) ⌝ }
 {
     let what = v.what;
     let start = n * v.width + v.from;
     let end = start + v.len;
-    apply_bytes(&mut codes[start..end], starts, what, relation);
+    apply_bytes(&mut codes[start..end], lent, what, relation);
 }

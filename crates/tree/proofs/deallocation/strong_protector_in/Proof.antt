@@ -13,7 +13,7 @@ use Rattle.definition.specs.Permission.AccessKind.{Write}
 use Rattle.definition.specs.Memory.{nodePreventsDeallocation}
 use Rattle.definition.specs.Tree.{noNode, Node, nodeAt, visited, accessVisit}
 use Rattle.definition.proofs.Visits.{visited-length}
-use Rattle.visit.specs.Plan.{Marked}
+use Rattle.visit.specs.Plan.{TellsPath}
 use Rattle.tree.specs.Table.{HoldsAll}
 use Rattle.tree.proofs.Held.{node-fits, held-count, marks-count}
 use Rattle.tree.proofs.Strong.{strong-prevents, other-prevents-not}
@@ -21,7 +21,7 @@ use Rattle.tree.proofs.deallocation.strong_protector_in.Statement.{stat
 use Rattle.tree.proofs.deallocation.strong_protector_in.Tie as tie
 
 abbrev Inv-loop : tie.InvT-loop
-Inv-loop plan parents protectors codes width n₀ n = (n ≤ length parents) × ((node : ℕ) → Marked node parents plan → (nodes : List Node) → HoldsAll nodes width parents protectors codes → (k : ℕ) → k < n → nodePreventsDeallocation (nodeAt (visited (accessVisit Write node 0 width) nodes) k) ≡ false)
+Inv-loop plan parents protectors codes width n₀ n = (n ≤ length parents) × ((node : ℕ) → TellsPath node parents plan → (nodes : List Node) → HoldsAll nodes width parents protectors codes → (k : ℕ) → k < n → nodePreventsDeallocation (nodeAt (visited (accessVisit Write node 0 width) nodes) k) ≡ false)
 
 abbrev μ-loop : tie.MeasureT-loop
 μ-loop plan parents protectors codes width n₀ n = length parents - n

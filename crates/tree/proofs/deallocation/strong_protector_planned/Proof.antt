@@ -59,7 +59,7 @@ returns c =
     let s = made .before .before .before .before .before .before in
     let size = 3 * length (s .args .parents .now) in
     let long = call .kept .1 .0 ∙ length-take-le size (s .args .scratch .now) (s .pre .0 .1) in
-    c .strong-protector-in .ensures (s .args .node) (planned-lent _ (s .args .parents .now) (call .last .1 .0) (drop size (s .args .scratch .now)) size long (call .ensures) .marks)
+    c .strong-protector-in .ensures (s .args .node) (planned-lent _ (s .args .parents .now) (call .last .1 .0) (drop size (s .args .scratch .now)) size long (call .ensures) .path)
 
 pub strong-protector-planned-spec : {M : Type 1} → statement M
 strong-protector-planned-spec =

@@ -67,7 +67,7 @@ returns c =
     let size = 3 * length (s .args .parents .now) in
     let long = call .kept .1 .0 ∙ length-take-le size (s .args .scratch .now) (s .pre .0 .1) in
     applied .apply-from .ensures (s .args .parents .now) (record { planned = planned-lent (s .args .v) (s .args .parents .now) (call .last .1 .0) (drop size (s .args .scratch .now)) size long (call .ensures); ready = s .pre .1 .0; inside = omega (arith, s .pre .1 .0 .node); visited = λ e. absurd (omega (arith, s .pre .1 .1, e)) })
-    ∙ ap (λ (ns : List ℕ). walkAfter (s .args .v) (s .args .parents .now) (s .args .starts .now) ns (s .args .codes .now)) (nodes-root (s .args .v .spared) (s .args .parents .now))
+    ∙ ap (λ (ns : List ℕ). walkAfter (s .args .v) (s .args .parents .now) (s .args .lent .now) ns (s .args .codes .now)) (nodes-root (s .args .v .spared) (s .args .parents .now))
 
 pub apply-planned-spec : {M : Type 1} → statement M
 apply-planned-spec =

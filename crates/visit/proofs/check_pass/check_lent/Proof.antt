@@ -12,7 +12,7 @@ returns : tie.Need-returns
 returns c =
     let tested = c .before in
     let a = tested .before .before .before .before .args in
-    untouched (a .v) (a .starts .now) (tested .any-access .ensures (not-true _ (c .if1 .taken))) (a .parents .now) (a .codes .now) _
+    untouched (a .v) (a .lent .now) (tested .any-access .ensures (not-true _ (c .if1 .taken))) (a .parents .now) (a .codes .now) _
 
 check-requires : tie.Need-check-requires
 check-requires c κs = search needs

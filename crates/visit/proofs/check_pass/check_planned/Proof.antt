@@ -62,7 +62,7 @@ returns c =
     let s = made .before .before .before .before .before .before in
     let size = 3 * length (s .args .parents .now) in
     let long = call .kept .1 .0 ∙ length-take-le size (s .args .scratch .now) (s .pre .0 .1) in
-    subst (λ (ns : List ℕ). ToldOf (s .args .v) (s .args .parents .now) (s .args .starts .now) (s .args .codes .now) ns (c .check-from .result)) (nodes-root (s .args .v .spared) (s .args .parents .now))
+    subst (λ (ns : List ℕ). ToldOf (s .args .v) (s .args .parents .now) (s .args .lent .now) (s .args .codes .now) ns (c .check-from .result)) (nodes-root (s .args .v .spared) (s .args .parents .now))
     (c .check-from .ensures (s .args .parents .now) (record { planned = planned-lent (s .args .v) (s .args .parents .now) (call .last .1 .0) (drop size (s .args .scratch .now)) size long (call .ensures); ready = s .pre .1 .0; inside = omega (arith, s .pre .1 .0 .node); visited = λ e. absurd (omega (arith, s .pre .1 .1, e)) }))
 
 pub check-planned-spec : {M : Type 1} → statement M

@@ -1,18 +1,18 @@
--- The invariant: the nodes from m on are linked, and what is marked, or lies above `on`, is what lies above the accessed node.
+-- The invariant: the nodes from m on are linked, and what is noted, or lies above `on`, is what lies above the accessed node.
 use Prim.Native.Nat.{ℕ, _+_, _-_, _*_, _≤_, _<_}
 use mathlib.Core.Path.{_≡_, refl, sym, ap, subst, _∙_}
 use mathlib.Core.List.{List}
 use lib.ListN.{length, set, length-set}
 use Rattle.definition.proofs.Trees.{parent-earlier}
 use Rattle.visit.specs.Plan.{Roomy, linkedIn}
-use Rattle.visit.proofs.Plans.{Linking, linking-none, linked-at, linked-length, links-left, linked, Marking, marking-none, marking-linked, marked-up, marked-root}
+use Rattle.visit.proofs.Plans.{Linking, linking-none, linked-at, linked-length, links-left, linked, Traced, traced-none, traced-linked, traced-up, traced-root}
 use borrow.Author.Needs.{needs}
 use native.Mathlib.Omega.{arith}
 use Rattle.visit.proofs.plan.make_plan.Statement.{statement}
 use Rattle.visit.proofs.plan.make_plan.Tie as tie
 
 abbrev Inv-loop : tie.InvT-loop
-Inv-loop parents plan₀ spared on₀ m₀ plan on m = (m ≤ length parents) × (on < m) × (length plan ≡ length plan₀) × Linking spared parents plan m × Marking parents on₀ plan on
+Inv-loop parents plan₀ spared on₀ m₀ plan on m = (m ≤ length parents) × (on < m) × (length plan ≡ length plan₀) × Linking spared parents plan m × Traced parents on₀ plan on
 
 abbrev μ-loop : tie.MeasureT-loop
 μ-loop parents plan₀ spared on₀ m₀ plan on m = m
@@ -20,7 +20,7 @@ abbrev μ-loop : tie.MeasureT-loop
 loop-holds : tie.Need-loop-holds Inv-loop μ-loop
 loop-holds c = let s = c .before .before in
     let ps = s .args .parents .now in
-    (omega arith, s .pre .0 .1, refl, linking-none (s .args .v .spared) ps (s .args .plan .now) (s .pre .1 .1), marking-none ps (s .pre .0 .0) (s .args .v .node) (s .args .plan .now) (s .pre .1 .1))
+    (omega arith, s .pre .0 .1, refl, linking-none (s .args .v .spared) ps (s .args .plan .now) (s .pre .1 .1), traced-none ps (s .pre .0 .0) (s .args .v .node) (s .args .plan .now) (s .pre .1 .1))
 
 sub-m : tie.Need-sub-m Inv-loop μ-loop
 sub-m c = search needs
@@ -74,13 +74,13 @@ loop-again c = let linked = c .before .before .before in
     let links : Linking (s .args .v .spared) ps plan m =
     subst (λ (q : List ℕ). Linking (s .args .v .spared) ps q m) (sym (link .ensures))
     (linked-at (s .args .v .spared) ps (l .loop .plan) m room (omega arith) (omega arith) (wide .result) (wide .ensures) (omega (arith, wide .ensures)) (subst (Linking (s .args .v .spared) ps (l .loop .plan)) back (l .loop .inv .3))) in
-    let marks : Marking ps (s .args .v .node) plan (l .loop .on) =
-    subst (λ (q : List ℕ). Marking ps (s .args .v .node) q (l .loop .on)) (sym (link .ensures)) (marking-linked ps (s .pre .0 .0) (s .args .v .node) (s .args .v .spared) (wide .result) m (l .loop .plan) (l .loop .on) (l .loop .inv .4)) in (
+    let traced : Traced ps (s .args .v .node) plan (l .loop .on) =
+    subst (λ (q : List ℕ). Traced ps (s .args .v .node) q (l .loop .on)) (sym (link .ensures)) (traced-linked ps (s .pre .0 .0) (s .args .v .node) (s .args .v .spared) (wide .result) m (l .loop .plan) (l .loop .on) (l .loop .inv .4)) in (
       omega arith,
       omega (arith, wide .ensures, parent-earlier ps (s .pre .0 .0) m (omega arith)),
       length-set plan (3 * m + 2) 1 ∙ long,
       links-left (s .args .v .spared) ps plan m m (links),
-      marked-up ps (s .pre .0 .0) (s .args .v .node) plan m (omega (arith, long, l .loop .inv .0, s .pre .1 .0 .size)) (subst (Marking ps (s .args .v .node) plan) (sym (c .if1 .taken)) (marks)) (omega arith) (wide .result) (wide .ensures),
+      traced-up ps (s .pre .0 .0) (s .args .v .node) plan m (omega (arith, long, l .loop .inv .0, s .pre .1 .0 .size)) (subst (Traced ps (s .args .v .node) plan) (sym (c .if1 .taken)) (traced)) (omega arith) (wide .result) (wide .ensures),
     )
 
 loop-less-2 : tie.Need-loop-less-2 Inv-loop μ-loop
@@ -102,9 +102,9 @@ loop-again-2 c = let linked = c .before .before .before in
     let links : Linking (s .args .v .spared) ps plan m =
     subst (λ (q : List ℕ). Linking (s .args .v .spared) ps q m) (sym (link .ensures))
     (linked-at (s .args .v .spared) ps (l .loop .plan) m room (omega arith) (omega arith) (wide .result) (wide .ensures) (omega (arith, wide .ensures)) (subst (Linking (s .args .v .spared) ps (l .loop .plan)) back (l .loop .inv .3))) in
-    let marks : Marking ps (s .args .v .node) plan (l .loop .on) =
-    subst (λ (q : List ℕ). Marking ps (s .args .v .node) q (l .loop .on)) (sym (link .ensures)) (marking-linked ps (s .pre .0 .0) (s .args .v .node) (s .args .v .spared) (wide .result) m (l .loop .plan) (l .loop .on) (l .loop .inv .4)) in
-    (omega arith, omega (arith, l .loop .inv .1, c .if1 .left), long, links, marks)
+    let traced : Traced ps (s .args .v .node) plan (l .loop .on) =
+    subst (λ (q : List ℕ). Traced ps (s .args .v .node) q (l .loop .on)) (sym (link .ensures)) (traced-linked ps (s .pre .0 .0) (s .args .v .node) (s .args .v .spared) (wide .result) m (l .loop .plan) (l .loop .on) (l .loop .inv .4)) in
+    (omega arith, omega (arith, l .loop .inv .1, c .if1 .left), long, links, traced)
 
 slice-write-plan-2 : tie.Need-slice-write-plan-2 Inv-loop μ-loop
 slice-write-plan-2 c = search needs
@@ -123,7 +123,7 @@ returns c = let l = c .before in
     record {
       room = record { size = length-set plan 2 1 ∙ long; few = s .pre .1 .0 .few };
       links = linked (s .args .v .spared) ps tree (set plan 2 1) (l .loop .m) (omega arith) (λ q. omega (arith, l .loop .inv .1)) (links-left (s .args .v .spared) ps plan (l .loop .m) 0 (l .loop .inv .3));
-      marks = marked-root ps tree (s .args .v .node) plan 0 (omega (arith, long, s .pre .0 .1)) (subst (Marking ps (s .args .v .node) plan) root (l .loop .inv .4)) refl;
+      path = traced-root ps tree (s .args .v .node) plan 0 (omega (arith, long, s .pre .0 .1)) (subst (Traced ps (s .args .v .node) plan) root (l .loop .inv .4)) refl;
     }
 
 pub make-plan-spec : {M : Type 1} → statement M

@@ -10,19 +10,19 @@ use Rattle.visit.proofs.row.all_alike.Statement.{statement}
 use Rattle.visit.proofs.row.all_alike.Tie as tie
 
 abbrev Inv-loop : tie.InvT-loop
-Inv-loop starts len first k₀ k = (k ≤ len) × ((i : ℕ) → i < k → getD starts i 0 ≡ getD starts 0 0)
+Inv-loop lent len first k₀ k = (k ≤ len) × ((i : ℕ) → i < k → getD lent i 0 ≡ getD lent 0 0)
 
 abbrev μ-loop : tie.MeasureT-loop
-μ-loop starts len first k₀ k = len - k
+μ-loop lent len first k₀ k = len - k
 
-start-at-requires : tie.Need-start-at-requires Inv-loop μ-loop
-start-at-requires c κs = search needs
+lent-at-requires : tie.Need-lent-at-requires Inv-loop μ-loop
+lent-at-requires c κs = search needs
 
 loop-holds : tie.Need-loop-holds Inv-loop μ-loop
 loop-holds c = (omega arith, λ i l. absurd (omega arith))
 
-start-at-requires-2 : tie.Need-start-at-requires-2 Inv-loop μ-loop
-start-at-requires-2 c κs = search needs
+lent-at-requires-2 : tie.Need-lent-at-requires-2 Inv-loop μ-loop
+lent-at-requires-2 c κs = search needs
 
 returns : tie.Need-returns Inv-loop μ-loop
 returns c = λ e. absurd (true-not-false (sym e))
@@ -38,7 +38,7 @@ loop-again c = let l = c .before .before .before in
     let s = l .before .before .before in (
       omega arith,
       λ i h. elim (ℕ-discrete i (l .loop .k)) [
-        | yes q ↦ ap (λ (j : ℕ). getD (s .args .starts .now) j 0) q ∙ sym (c .before .start-at2 .ensures) ∙ c .if1 .left ∙ l .before .start-at .ensures
+        | yes q ↦ ap (λ (j : ℕ). getD (s .args .lent .now) j 0) q ∙ sym (c .before .lent-at2 .ensures) ∙ c .if1 .left ∙ l .before .lent-at .ensures
         | no q ↦ l .loop .inv .1 i (omega arith)
       ],
     )
@@ -52,9 +52,9 @@ all-alike-spec =
     (tie.spec
     Inv-loop
     μ-loop
-    start-at-requires
+    lent-at-requires
     loop-holds
-    start-at-requires-2
+    lent-at-requires-2
     returns
     add-k
     loop-less

@@ -12,10 +12,10 @@ use Rattle.visit.proofs.row.any_access.Statement.{statement}
 use Rattle.visit.proofs.row.any_access.Tie as tie
 
 abbrev Inv-loop : tie.InvT-loop
-Inv-loop what starts len k₀ k = (k ≤ len) × ((i : ℕ) → i < k → accessAt what starts i ≡ none)
+Inv-loop what lent len k₀ k = (k ≤ len) × ((i : ℕ) → i < k → accessAt what lent i ≡ none)
 
 abbrev μ-loop : tie.MeasureT-loop
-μ-loop what starts len k₀ k = len - k
+μ-loop what lent len k₀ k = len - k
 
 loop-holds : tie.Need-loop-holds Inv-loop μ-loop
 loop-holds c = (omega arith, λ i l. absurd (omega arith))
@@ -44,7 +44,7 @@ loop-again c = let found = c .before .before in
     let s = l .before .before in (
       omega arith,
       λ i h. elim (ℕ-discrete i (l .loop .k)) [
-        | yes q ↦ ap (accessAt (s .args .what) (s .args .starts .now)) q ∙ sym (found .access-at .ensures) ∙ ap maybeAccess (c .enum-told .given .1)
+        | yes q ↦ ap (accessAt (s .args .what) (s .args .lent .now)) q ∙ sym (found .access-at .ensures) ∙ ap maybeAccess (c .enum-told .given .1)
         | no q ↦ l .loop .inv .1 i (omega arith)
       ],
     )

@@ -48,10 +48,10 @@ returns c = let s = entry (c .before .before) in
     let row = rowAt (v .width) (s .args .n) codes in
     let given = c .before .before .apply-bytes in
     let inside : v .from + v .len ≤ length row = omega (arith, row-length (v .width) (s .args .n) codes (s .pre .0), s .pre .1) in
-    let changed = given .ensures ∙ ap (bytesAfter (v .what) (s .args .starts .now) r) (part-bytes (v .width) (s .args .n) (v .from) (v .len) codes (s .pre .0) (s .pre .1)) in
+    let changed = given .ensures ∙ ap (bytesAfter (v .what) (s .args .lent .now) r) (part-bytes (v .width) (s .args .n) (v .from) (v .len) codes (s .pre .0) (s .pre .1)) in
     put-bytes (v .width) (s .args .n) (v .from) (v .len) codes (s .pre .0) (s .pre .1) (given .last .0)
     ∙ ap (λ (cs : List ℕ). withRowAt (v .width) (s .args .n) (take (v .from) row ++ cs) codes)
-    (ap (λ (cs : List ℕ). cs ++ drop (v .len) (drop (v .from) row)) changed ∙ sym (visited-after v (s .args .starts .now) r row inside))
+    (ap (λ (cs : List ℕ). cs ++ drop (v .len) (drop (v .from) row)) changed ∙ sym (visited-after v (s .args .lent .now) r row inside))
 
 pub apply-at-spec : {M : Type 1} → statement M
 apply-at-spec =

@@ -15,10 +15,10 @@ use Rattle.visit.proofs.row.apply_bytes.Statement.{statement}
 use Rattle.visit.proofs.row.apply_bytes.Tie as tie
 
 abbrev Inv-loop : tie.InvT-loop
-Inv-loop row₀ starts what relation k₀ row k = (k ≤ length row₀) × (length row ≡ length row₀) × (row ≡ changedTo row₀ (bytesAfter what starts (nodeRelation relation) row₀) (codes-length (nodeRelation relation) (accessesAt what (length row₀) starts) row₀) k)
+Inv-loop row₀ lent what relation k₀ row k = (k ≤ length row₀) × (length row ≡ length row₀) × (row ≡ changedTo row₀ (bytesAfter what lent (nodeRelation relation) row₀) (codes-length (nodeRelation relation) (accessesAt what (length row₀) lent) row₀) k)
 
 abbrev μ-loop : tie.MeasureT-loop
-μ-loop row₀ starts what relation k₀ row k = length row₀ - k
+μ-loop row₀ lent what relation k₀ row k = length row₀ - k
 
 loop-holds : tie.Need-loop-holds Inv-loop μ-loop
 loop-holds c = (omega arith, refl, refl)
@@ -59,12 +59,12 @@ loop-again c = let l = c .before .before .before .before .before in
     let row = s .args .row .now in
     let now = l .loop .row in
     let k = l .loop .k in
-    let xs = accessesAt (s .args .what) (length row) (s .args .starts .now) in
+    let xs = accessesAt (s .args .what) (length row) (s .args .lent .now) in
     let x = getD xs k none in
-    let target = bytesAfter (s .args .what) (s .args .starts .now) r row in
+    let target = bytesAfter (s .args .what) (s .args .lent .now) r row in
     let same = codes-length r xs row in
     let decided : o .result ≡ outcomeAt x r (getD now k 0) =
-    o .ensures ∙ ap (λ (y : Option AccessKind). outcomeAt y r (getD now k 0)) (found .ensures ∙ sym (planned-at (s .args .what) (length row) (s .args .starts .now) k (omega arith))) in
+    o .ensures ∙ ap (λ (y : Option AccessKind). outcomeAt y r (getD now k 0)) (found .ensures ∙ sym (planned-at (s .args .what) (length row) (s .args .lent .now) k (omega arith))) in
     let turn : c .match .row ≡ set now k (nextCode x r (getD now k 0)) =
     ⊎-elim
     (λ w. turn-stays x r now (c .match .row) k (o .result) decided (w .1 .given .1) (w .2))
@@ -84,7 +84,7 @@ returns c = let l = c .before in
     let s = l .before .before .before in
     let r = nodeRelation (s .args .relation) in
     let row = s .args .row .now in
-    l .loop .inv .2 ∙ changed-all row (bytesAfter (s .args .what) (s .args .starts .now) r row) (codes-length r (accessesAt (s .args .what) (length row) (s .args .starts .now)) row) (l .loop .k) (omega arith)
+    l .loop .inv .2 ∙ changed-all row (bytesAfter (s .args .what) (s .args .lent .now) r row) (codes-length r (accessesAt (s .args .what) (length row) (s .args .lent .now)) row) (l .loop .k) (omega arith)
 
 pub apply-bytes-spec : {M : Type 1} → statement M
 apply-bytes-spec =

@@ -40,8 +40,8 @@ returns : tie.Need-returns
 returns c = let s = entry c in
     let v = s .args .v in
     let codes = s .args .codes .now in
-    told-row v (s .args .starts .now) (nodeRelation (s .args .relation)) (rowAt (v .width) (s .args .n) codes) (omega (arith, row-length (v .width) (s .args .n) codes (s .pre .0), s .pre .1)) (c .check-row .result)
-    (subst (λ (row : List ℕ). ToldBytes (v .what) (s .args .starts .now) (nodeRelation (s .args .relation)) row (c .check-row .result)) (part-bytes (v .width) (s .args .n) (v .from) (v .len) codes (s .pre .0) (s .pre .1)) (c .check-row .ensures))
+    told-row v (s .args .lent .now) (nodeRelation (s .args .relation)) (rowAt (v .width) (s .args .n) codes) (omega (arith, row-length (v .width) (s .args .n) codes (s .pre .0), s .pre .1)) (c .check-row .result)
+    (subst (λ (row : List ℕ). ToldBytes (v .what) (s .args .lent .now) (nodeRelation (s .args .relation)) row (c .check-row .result)) (part-bytes (v .width) (s .args .n) (v .from) (v .len) codes (s .pre .0) (s .pre .1)) (c .check-row .ensures))
 
 pub check-at-spec : {M : Type 1} → statement M
 check-at-spec =

@@ -14,14 +14,14 @@ use Rattle.visit.proofs.row.check_bytes.Statement.{statement}
 use Rattle.visit.proofs.row.check_bytes.Tie as tie
 
 abbrev Inv-loop : tie.InvT-loop
-Inv-loop row starts what relation changes₀ k₀ changes k = (k ≤ length row) × BytesAt (nodeRelation relation) (accessesAt what (length row) starts) row k changes
+Inv-loop row lent what relation changes₀ k₀ changes k = (k ≤ length row) × BytesAt (nodeRelation relation) (accessesAt what (length row) lent) row k changes
 
 abbrev μ-loop : tie.MeasureT-loop
-μ-loop row starts what relation changes₀ k₀ changes k = length row - k
+μ-loop row lent what relation changes₀ k₀ changes k = length row - k
 
 loop-holds : tie.Need-loop-holds Inv-loop μ-loop
 loop-holds c = let s = c .before .before in
-    (omega arith, bytes-start (nodeRelation (s .args .relation)) (accessesAt (s .args .what) (length (s .args .row .now)) (s .args .starts .now)) (s .args .row .now))
+    (omega arith, bytes-start (nodeRelation (s .args .relation)) (accessesAt (s .args .what) (length (s .args .row .now)) (s .args .lent .now)) (s .args .row .now))
 
 shared-slice-read-outcome : tie.Need-shared-slice-read-outcome Inv-loop μ-loop
 shared-slice-read-outcome c = search needs
@@ -49,10 +49,10 @@ returns c = let told = c .before .before .before in
     let found = told .before .access-at in
     let r = nodeRelation (s .args .relation) in
     let row = s .args .row .now in
-    let xs = accessesAt (s .args .what) (length row) (s .args .starts .now) in
+    let xs = accessesAt (s .args .what) (length row) (s .args .lent .now) in
     let k = l .loop .k in
     let decided : o .result ≡ outcomeAt (getD xs k none) r (getD row k 0) =
-    o .ensures ∙ ap (λ (x : Option AccessKind). outcomeAt x r (getD row k 0)) (found .ensures ∙ sym (planned-at (s .args .what) (length row) (s .args .starts .now) k (omega arith))) in
+    o .ensures ∙ ap (λ (x : Option AccessKind). outcomeAt x r (getD row k 0)) (found .ensures ∙ sym (planned-at (s .args .what) (length row) (s .args .lent .now) k (omega arith))) in
     byte-refused r xs row k (omega arith) (o .result) decided (l .loop .changes) (l .loop .inv .1) _ (c .before .n .given .1)
 
 add-k : tie.Need-add-k Inv-loop μ-loop
@@ -68,10 +68,10 @@ loop-again c = let l = c .before .before .before .before .before in
     let found = c .before .before .access-at in
     let r = nodeRelation (s .args .relation) in
     let row = s .args .row .now in
-    let xs = accessesAt (s .args .what) (length row) (s .args .starts .now) in
+    let xs = accessesAt (s .args .what) (length row) (s .args .lent .now) in
     let k = l .loop .k in
     let decided : o .result ≡ outcomeAt (getD xs k none) r (getD row k 0) =
-    o .ensures ∙ ap (λ (x : Option AccessKind). outcomeAt x r (getD row k 0)) (found .ensures ∙ sym (planned-at (s .args .what) (length row) (s .args .starts .now) k (omega arith))) in (
+    o .ensures ∙ ap (λ (x : Option AccessKind). outcomeAt x r (getD row k 0)) (found .ensures ∙ sym (planned-at (s .args .what) (length row) (s .args .lent .now) k (omega arith))) in (
       omega arith,
       ⊎-elim
           (λ w. byte-stays r xs row k (omega arith) (o .result) decided (l .loop .changes) (l .loop .inv .1) _ (w .1 .given .1) (w .2))
@@ -86,8 +86,8 @@ returns-2 : tie.Need-returns-2 Inv-loop μ-loop
 returns-2 c = let l = c .before .before in
     let s = l .before .before .before in
     let row = s .args .row .now in
-    subst⁻¹ (ToldBytes (s .args .what) (s .args .starts .now) (nodeRelation (s .args .relation)) row) (c .unrefused .ensures)
-    (bytes-done (nodeRelation (s .args .relation)) (accessesAt (s .args .what) (length row) (s .args .starts .now)) row (l .loop .k) (l .loop .changes) (omega arith) (l .loop .inv .1))
+    subst⁻¹ (ToldBytes (s .args .what) (s .args .lent .now) (nodeRelation (s .args .relation)) row) (c .unrefused .ensures)
+    (bytes-done (nodeRelation (s .args .relation)) (accessesAt (s .args .what) (length row) (s .args .lent .now)) row (l .loop .k) (l .loop .changes) (omega arith) (l .loop .inv .1))
 
 pub check-bytes-spec : {M : Type 1} → statement M
 check-bytes-spec =

@@ -30,7 +30,7 @@ returns-3 c = let found = c .before .before .before in
     let s = alike .before .before in
     record {
       same = refl;
-      accesses = all-alike (s .args .v .what) (s .args .v .len) (s .args .starts .now) (c .before .kind .given .0 .0) (sym (found .access-at .ensures) ∙ ap maybeAccess (c .before .kind .given .1)) (alike .all-alike .ensures (is-so (alike .all-alike .result) (found .before .if1 .left)));
+      accesses = all-alike (s .args .v .what) (s .args .v .len) (s .args .lent .now) (c .before .kind .given .0 .0) (sym (found .access-at .ensures) ∙ ap maybeAccess (c .before .kind .given .1)) (alike .all-alike .ensures (is-so (alike .all-alike .result) (found .before .if1 .left)));
     }
 
 pub settled-spec : {M : Type 1} → statement M
