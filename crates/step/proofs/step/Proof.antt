@@ -48,7 +48,8 @@ same-length-6 c = search needs
 returns-2 : tie.Need-returns-2
 returns-2 c = let left = c .before .before .before .before .before .before in
     let stepped = left .before .before .before .before .before .before in
-    let rest = stepped .before .before .before .before .before .before .before in
+    let asked = stepped .before in
+    let rest = asked .before .before .before .before .before .before in
     let read = rest .before in
     let known = read .before .before in
     let lent = known .before .before .before in

@@ -50,7 +50,8 @@ same-length-7 c = search needs
 returns-2 : tie.Need-returns-2
 returns-2 c = let left = c .before .before .before .before .before .before in
     let performed = left .before .before .before .before .before .before in
-    let passing = performed .before .before .before .before .before .before .before in
+    let asked = performed .before in
+    let passing = asked .before .before .before .before .before .before in
     let tested = passing .before in
     let known = tested .before .before in
     let lent = known .before .before .before in

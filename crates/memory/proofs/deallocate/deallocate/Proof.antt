@@ -1,11 +1,39 @@
 -- Refused by the record, by the tree, or accepted with the state set: one law for each.
 use native.Mathlib.Omega.{arith}
 use borrow.Author.Needs.{needs}
+use denote.Ref.{now}
+use Rattle.definition.specs.Memory.{Memory}
 use Rattle.tables.proofs.Lookup.{record-in}
+use Rattle.parts.specs.Trees.{HoldsMarked}
 use Rattle.parts.proofs.Lent.{records-of}
+use Rattle.memory.specs.Deallocate.{NodeIn}
 use Rattle.memory.proofs.Deallocation.{node-made, refused-through, prevented-through, accepted-through, missing-through}
 use Rattle.memory.proofs.deallocate.deallocate.Statement.{statement}
 use Rattle.memory.proofs.deallocate.deallocate.Tie as tie
+
+-- ---- states by name: the provenance has an allocation, the tests were made, they were passed, all bytes were written
+abbrev entry-before-of : tie.After-provenance → tie.Start
+entry-before-of c = c .before .before .before .before .before .before
+
+abbrev of-before-tested : tie.After-deallocate-refusal → tie.After-provenance
+of-before-tested c = c .before .before .before
+
+abbrev of-before-passed : tie.Else1 → tie.After-provenance
+of-before-passed c = of-before-tested (c .before)
+
+abbrev entry-before-passed : tie.Else1 → tie.Start
+entry-before-passed c = entry-before-of (of-before-passed c)
+
+abbrev passed-before-written : tie.After-write-all → tie.Else1
+passed-before-written c = c .before .before .before
+
+-- where the tests refuse nothing, the node is in the allocation's tree
+node : (c : tie.Else1) (m : Memory) → let a = entry-before-passed c .args in HoldsMarked m (now (a .allocs)) (now (a .parents)) (now (a .protectors)) (now (a .codes))
+    → let of = of-before-passed c .provenance .given .0 in NodeIn m (of .0) (of .1 .0)
+node c m h =
+    let a = entry-before-passed c .args in
+    let refused = c .before .deallocate-refusal in
+    node-made _ (a .p .addr) (a .kind) (a .len) (a .exponent) m (refused .result) (refused .ensures m (records-of h)) (c .if1 .left)
 
 enum-told : tie.Need-enum-told
 enum-told c = search needs
@@ -21,8 +49,9 @@ same-length c = search needs
 
 returns : tie.Need-returns
 returns c = λ m k h e.
+    let of = of-before-tested (c .before) in
     let refused = c .before .deallocate-refusal in
-    refused-through (c .before .before .before .before .before .before .before .before .before .before .args .p) (c .before .before .before .before .provenance .given .1) k e h (refused .result) (refused .ensures m (records-of h)) (c .if1 .taken)
+    refused-through (entry-before-of of .args .p) (of .provenance .given .1) k e h (refused .result) (refused .ensures m (records-of h)) (c .if1 .taken)
 
 cast-n : tie.Need-cast-n
 cast-n c = search needs
@@ -31,12 +60,7 @@ cast-write-all : tie.Need-cast-write-all
 cast-write-all c = search needs
 
 write-all-requires : tie.Need-write-all-requires
-write-all-requires c κs =
-    let a = c .before .before .before .before .before .before .before .before .before .before .before .before .args in
-    let m = c .before .before .before .before .before .before .before .before .before .before .before .before .pre .0 in
-    let h = c .before .before .before .before .before .before .before .before .before .before .before .before .pre .1 in
-    let refused = c .before .before .before .deallocate-refusal in
-    (m, (h, node-made _ (a .p .addr) (a .kind) (a .len) (a .exponent) m (refused .result) (refused .ensures m (records-of h)) (c .before .before .if1 .left)))
+write-all-requires c κs = let passed = c .before .before in let (m, h) = entry-before-passed passed .pre in (m, (h, node passed m h))
 
 same-length-2 : tie.Need-same-length-2
 same-length-2 c = search needs
@@ -46,11 +70,10 @@ same-length-3 c = search needs
 
 returns-2 : tie.Need-returns-2
 returns-2 c = λ m k h e.
-    let a = c .before .before .before .before .before .before .before .before .before .before .before .before .before .before .before .before .args in
-    let refused = c .before .before .before .before .before .before .before .deallocate-refusal in
-    let r = refused .ensures m (records-of h) in
-    let node = node-made _ (a .p .addr) (a .kind) (a .len) (a .exponent) m (refused .result) r (c .before .before .before .before .before .before .if1 .left) in
-    prevented-through (a .p) (c .before .before .before .before .before .before .before .before .before .before .provenance .given .1) k e h (refused .result) r (c .before .before .before .before .before .before .if1 .left) (c .before .before .before .write-all .ensures m h node) (c .if2 .taken)
+    let written = c .before .before .before in
+    let passed = passed-before-written written in
+    let refused = passed .before .deallocate-refusal in
+    prevented-through (entry-before-passed passed .args .p) (of-before-passed passed .provenance .given .1) k e h (refused .result) (refused .ensures m (records-of h)) (passed .if1 .left) (written .write-all .ensures m h (node passed m h)) (c .if2 .taken)
 
 mul-state : tie.Need-mul-state
 mul-state c = search needs
@@ -60,15 +83,12 @@ mul-allocs c = search needs
 
 slice-write-allocs : tie.Need-slice-write-allocs
 slice-write-allocs c =
-    let a = c .before .before .before .before .before .before .before .before .before .before .before .before .before .before .before .before .args in
-    let m = c .before .before .before .before .before .before .before .before .before .before .before .before .before .before .before .before .pre .0 in
-    let h = c .before .before .before .before .before .before .before .before .before .before .before .before .before .before .before .before .pre .1 in
-    let refused = c .before .before .before .before .before .before .before .deallocate-refusal in
-    let node = node-made _ (a .p .addr) (a .kind) (a .len) (a .exponent) m (refused .result) (refused .ensures m (records-of h)) (c .before .before .before .before .before .before .if1 .left) in
-    omega (arith, record-in (records-of h) _ (node .made))
+    let passed = passed-before-written (c .before .before .before) in
+    let (m, h) = entry-before-passed passed .pre in
+    omega (arith, record-in (records-of h) _ (node passed m h .made))
 
 returns-3 : tie.Need-returns-3
-returns-3 c = λ m k h e. missing-through (c .before .before .before .before .before .before .args .p) (c .enum-told .given .1) k (c .before .before .before .before .before .before .args .len) (c .before .before .before .before .before .before .args .exponent) h
+returns-3 c = λ m k h e. let a = c .before .before .before .before .before .before .args in missing-through (a .p) (c .enum-told .given .1) k (a .len) (a .exponent) h
 
 same-length-4 : tie.Need-same-length-4
 same-length-4 c = search needs
@@ -78,11 +98,10 @@ same-length-5 c = search needs
 
 returns-4 : tie.Need-returns-4
 returns-4 c = λ m k h e.
-    let a = c .before .before .before .before .before .before .before .before .before .before .before .before .before .before .before .before .args in
-    let refused = c .before .before .before .before .before .before .before .deallocate-refusal in
-    let r = refused .ensures m (records-of h) in
-    let node = node-made _ (a .p .addr) (a .kind) (a .len) (a .exponent) m (refused .result) r (c .before .before .before .before .before .before .if1 .left) in
-    accepted-through (a .p) (c .before .before .before .before .before .before .before .before .before .before .provenance .given .1) k e h (refused .result) r (c .before .before .before .before .before .before .if1 .left) (c .before .before .before .write-all .ensures m h node) (c .if2 .left)
+    let written = c .before .before .before in
+    let passed = passed-before-written written in
+    let refused = passed .before .deallocate-refusal in
+    accepted-through (entry-before-passed passed .args .p) (of-before-passed passed .provenance .given .1) k e h (refused .result) (refused .ensures m (records-of h)) (passed .if1 .left) (written .write-all .ensures m h (node passed m h)) (c .if2 .left)
 
 pub deallocate-spec : {M : Type 1} → statement M
 deallocate-spec =

@@ -10,13 +10,17 @@ use Rattle.memory.proofs.OneTree.{deallocate-visited}
 use Rattle.memory.proofs.deallocate.write_all.Statement.{statement}
 use Rattle.memory.proofs.deallocate.write_all.Tie as tie
 
+-- the state at the entry, as it is known behind the parts
+abbrev entry : tie.After-parts-at → tie.Start
+entry c = c .before .before .before .before .before
+
 -- the tree that is lent, for each memory that the tables hold; and for the one that the caller has
-lent : (c : tie.After-parts-at) (m : Memory) → let a = c .before .before .before .before .before .args in HoldsMarked m (now (a .allocs)) (now (a .parents)) (now (a .protectors)) (now (a .codes)) → NodeIn m (a .n) (a .node)
+lent : (c : tie.After-parts-at) (m : Memory) → let a = entry c .args in HoldsMarked m (now (a .allocs)) (now (a .parents)) (now (a .protectors)) (now (a .codes)) → NodeIn m (a .n) (a .node)
     → TreeAt m (a .n) (now (a .parents)) (now (a .codes)) (c .parts-at .result)
 lent c m h k = tree-at (trees-of h) (c .parts-at .ensures m (records-of h) (k .made))
 
-given : (c : tie.After-parts-at) → let t = c .before .before .before .before .before in TreeAt (t .pre .0) (t .args .n) (now (t .args .parents)) (now (t .args .codes)) (c .parts-at .result)
-given c = let (m, (h, k)) = c .before .before .before .before .before .pre in lent c m h k
+given : (c : tie.After-parts-at) → let t = entry c in TreeAt (t .pre .0) (t .args .n) (now (t .args .parents)) (now (t .args .codes)) (c .parts-at .result)
+given c = let (m, (h, k)) = entry c .pre in lent c m h k
 
 parts-at-requires : tie.Need-parts-at-requires
 parts-at-requires c κs = let (m, (h, k)) = c .before .before .before .before .pre in (m, (records-of h, k .made))
@@ -40,7 +44,7 @@ part-deallocate-start-2 : tie.Need-part-deallocate-start-2
 part-deallocate-start-2 c = nodes-ordered (given (c .before))
 
 part-deallocate-end-2 : tie.Need-part-deallocate-end-2
-part-deallocate-end-2 c = protectors-in (given (c .before)) (c .before .before .before .before .before .before .pre .1 .0 .trees .protectors)
+part-deallocate-end-2 c = protectors-in (given (c .before)) (entry (c .before) .pre .1 .0 .trees .protectors)
 
 sub-deallocate-3 : tie.Need-sub-deallocate-3
 sub-deallocate-3 c = omega (arith, codes-ordered (given (c .before .before)))
@@ -53,8 +57,9 @@ part-deallocate-end-3 c = codes-in (given (c .before .before))
 
 deallocate-requires : tie.Need-deallocate-requires
 deallocate-requires c κs =
-    let t = given (c .before .before .before) in
-    let (h, k) = c .before .before .before .before .before .before .before .before .pre .1 in
+    let lies = c .before .before .before in
+    let t = given lies in
+    let (h, k) = entry lies .pre .1 in
     ((_, all-held t (h .trees .protectors)), node-in t (k .inTree))
 
 same-length : tie.Need-same-length
@@ -62,8 +67,9 @@ same-length c = search needs
 
 returns : tie.Need-returns
 returns c = λ m h k.
-    let t = lent (c .before .before .before .before .before .before) m h k in
-    deallocate-visited t (c .before .before .before .before .before .before .before .before .before .before .before .args .node) _ (c .before .before .deallocate .ensures _ (all-held t (h .trees .protectors)))
+    let lies = c .before .before .before .before .before .before in
+    let t = lent lies m h k in
+    deallocate-visited t (entry lies .args .node) _ (c .before .before .deallocate .ensures _ (all-held t (h .trees .protectors)))
 
 pub write-all-spec : {M : Type 1} → statement M
 write-all-spec =

@@ -16,7 +16,7 @@ use Rattle.perform.proofs.in_memory.in_memory.Tie as tie
 
 -- ---- states by name: `g-before-f` is the state behind g, as it is known behind f; the first one is `entry`
 abbrev entry-before-wide : tie.After-wide → tie.Start
-entry-before-wide c = let c1 = c .before .before .before .before .before .before in c1 .before
+entry-before-wide c = let lent = c .before in lent .before .before .before .before .before .before
 
 abbrev entry-before-pointer : tie.After-pointer → tie.Start
 entry-before-pointer c = entry-before-wide (c .before .before .before)
