@@ -1,2 +1,2 @@
--- What the tests ask of the records, and what a leak check answers.
+-- Which record is looked up, what the tests ask of it, and what a leak check answers.
 pub mod Bounds

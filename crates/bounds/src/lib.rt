@@ -1,28 +1,57 @@
 // The tests that change nothing, by their refusals: 4, 7 to 9, 15, 25; and those of tables for 5 (two ranges) and 6.
-// They read the allocations' records alone, and no sum that they take passes 2^64.
+// They read the allocations' records alone, each once, and no sum that they take passes 2^64.
 use answer::Answer;
 use pointer::Provenance;
 use pointer::ThinPointer;
+use tables::Allocation;
 pub use tables::is_misaligned;
 pub use tables::ranges_overlap;
 ghost use mathlib.Core.Path.{_≡_};
 ghost use mathlib.Core.Bool.{not, _&&_};
-ghost use Prim.Native.Nat.{_+_, _^_, _<_};
+ghost use mathlib.Core.List.{List};
+ghost use Prim.Native.Nat.{ℕ, _+_, _^_, _<_};
 ghost use lib.Dec.{leb};
 ghost use lib.ListN.{length};
-ghost use Rattle.definition.specs.Memory.{Memory, namesNeverMade, checkPtr, target, exceedsBounds, allocationAt, isLiveHeap};
+ghost use Rattle.definition.specs.Memory.{Memory, namesNeverMade, checkPtr, exceedsBounds, allocationAt, isLiveHeap};
 ghost use Rattle.definition.specs.Memory as definition;
 ghost use Rattle.pointer.specs.Pointer.{provenanceOf, thinPointerOf, back, ahead};
 ghost use Rattle.answer.specs.Answer.{replyTo};
 ghost use Rattle.answer.specs.Answer.Gives.{Nothing};
 ghost use Rattle.tables.specs.Held.{Records};
-ghost use Rattle.bounds.specs.Bounds.{Points, leakReply};
+ghost use Rattle.bounds.specs.Bounds.{placeOf, targetIn, Points, leakReply};
+
+// ---- one look-up
+// Which record is looked up for a provenance.
+fn place_of(provenance: Provenance) -> usize
+    ensures { λ r. ⌜ r ≡ placeOf (provenanceOf provenance) ⌝ }
+{
+    match provenance {
+        Provenance::None => 0,
+        Provenance::Of {
+            allocation,
+            node: _,
+        } => {
+            if allocation >= 128 {
+                return 0;
+            }
+            allocation as usize
+        }
+    }
+}
+
+// The record of the allocation that a provenance names; where it names none, or a number from 128 on, the first one, which nobody then uses.
+pub fn target_of(allocs: &[u64], provenance: Provenance) -> Allocation
+    requires { ⌜ length (now allocs) ≡ 1152 ⌝ }
+    ensures { λ r. ⌜ r ≡ targetIn (now (allocs .entry)) (provenanceOf provenance) ⌝ }
+{
+    let place = place_of(provenance);
+    tables::allocation_at(allocs, place)
+}
 
 // ---- 4
-// The provenance names an allocation or node never made. Behind the last allocation the records have no nodes.
-pub fn never_made(allocs: &[u64], provenance: Provenance) -> bool
-    requires { ⌜ ((m : Memory) × Records m (now allocs)) ⌝ }
-    ensures { λ r. ⌜ ((m : Memory) → Records m (now (allocs .entry)) → r ≡ namesNeverMade m (provenanceOf provenance)) ⌝ }
+// The provenance, whose target has this record, names an allocation or node never made. Behind the last allocation the records have no nodes.
+pub fn never_made(a: Allocation, provenance: Provenance) -> bool
+    ensures { λ r. ⌜ ((m : Memory) (A : List ℕ) → Records m A → a ≡ targetIn A (provenanceOf provenance) → r ≡ namesNeverMade m (provenanceOf provenance)) ⌝ }
 {
     match provenance {
         Provenance::None => false,
@@ -30,7 +59,6 @@ pub fn never_made(allocs: &[u64], provenance: Provenance) -> bool
             if allocation >= 128 {
                 return true;
             }
-            let a = tables::allocation_at(allocs, allocation as usize);
             let nodes = a.nodes;
             node as usize >= nodes
         }
@@ -56,11 +84,11 @@ fn is_outside(address: u64, size: u64, addr: u64, back: u64, ahead: u64) -> bool
     end - addr < ahead
 }
 
-// Check if the given pointer is dereferenceable for `back` bytes below it and `ahead` bytes from it on. 0 is no refusal.
-pub fn check_ptr(allocs: &[u64], p: ThinPointer, back: u64, ahead: u64) -> u8
-    requires { ⌜ ((m : Memory) × Points m (now allocs) (provenanceOf (p .provenance))) ⌝ }
-    ensures { λ r. ⌜ ((m : Memory) → Points m (now (allocs .entry)) (provenanceOf (p .provenance))
-        → r ≡ checkPtr (target m (thinPointerOf p)) (thinPointerOf p) back ahead) ⌝ }
+// Check if the given pointer, whose target has this record, is dereferenceable for `back` bytes below it and `ahead` bytes from it on. 0 is no refusal.
+pub fn check_ptr(a: Allocation, p: ThinPointer, back: u64, ahead: u64) -> u8
+    requires { ⌜ a .address + a .size < 2 ^ 64 ⌝ }
+    ensures { λ r. ⌜ ((m : Memory) (A : List ℕ) → Points m A (provenanceOf (p .provenance)) → a ≡ targetIn A (provenanceOf (p .provenance))
+        → r ≡ checkPtr (definition.target m (thinPointerOf p)) (thinPointerOf p) back ahead) ⌝ }
 {
     if back == 0 {
         if ahead == 0 {
@@ -71,10 +99,9 @@ pub fn check_ptr(allocs: &[u64], p: ThinPointer, back: u64, ahead: u64) -> u8
     match provenance {
         Provenance::None => 7,
         Provenance::Of {
-            allocation,
+            allocation: _,
             node: _,
         } => {
-            let a = tables::allocation_at(allocs, allocation as usize);
             if a.state != 1 {
                 return 8;
             }
@@ -92,10 +119,11 @@ fn within_reach(allocs: &[u64], p: ThinPointer, back: u64, ahead: u64) -> Answer
     ensures { λ r. ⌜ ((m : Memory) → Records m (now (allocs .entry)) → r ≡ replyTo Nothing (definition.dereferenceable (thinPointerOf p) back ahead m .0)) ⌝ }
 {
     let provenance = p.provenance;
-    if never_made(allocs, provenance) {
+    let a = target_of(allocs, provenance);
+    if never_made(a, provenance) {
         return Answer::Refused(4);
     }
-    answer::refused_with(check_ptr(allocs, p, back, ahead))
+    answer::refused_with(check_ptr(a, p, back, ahead))
 }
 
 // Test whether the given pointer is dereferenceable for the given size.

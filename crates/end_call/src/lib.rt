@@ -57,7 +57,7 @@ fn release_entry(
     let n = e.allocation as usize;
     let node = e.node as usize;
     let a = tables::allocation_at(allocs, n);
-    let t = parts::parts_at(allocs, n);
+    let t = parts::parts_of(a);
     let first = t.nodes.start;
     let behind = t.nodes.end;
     let start = t.codes.start;
@@ -94,7 +94,8 @@ fn any_never_made(allocs: &[u64], list: Entries) -> bool
             allocation: entry.allocation,
             node: entry.node,
         };
-        if bounds::never_made(allocs, provenance) {
+        let a = bounds::target_of(allocs, provenance);
+        if bounds::never_made(a, provenance) {
             return true;
         }
         i += 1;

@@ -36,15 +36,15 @@ use Rattle.tables.specs.declared.Allocation as record-of
 use Rattle.tables.proofs.Lookup.{recordAt, read-starts}
 use Rattle.bounds.proofs.Points.{read-address}
 use Rattle.parts.specs.Trees.{HoldsTrees, afterVisit, TreeVisited}
-use Rattle.memory.specs.Access.{accessOf, loadOf, storeOf, boundsRefusal, Checked, Reached, visitAt, wordsStart, Accessed, wordsGiven, Loaded, Stored}
+use Rattle.memory.specs.Access.{accessOf, loadOf, storeOf, pointerRefusal, Checked, Reached, visitAt, wordsStart, Accessed, wordsGiven, Loaded, Stored}
 use Rattle.memory.proofs.OneTree.{same-parts, focus-load, visited-part}
 
 -- ---- what the tests leave
 module _ (p : ThinPointer) (len exponent : ℕ) (m : Memory) where
-  pub checked : (r : ℕ) → r ≡ boundsRefusal p len exponent m → r ≡ 0 → Checked m p len
-  unfolding boundsRefusal
+  pub checked : (r : ℕ) → r ≡ pointerRefusal p len exponent m → r ≡ 0 → Checked m p len
+  unfolding pointerRefusal
   checked r q z =
-      let e : boundsRefusal p len exponent m ≡ 0 = sym q ∙ z in
+      let e : pointerRefusal p len exponent m ≡ 0 = sym q ∙ z in
       let never = neverMade when namesNeverMade m (p .provenance) in
       let away = misaligned when isMisaligned (p .address) exponent in
       let outside = checkPtr (target m p) p 0 len in
@@ -96,13 +96,13 @@ module _ {m : Memory} {p : ThinPointer} {len : ℕ} (h : Checked m p len) where
 -- ---- the refusal
 module _ (x : MemoryAccess) (m : Memory) where
   abbrev before : ℕ
-  before = boundsRefusal (x .pointer) (x .len) (x .exponent) m
+  before = pointerRefusal (x .pointer) (x .len) (x .exponent) m
 
   abbrev inTree : ℕ
   inTree = visitRefusal (visitOf x (target m (x .pointer))) (target m (x .pointer) .nodes)
 
   refusal-split : accessRefusal x m ≡ (before or (if eqb (x .len) 0 then 0 else inTree))
-  unfolding accessRefusal accessRefusalIn boundsRefusal
+  unfolding accessRefusal accessRefusalIn pointerRefusal
   refusal-split =
       let never = neverMade when namesNeverMade m (x .pointer .provenance) in
       let away = misaligned when isMisaligned (x .pointer .address) (x .exponent) in
@@ -141,12 +141,12 @@ module _ (x : MemoryAccess) (m : Memory) where
   accessed-checked k z = accepted-checked (sym (k .refusal) ∙ z)
 
 module _ (x : MemoryAccess) {m : Memory} {A P C : List ℕ} (h : HoldsTrees m A P C) where
-  pub unvisited-accessed : (r : ℕ) → r ≡ boundsRefusal (x .pointer) (x .len) (x .exponent) m → (r ≡ 0 → x .len ≡ 0) → Accessed x m r C
+  pub unvisited-accessed : (r : ℕ) → r ≡ pointerRefusal (x .pointer) (x .len) (x .exponent) m → (r ≡ 0 → x .len ≡ 0) → Accessed x m r C
   unvisited-accessed r e z =
       let u = unvisited x m r (sym e) z in
       record { refusal = u .0; codes = h .codes ∙ ap (held 32768 codesOf) (sym (u .1)) }
 
-  visited-accessed : {r : ℕ} {C′ : List ℕ} → boundsRefusal (x .pointer) (x .len) (x .exponent) m ≡ 0 → (x .len ≡ 0 → ⊥)
+  visited-accessed : {r : ℕ} {C′ : List ℕ} → pointerRefusal (x .pointer) (x .len) (x .exponent) m ≡ 0 → (x .len ≡ 0 → ⊥)
       → TreeVisited m (allocationOf (x .pointer .provenance)) (visitRefusal (visitOf x (target m (x .pointer))) (target m (x .pointer) .nodes)) (visitOf x (target m (x .pointer))) r C′
       → Accessed x m r C′
   unfolding afterAccessIn codesOf
@@ -226,7 +226,7 @@ module _ (p : code.ThinPointer) {n node : ℕ} (e : p .provenance ≡ Of n node)
   reached-through h = rw e at (reached h z)
 
   pub accessed-through : (kind : AccessKind) (exponent : ℕ) (bytes : List ℕ) {A P C : List ℕ} → HoldsTrees m A P C
-      → (passed : ℕ) → passed ≡ boundsRefusal (thinPointerOf p) len exponent m → passed ≡ 0 → {r : ℕ} {C′ : List ℕ}
+      → (passed : ℕ) → passed ≡ pointerRefusal (thinPointerOf p) len exponent m → passed ≡ 0 → {r : ℕ} {C′ : List ℕ}
       → TreeVisited m n (visitRefusal (visitAt kind m n node (p .addr) len) (allocationAt m n .nodes)) (visitAt kind m n node (p .addr) len) r C′
       → Accessed (accessOf kind (thinPointerOf p) len exponent bytes) m r C′
   accessed-through kind exponent bytes h passed q f t = visited-accessed (accessOf kind (thinPointerOf p) len exponent bytes) h (sym q ∙ f) z (rw e t)

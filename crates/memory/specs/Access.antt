@@ -33,8 +33,8 @@ storeOf p bytes exponent = accessOf Write p (length bytes) exponent bytes
 
 -- ---- before the tree is visited
 -- 4, 6 and 7 to 9
-unfoldable pub boundsRefusal : ThinPointer → ℕ → ℕ → Memory → ℕ
-boundsRefusal p len exponent m =
+unfoldable pub pointerRefusal : ThinPointer → ℕ → ℕ → Memory → ℕ
+pointerRefusal p len exponent m =
     neverMade when namesNeverMade m (p .provenance)
     or misaligned when isMisaligned (p .address) exponent
     or checkPtr (target m p) p 0 len

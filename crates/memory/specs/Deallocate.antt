@@ -16,7 +16,9 @@ use Rattle.answer.specs.Answer.Gives.{Nothing}
 use Rattle.answer.specs.declared.Answer.{Answer}
 use Rattle.tables.specs.Encoding.{stateNumber, codesOf, heldRecords, held}
 use Rattle.tree.specs.Requests.{deallocateRefusal}
-use Rattle.parts.specs.Trees.{TreeVisited}
+use Rattle.tables.specs.declared.Allocation as record-of
+use Rattle.tables.proofs.Lookup.{recordAt}
+use Rattle.parts.specs.Trees.{HoldsMarked, TreeVisited}
 
 -- ---- before the tree is visited
 -- 8 and 10 to 13, by an allocation's record
@@ -36,6 +38,12 @@ refusalThrough t at ofKind len alignment m =
     or recordRefusal (stateNumber (a .state)) (kindNumber (a .kind)) (a .exponent) (a .address) (size a) at ofKind len alignment
 
 -- ---- what it leaves
+-- allocation n's record is a, and the parents, the protectors and the codes are those of m
+pub record FoundMarked (m : Memory) (n : ℕ) (a : record-of.Allocation) (P R C : List ℕ) : Type 0 where
+  pub records : List ℕ
+  pub trees : HoldsMarked m records P R C
+  pub read : a ≡ recordAt records n
+
 -- the node is in allocation n's tree
 pub record NodeIn (m : Memory) (n node : ℕ) : Type 0 where
   pub made : n < length m

@@ -6,35 +6,36 @@ use pointer::ThinPointer;
 use tables::Allocation;
 ghost use mathlib.Core.Path.{_≡_};
 ghost use mathlib.Core.List.{List, _++_};
-ghost use Prim.Native.Nat.{ℕ, _+_, _≤_, _<_};
+ghost use Prim.Native.Nat.{ℕ, _+_, _^_, _≤_, _<_};
 ghost use lib.ListN.{length, drop};
 ghost use lib.Seq.{paste};
 ghost use Rattle.definition.specs.Tree.{visitRefusal};
 ghost use Rattle.definition.specs.Memory.{Memory, allocationAt};
 ghost use Rattle.definition.specs.Memory as definition;
-ghost use Rattle.pointer.specs.Pointer.{thinPointerOf};
+ghost use Rattle.pointer.specs.Pointer.{provenanceOf, thinPointerOf};
 ghost use Rattle.permission.specs.Codes.{accessKind};
 ghost use Rattle.permission.specs.declared.AccessKind.the-variants.{Read, Write};
 ghost use Rattle.tables.specs.Encoding.{wordsOf, held};
 ghost use Rattle.tables.specs.Held.{Records};
+ghost use Rattle.bounds.specs.Bounds.{targetIn};
 ghost use Rattle.parts.specs.Trees.{HoldsTrees, TreeVisited};
 ghost use Rattle.memory.specs.Buffers.{HoldsWords};
-ghost use Rattle.memory.specs.Access.{accessOf, loadOf, storeOf, boundsRefusal, Found, Reached, visitAt, wordsStart, Accessed, Made, Loaded, Stored};
+ghost use Rattle.memory.specs.Access.{accessOf, loadOf, storeOf, pointerRefusal, Found, Reached, visitAt, wordsStart, Accessed, Made, Loaded, Stored};
 
-// 4, 6 and 7 to 9.
-fn bounds_refusal(allocs: &[u64], p: ThinPointer, len: u64, exponent: u64) -> u8
-    requires { ⌜ ((m : Memory) × Records m (now allocs)) ⌝ }
+// 4, 6 and 7 to 9, of a pointer whose target has this record.
+fn pointer_refusal(a: Allocation, p: ThinPointer, len: u64, exponent: u64) -> u8
+    requires { ⌜ a .address + a .size < 2 ^ 64 ⌝ }
     requires { ⌜ exponent < 64 ⌝ }
-    ensures { λ r. ⌜ ((m : Memory) → Records m (now (allocs .entry)) → r ≡ boundsRefusal (thinPointerOf p) len exponent m) ⌝ }
+    ensures { λ r. ⌜ ((m : Memory) (A : List ℕ) → Records m A → a ≡ targetIn A (provenanceOf (p .provenance)) → r ≡ pointerRefusal (thinPointerOf p) len exponent m) ⌝ }
 {
     let provenance = p.provenance;
-    if bounds::never_made(allocs, provenance) {
+    if bounds::never_made(a, provenance) {
         return 4;
     }
     if bounds::is_misaligned(p.addr, exponent) {
         return 6;
     }
-    bounds::check_ptr(allocs, p, 0, len)
+    bounds::check_ptr(a, p, 0, len)
 }
 
 // The access of `len` bytes at an address, through a node of the allocation with this record: its tree is a part of each table.
@@ -95,14 +96,18 @@ fn access(
 {
     let addr = p.addr;
     let provenance = p.provenance;
+    let a = bounds::target_of(allocs, provenance);
     match provenance {
         // no tree to visit
         Provenance::None => {
-            let refusal = bounds_refusal(allocs, p, len, exponent);
+            let refusal = pointer_refusal(a, p, len, exponent);
             Outcome { refusal, start: 0 }
         }
-        Provenance::Of { allocation, node } => {
-            let refused = bounds_refusal(allocs, p, len, exponent);
+        Provenance::Of {
+            allocation: _,
+            node,
+        } => {
+            let refused = pointer_refusal(a, p, len, exponent);
             if refused != 0 {
                 return Outcome {
                     refusal: refused,
@@ -115,7 +120,6 @@ fn access(
                     start: 0,
                 };
             }
-            let a = tables::allocation_at(allocs, allocation as usize);
             let start = a.starts.words + (addr - a.address) as usize;
             let refusal = access_tree(parents, codes, kind, a, node as usize, addr, len as usize);
             Outcome { refusal, start }

@@ -1,11 +1,8 @@
 // One allocation's parts of the buffers: where they lie. specs/Trees.antt says so in the definition's terms, and proofs/ that they hold its tree.
 use tables::Allocation;
 ghost use mathlib.Core.Path.{_≡_};
-ghost use Prim.Native.Nat.{_+_, _*_, _≤_, _<_};
-ghost use lib.ListN.{length};
-ghost use Rattle.definition.specs.Memory.{Memory};
-ghost use Rattle.tables.specs.Held.{Records};
-ghost use Rattle.parts.specs.Trees.{partsIn, PartsOf};
+ghost use Prim.Native.Nat.{_+_, _*_, _≤_};
+ghost use Rattle.parts.specs.Trees.{partsIn};
 
 // From one place on and before another.
 pub struct Span {
@@ -41,12 +38,4 @@ pub fn parts_of(a: Allocation) -> Parts
         },
         width,
     }
-}
-
-pub fn parts_at(allocs: &[u64], n: usize) -> Parts
-    requires { ⌜ ((m : Memory) × (Records m (now allocs) × (n < length m))) ⌝ }
-    ensures { λ r. ⌜ ((m : Memory) → Records m (now (allocs .entry)) → n < length m → PartsOf m n r) ⌝ }
-{
-    let a = tables::allocation_at(allocs, n);
-    parts_of(a)
 }

@@ -21,11 +21,13 @@ use Rattle.pointer.specs.Pointer.{provenanceOf, thinPointerOf}
 use Rattle.pointer.specs.declared.ThinPointer as pointer
 use Rattle.pointer.specs.declared.Provenance.the-variants.{Of}
 use Rattle.tables.specs.declared.Allocation as code
+use Rattle.tables.specs.declared.Starts.{Starts}
 use Rattle.tables.specs.Held.{Records}
 use Rattle.tables.proofs.Lookup.{recordAt}
-use Rattle.bounds.proofs.Points.{read-address, read-size, points-made}
+use Rattle.bounds.proofs.Points.{read-address, read-size, points-made, points-read}
+use Rattle.parts.specs.declared.Parts.{Parts}
 use Rattle.retag.specs.Settings.{placeIn}
-use Rattle.retag.specs.Retag.{boundsRefusal, Fits, Passed}
+use Rattle.retag.specs.Retag.{Located, boundsRefusal, Fits, Passed}
 
 -- a pointer into allocation n, through a node of it
 abbrev pub pointerAt : ℕ → ℕ → ℕ → ThinPointer
@@ -168,6 +170,11 @@ entry-test entered =
     ]
 
 -- ---- of a pointer as the code has it
+-- the record that was looked up is the allocation's own
+pub own : (p : pointer.ThinPointer) {m : Memory} {A : List ℕ} {n node : ℕ} {a : code.Allocation} {used : Starts} {t : Parts} → Records m A → Located m A (provenanceOf (p .provenance)) n a used t
+    → p .provenance ≡ Of n node → a ≡ recordAt A n
+own p r l of = points-read p of (record { records = r; made = l .made }) (l .read)
+
 pub passed-at : (m : Memory) (p : pointer.ThinPointer) {n node : ℕ} → p .provenance ≡ Of n node → (isProtected : Bool) (entered len : ℕ)
     → boundsRefusal isProtected entered len (thinPointerOf p) m ≡ 0 → Passed m n node (p .addr) len
 passed-at m p {n} {node} e isProtected entered len z =

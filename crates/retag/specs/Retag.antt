@@ -21,15 +21,18 @@ use Rattle.answer.specs.Answer.Gives.{ThePointer}
 use Rattle.answer.specs.declared.Answer.{Answer}
 use Rattle.tables.specs.Encoding.{codesOf, held}
 use Rattle.tables.specs.Held.{Used, Trees}
+use Rattle.tables.specs.declared.Allocation as record-of
 use Rattle.tables.specs.declared.Starts.{Starts}
+use Rattle.bounds.specs.Bounds.{targetIn}
 use Rattle.parts.specs.declared.Parts.{Parts}
 use Rattle.parts.specs.Trees.{PartsOf, afterVisit}
 use Rattle.retag.specs.declared.ReborrowSettings as code
 use Rattle.retag.specs.Settings.{insideCodes, placeIn}
 
--- an allocation and node that were made, how much m uses, and where the allocation's parts lie
-pub record Located (m : Memory) (provenance : Option Provenance) (n : ℕ) (u : Starts) (r : Parts) : Type 0 where
+-- an allocation and node that were made, the record that was looked up, how much m uses, and where the allocation's parts lie
+pub record Located (m : Memory) (A : List ℕ) (provenance : Option Provenance) (n : ℕ) (a : record-of.Allocation) (u : Starts) (r : Parts) : Type 0 where
   pub made : namesNeverMade m provenance ≡ false
+  pub read : a ≡ targetIn A provenance
   pub used : Used m (sumOf size m) (u .nodes) (u .codes)
   pub part : PartsOf m n r
 

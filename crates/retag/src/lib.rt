@@ -10,12 +10,13 @@ use permission::Protected;
 use permission::SafePointer;
 use pointer::Provenance;
 use pointer::ThinPointer;
+use tables::Allocation;
 use tables::NodePlace;
 use tables::Starts;
 ghost use mathlib.Core.Path.{_≡_};
 ghost use mathlib.Core.Bool.{_&&_};
 ghost use mathlib.Core.List.{List, _++_, map};
-ghost use Prim.Native.Nat.{ℕ, _+_, _≤_, _<_};
+ghost use Prim.Native.Nat.{ℕ, _+_, _^_, _≤_, _<_};
 ghost use lib.Dec.{eqb, ltb};
 ghost use lib.ListN.{length, take, drop};
 ghost use Rattle.definition.specs.Notation.{sumOf, mutateAt};
@@ -36,7 +37,7 @@ ghost use Rattle.answer.specs.Answer.Gives.{ThePointer};
 ghost use Rattle.permission.specs.Codes.{protector, safePointer};
 ghost use Rattle.tables.specs.Encoding.{protectorNumber};
 ghost use Rattle.tables.specs.Held.{Records, Used, Trees, PlaceFor, withNode};
-ghost use Rattle.bounds.specs.Bounds.{Points};
+ghost use Rattle.bounds.specs.Bounds.{targetIn, Points};
 ghost use Rattle.retag.specs.Settings.{maskOf, settingsOf, chosenCode, codesFor, insideCodes, placeIn, childAt};
 ghost use Rattle.parts.specs.Trees.{HoldsTrees, HoldsMarked, PartsOf, TreeAt, TreeVisited};
 ghost use Rattle.retag.specs.Retag.{Located, boundsRefusal, Reached, afterReads, Fits, Passed, Tested, Added, Asked, Retagged};
@@ -140,27 +141,25 @@ fn exceeds_room(nodes: usize, codes: usize, bytes: usize) -> bool
     32768 - codes < bytes
 }
 
-// 7 to 9, 14 and 15, of a pointer into allocation n, which was made.
+// 7 to 9, 14 and 15, of a pointer whose target was made and has this record.
 fn bounds_refusal(
-    allocs: &[u64],
+    a: Allocation,
     p: ThinPointer,
-    n: usize,
-    node: usize,
     len: usize,
     protected: Protected,
     entries: usize,
     used: Starts,
 ) -> u8
-    requires { ⌜ ((m : Memory) × (Points m (now allocs) (provenanceOf (p .provenance)) × Used m (sumOf size m) (used .nodes) (used .codes))) ⌝ }
-    requires { ⌜ p .provenance ≡ Of n node ⌝ }
-    ensures { λ r. ⌜ ((m : Memory) → Points m (now (allocs .entry)) (provenanceOf (p .provenance)) → Used m (sumOf size m) (used .nodes) (used .codes)
+    requires { ⌜ a .address + a .size < 2 ^ 64 ⌝ }
+    requires { ⌜ ((m : Memory) × (Valid m × Used m (sumOf size m) (used .nodes) (used .codes))) ⌝ }
+    ensures { λ r. ⌜ ((m : Memory) (A : List ℕ) (n node : ℕ) → p .provenance ≡ Of n node → Points m A (provenanceOf (p .provenance))
+        → a ≡ targetIn A (provenanceOf (p .provenance)) → Used m (sumOf size m) (used .nodes) (used .codes)
         → r ≡ boundsRefusal (isYes (protector protected)) entries len (thinPointerOf p) m) ⌝ }
 {
-    let refused = bounds::check_ptr(allocs, p, 0, len as u64);
+    let refused = bounds::check_ptr(a, p, 0, len as u64);
     if refused != 0 {
         return refused;
     }
-    let a = tables::allocation_at(allocs, n);
     if is_below_start(len, p.addr, a.address) {
         return 14;
     }
@@ -200,35 +199,33 @@ fn make_reads(
     )
 }
 
-// All that a retag through a node of allocation n, which was made, is refused for; where it is for nothing, the reads are made.
+// All that a retag through a node of the allocation with this record, which was made, is refused for; where it is for nothing, the reads are made.
 fn retag_refusal(
-    allocs: &[u64],
+    a: Allocation,
     parents: &[u16],
     codes: &mut [u8],
     inside: &[u8],
     settings: ReborrowSettings,
     p: ThinPointer,
-    n: usize,
     node: usize,
     entries: usize,
     used: Starts,
     t: Parts,
 ) -> u8
-    requires { ⌜ ((m : Memory) × (HoldsTrees m (now allocs) (now parents) (now codes) × Located m (provenanceOf (p .provenance)) n used t)) ⌝ }
-    requires { ⌜ p .provenance ≡ Of n node ⌝ }
-    ensures { λ r. ⌜ ((s : State) (frame : ℕ) (mask : FreezeMask) → HoldsTrees (s .memory) (now (allocs .entry)) (now (parents .entry)) (now (codes .entry))
-        → Located (s .memory) (provenanceOf (p .provenance)) n used t
+    requires { ⌜ ((m : Memory) × ((A : List ℕ) × ((n : ℕ) × (HoldsTrees m A (now parents) (now codes) × Located m A (provenanceOf (p .provenance)) n a used t × (p .provenance ≡ Of n node))))) ⌝ }
+    ensures { λ r. ⌜ ((s : State) (frame : ℕ) (mask : FreezeMask) (A : List ℕ) (n : ℕ) → HoldsTrees (s .memory) A (now (parents .entry)) (now (codes .entry))
+        → Located (s .memory) A (provenanceOf (p .provenance)) n a used t → p .provenance ≡ Of n node
         → Asked s frame entries settings mask (now (inside .entry)) → r ≡ reborrowRefusal (settingsOf settings mask) frame (thinPointerOf p) s) ⌝ }
-    ensures { λ r. ⌜ ((m : Memory) → HoldsTrees m (now (allocs .entry)) (now (parents .entry)) (now (codes .entry)) → Located m (provenanceOf (p .provenance)) n used t
+    ensures { λ r. ⌜ ((m : Memory) (A : List ℕ) (n : ℕ) → HoldsTrees m A (now (parents .entry)) (now (codes .entry))
+        → Located m A (provenanceOf (p .provenance)) n a used t → p .provenance ≡ Of n node
         → Tested m n node (p .addr) (now (inside .entry)) r (now (codes .exit))) ⌝ }
 {
     let len = inside.len();
     let protected = settings.protected;
-    let refused = bounds_refusal(allocs, p, n, node, len, protected, entries, used);
+    let refused = bounds_refusal(a, p, len, protected, entries, used);
     if refused != 0 {
         return refused;
     }
-    let a = tables::allocation_at(allocs, n);
     let from = place_in(a.address, p.addr, len);
     make_reads(parents, codes, inside, t, node, from)
 }
@@ -290,7 +287,8 @@ fn node_place(used: Starts, t: Parts) -> NodePlace
     }
 }
 
-// The child, in a memory in which its reads are made; m is the memory before them. Returns its number.
+// The child of a node of allocation n, which has this record, in a memory in which its reads are made; m is the memory before them. Returns its
+// number.
 fn add_child(
     allocs: &mut [u64],
     parents: &mut [u16],
@@ -301,19 +299,19 @@ fn add_child(
     p: ThinPointer,
     n: usize,
     node: usize,
+    a: Allocation,
     used: Starts,
     t: Parts,
 ) -> usize
-    requires { ⌜ ((m : Memory) × (Located m (provenanceOf (p .provenance)) n used t × Passed m n node (p .addr) (length (now inside)) × Valid m
+    requires { ⌜ ((m : Memory) × (Located m (now allocs) (provenanceOf (p .provenance)) n a used t × Passed m n node (p .addr) (length (now inside)) × Valid m
         × HoldsMarked (afterReads m n node (p .addr) (now inside)) (now allocs) (now parents) (now protectors) (now codes))) ⌝ }
     requires { ⌜ p .provenance ≡ Of n node ⌝ }
     requires { ⌜ ((mask : FreezeMask) × (now inside ≡ insideCodes settings mask)) ⌝ }
-    ensures { λ r. ⌜ ((m : Memory) (mask : FreezeMask) → Located m (provenanceOf (p .provenance)) n used t → Passed m n node (p .addr) (length (now (inside .entry))) → Valid m
+    ensures { λ r. ⌜ ((m : Memory) (mask : FreezeMask) → Located m (now (allocs .entry)) (provenanceOf (p .provenance)) n a used t → Passed m n node (p .addr) (length (now (inside .entry))) → Valid m
         → HoldsMarked (afterReads m n node (p .addr) (now (inside .entry))) (now (allocs .entry)) (now (parents .entry)) (now (protectors .entry)) (now (codes .entry))
         → now (inside .entry) ≡ insideCodes settings mask
         → Added (settingsOf settings mask) (thinPointerOf p) m n r (now (allocs .exit)) (now (parents .exit)) (now (protectors .exit)) (now (codes .exit))) ⌝ }
 {
-    let a = tables::allocation_at(allocs, n);
     let child = a.nodes;
     let bytes = a.size;
     let from = place_in(a.address, p.addr, inside.len());
@@ -364,19 +362,19 @@ fn reborrow_inside(
         Provenance::Of { allocation, node } => {
             let n = allocation as usize;
             let parent = node as usize;
-            if bounds::never_made(allocs, provenance) {
+            let a = bounds::target_of(allocs, provenance);
+            if bounds::never_made(a, provenance) {
                 return Answer::Refused(4);
             }
-            let t = parts::parts_at(allocs, n);
+            let t = parts::parts_of(a);
             let used = tables::used_behind(allocs, n);
             let refused = retag_refusal(
-                allocs,
+                a,
                 parents,
                 codes,
                 inside,
                 settings,
                 p,
-                n,
                 parent,
                 entries,
                 used,
@@ -395,6 +393,7 @@ fn reborrow_inside(
                 p,
                 n,
                 parent,
+                a,
                 used,
                 t,
             );
@@ -447,7 +446,8 @@ pub fn retag_without_node(allocs: &[u64], p: ThinPointer) -> Answer
     ensures { λ r. ⌜ ((s : State) → Records (s .memory) (now (allocs .entry)) → r ≡ replyTo ThePointer (retagWithoutNode (thinPointerOf p) s .0)) ⌝ }
 {
     let provenance = p.provenance;
-    if bounds::never_made(allocs, provenance) {
+    let a = bounds::target_of(allocs, provenance);
+    if bounds::never_made(a, provenance) {
         return Answer::Refused(4);
     }
     Answer::Pointer(provenance)

@@ -2,8 +2,7 @@
 use mathlib.Core.Path.{sym}
 use native.Mathlib.Omega.{arith}
 use borrow.Author.Needs.{needs}
-use Rattle.tables.proofs.Lookup.{allocs-length}
-use Rattle.bounds.proofs.Points.{read-never, never-past}
+use Rattle.bounds.proofs.Points.{target-never, never-past}
 use Rattle.bounds.proofs.never_made.Statement.{statement}
 use Rattle.bounds.proofs.never_made.Tie as tie
 
@@ -14,32 +13,17 @@ enum-known-provenance : tie.Need-enum-known-provenance
 enum-known-provenance c = search needs
 
 returns : tie.Need-returns
-returns c = λ m h. rw (c .before .before .provenance .given .1) (sym (never-past h _ _ (omega arith)))
-
-cast-allocation-at : tie.Need-cast-allocation-at
-cast-allocation-at c = search needs
-
-allocation-at-requires : tie.Need-allocation-at-requires
-allocation-at-requires c κs = omega (arith, allocs-length (c .before .before .before .before .before .pre .1))
+returns c = λ m A h q. rw (c .before .before .provenance .given .1) (sym (never-past h _ _ (omega arith)))
 
 cast-result : tie.Need-cast-result
 cast-result c = search needs
 
 returns-2 : tie.Need-returns-2
-returns-2 c = λ m h. rw (c .enum-told .given .1)
+returns-2 c = λ m A h q. rw (c .enum-told .given .1)
 
 returns-3 : tie.Need-returns-3
-returns-3 c = λ m h. rw (c .before .before .before .provenance .given .1) (read-never h _ _ (c .allocation-at .ensures))
+returns-3 c = λ m A h q. let e = c .before .before .provenance .given .1 in rw e (target-never h _ _ (omega arith) (rw e at q))
 
 pub never-made-spec : {M : Type 1} → statement M
 never-made-spec =
-    tie.close
-    (tie.spec
-    enum-told
-    enum-known-provenance
-    returns
-    cast-allocation-at
-    allocation-at-requires
-    cast-result
-    returns-2
-    returns-3)
+    tie.close (tie.spec enum-told enum-known-provenance returns cast-result returns-2 returns-3)

@@ -1,7 +1,7 @@
 -- By cases: no provenance, with or without bytes; never made; refused; a new node.
 use mathlib.Core.Option.{none}
-use mathlib.Core.Path.{_≡_, refl, sym, ap, _∙_}
-use mathlib.Core.Bool.{false}
+use Prim.Native.Nat.{_<_}
+use mathlib.Core.Path.{_≡_, refl, sym, ap, subst, _∙_}
 use native.Mathlib.Omega.{arith}
 use borrow.Author.Needs.{needs}
 use denote.Ref.{now}
@@ -11,10 +11,13 @@ use Rattle.pointer.specs.declared.Provenance.{Provenance}
 use Rattle.pointer.specs.declared.Provenance.the-variants.{None}
 use Rattle.pointer.specs.Pointer.{provenanceOf, thinPointerOf}
 use Rattle.answer.specs.declared.Answer.the-variants.{Refused, Pointer}
-use Rattle.bounds.proofs.Points.{points-made}
+use Rattle.tables.proofs.Lookup.{allocs-length, recordAt, read-nodes, read-codes}
+use Rattle.bounds.specs.Bounds.{targetIn, Points}
+use Rattle.bounds.proofs.Points.{points-made, points-read}
+use Rattle.parts.specs.declared.Parts.{Parts}
 use Rattle.retag.specs.Settings.{settingsOf}
 use Rattle.parts.specs.Trees.{HoldsMarked, PartsOf}
-use Rattle.parts.proofs.Lent.{trees-of}
+use Rattle.parts.proofs.Lent.{trees-of, parts-read}
 use Rattle.parts.proofs.Afterwards.{holds-after}
 use Rattle.retag.specs.Retag.{Located, Passed, readsAt, afterReads}
 use Rattle.retag.proofs.Requests.{nowhere, nowhere-refused, retagged, retagged-refused, retagged-child}
@@ -26,47 +29,56 @@ use Rattle.retag.proofs.reborrow_inside.Statement.{statement}
 use Rattle.retag.proofs.reborrow_inside.Tie as tie
 
 -- ---- states by name: `g-before-f` is the state behind g, as it is known behind f; the first one is `entry`
-abbrev entry-before-never-made : tie.After-never-made → tie.Start
-entry-before-never-made c = let c1 = c .before .before .before .before .before .before in c1 .before .before .before .before
+abbrev entry-before-provenance : tie.After-provenance → tie.Start
+entry-before-provenance c = let lent = c .before in lent .before .before .before .before .before .before
 
-abbrev entry-before-parts-at : tie.After-parts-at → tie.Start
-entry-before-parts-at c = entry-before-never-made (c .before .before .before)
+abbrev provenance-before-target-of : tie.After-target-of → tie.After-provenance
+provenance-before-target-of c = c .before .before .before
 
-abbrev entry-before-used-behind : tie.After-used-behind → tie.Start
-entry-before-used-behind c = entry-before-never-made (c .before .before .before .before .before)
+abbrev target-of-before-never-made : tie.After-never-made → tie.After-target-of
+target-of-before-never-made c = c .before
 
 abbrev provenance-before-never-made : tie.After-never-made → tie.After-provenance
-provenance-before-never-made c = c .before .before .before
+provenance-before-never-made c = provenance-before-target-of (target-of-before-never-made c)
+
+abbrev entry-before-never-made : tie.After-never-made → tie.Start
+entry-before-never-made c = entry-before-provenance (provenance-before-never-made c)
+
+abbrev never-made-before-parts-of : tie.After-parts-of → tie.After-never-made
+never-made-before-parts-of c = c .before .before
+
+abbrev parts-of-before-used-behind : tie.After-used-behind → tie.After-parts-of
+parts-of-before-used-behind c = c .before .before
+
+abbrev never-made-before-used-behind : tie.After-used-behind → tie.After-never-made
+never-made-before-used-behind c = never-made-before-parts-of (parts-of-before-used-behind c)
+
+abbrev entry-before-used-behind : tie.After-used-behind → tie.Start
+entry-before-used-behind c = entry-before-never-made (never-made-before-used-behind c)
 
 abbrev provenance-before-used-behind : tie.After-used-behind → tie.After-provenance
-provenance-before-used-behind c = provenance-before-never-made (c .before .before .before .before .before)
+provenance-before-used-behind c = provenance-before-never-made (never-made-before-used-behind c)
 
 abbrev entry-before-retag-refusal : tie.After-retag-refusal → tie.Start
-entry-before-retag-refusal c = entry-before-parts-at (c .before .before .before .before .before .before)
+entry-before-retag-refusal c = entry-before-used-behind (c .before .before .before)
 
 abbrev entry-before-else3 : tie.Else3 → tie.Start
 entry-before-else3 c = entry-before-retag-refusal (c .before .before .before)
 
-abbrev provenance-before-parts-at : tie.After-parts-at → tie.After-provenance
-provenance-before-parts-at c = c .before .before .before .before .before .before
-
 abbrev provenance-before-retag-refusal : tie.After-retag-refusal → tie.After-provenance
-provenance-before-retag-refusal c = provenance-before-parts-at (c .before .before .before .before .before .before)
+provenance-before-retag-refusal c = provenance-before-used-behind (c .before .before .before)
 
 abbrev provenance-before-else3 : tie.Else3 → tie.After-provenance
 provenance-before-else3 c = provenance-before-retag-refusal (c .before .before .before)
 
 abbrev used-behind-before-retag-refusal : tie.After-retag-refusal → tie.After-used-behind
-used-behind-before-retag-refusal c = c .before .before .before .before
+used-behind-before-retag-refusal c = c .before .before .before
 
 abbrev used-behind-before-else3 : tie.Else3 → tie.After-used-behind
 used-behind-before-else3 c = used-behind-before-retag-refusal (c .before .before .before)
 
 abbrev entry-before-then1 : tie.Then1 → tie.Start
 entry-before-then1 c = let c1 = c .before .before .before .before .before .before in c1 .before .before
-
-abbrev entry-before-never-made-arg : tie.After-never-made-arg → tie.Start
-entry-before-never-made-arg c = let c1 = c .before .before .before .before .before .before in c1 .before .before .before
 
 abbrev entry-before-then2 : tie.Then2 → tie.Start
 entry-before-then2 c = entry-before-never-made (c .before)
@@ -122,26 +134,45 @@ retag-refusal-before-add-child c = retag-refusal-before-else3 (c .before .before
 abbrev retag-refusal-before-slice-known9 : tie.After-slice-known9 → tie.After-retag-refusal
 retag-refusal-before-slice-known9 c = let c1 = c .before .before .before .before .before .before in retag-refusal-before-add-child (c1 .before .before)
 
--- where the tree lies
-part : (c : tie.After-parts-at) → let t = entry-before-parts-at c in (m : Memory) → HoldsMarked m (now (t .args .allocs)) (now (t .args .parents)) (now (t .args .protectors)) (now (t .args .codes))
-    → (namesNeverMade m (provenanceOf (t .args .p .provenance)) ≡ false) × PartsOf m (c .before .before .before .before .before .before .provenance .given .0 .0) (c .parts-at .result)
-part c m h =
-    let t = entry-before-parts-at c in
+-- 4 was passed, and so the record that was looked up is the allocation's own
+known : (c : tie.Else2) → let t = entry-before-else2 c in (m : Memory) → HoldsMarked m (now (t .args .allocs)) (now (t .args .parents)) (now (t .args .protectors)) (now (t .args .codes))
+    → Points m (now (t .args .allocs)) (provenanceOf (t .args .p .provenance))
+known c m h =
     let r = trees-of h .records in
-    let known = ap (λ (q : Provenance). namesNeverMade m (provenanceOf q)) (c .before .before .before .before .before .before .provenance .given .1) ∙ sym (c .before .before .before .never-made .ensures m r) ∙ c .before .before .if2 .left in
-    (known, c .parts-at .ensures m r (points-made (t .args .p) (c .before .before .before .before .before .before .provenance .given .1) (record { records = r; made = known })))
+    let made = c .before .never-made .ensures m _ r (target-of-before-never-made (c .before) .target-of .ensures) in
+    record { records = r; made = ap (λ (q : Provenance). namesNeverMade m (provenanceOf q)) (provenance-before-never-made (c .before) .provenance .given .1) ∙ sym made ∙ c .if2 .left }
 
--- and how much is used
+found : (c : tie.Else2) → let t = entry-before-else2 c in target-of-before-never-made (c .before) .target-of .result ≡ targetIn (now (t .args .allocs)) (provenanceOf (t .args .p .provenance))
+found c =
+    let t = entry-before-else2 c in
+    target-of-before-never-made (c .before) .target-of .ensures ∙ ap (λ (q : Provenance). targetIn (now (t .args .allocs)) (provenanceOf q)) (sym (provenance-before-never-made (c .before) .provenance .given .1))
+
+own-record : (c : tie.Else2) → let t = entry-before-else2 c in (m : Memory) → HoldsMarked m (now (t .args .allocs)) (now (t .args .parents)) (now (t .args .protectors)) (now (t .args .codes))
+    → target-of-before-never-made (c .before) .target-of .result ≡ recordAt (now (t .args .allocs)) (provenance-before-never-made (c .before) .provenance .given .0 .0)
+own-record c m h = points-read (entry-before-else2 c .args .p) (provenance-before-never-made (c .before) .provenance .given .1) (known c m h) (found c)
+
+made : (c : tie.Else2) → let t = entry-before-else2 c in (m : Memory) → HoldsMarked m (now (t .args .allocs)) (now (t .args .parents)) (now (t .args .protectors)) (now (t .args .codes))
+    → provenance-before-never-made (c .before) .provenance .given .0 .0 < length m
+made c m h = points-made (entry-before-else2 c .args .p) (provenance-before-never-made (c .before) .provenance .given .1) (known c m h)
+
+-- where the tree lies, and how much is used
 located : (c : tie.After-used-behind) → let t = entry-before-used-behind c in (m : Memory) → HoldsMarked m (now (t .args .allocs)) (now (t .args .parents)) (now (t .args .protectors)) (now (t .args .codes))
-    → Located m (provenanceOf (t .args .p .provenance)) (provenance-before-used-behind c .provenance .given .0 .0) (c .used-behind .result) (c .before .before .parts-at .result)
+    → Located m (now (t .args .allocs)) (provenanceOf (t .args .p .provenance)) (provenance-before-used-behind c .provenance .given .0 .0) (target-of-before-never-made (never-made-before-used-behind c) .target-of .result) (c .used-behind .result) (parts-of-before-used-behind c .parts-of .result)
 located c m h =
-    let (known, lies) = part (c .before .before) m h in
-    let u = c .used-behind .ensures m (trees-of h .records) in
-    record { made = known; used = record { words = refl; nodes = u .nodes; codes = u .codes }; part = lies }
+    let parts = parts-of-before-used-behind c in
+    let passed = parts .before in
+    let r = trees-of h .records in
+    let u = c .used-behind .ensures m r in
+    record {
+      made = known passed m h .made;
+      read = found passed;
+      used = record { words = refl; nodes = u .nodes; codes = u .codes };
+      part = subst (λ (t : Parts). PartsOf m (provenance-before-used-behind c .provenance .given .0 .0) t) (sym (parts .parts-of .ensures)) (parts-read r (made passed m h) (own-record passed m h));
+    }
 
 -- where nothing is refused: there is a place for the child, and the buffers hold the memory in which the reads are made
 passed : (c : tie.Else3) → let t = entry-before-else3 c in (m : Memory) → HoldsMarked m (now (t .args .allocs)) (now (t .args .parents)) (now (t .args .protectors)) (now (t .args .codes)) → Passed m (provenance-before-else3 c .provenance .given .0 .0) (provenance-before-else3 c .provenance .given .0 .1 .0) (t .args .p .addr) (length (now (t .args .inside)))
-passed c m h = c .before .before .before .retag-refusal .ensures .1 m (trees-of h) (located (used-behind-before-else3 c) m h) .passed (c .if3 .left)
+passed c m h = c .before .before .before .retag-refusal .ensures .1 m _ _ (trees-of h) (located (used-behind-before-else3 c) m h) (provenance-before-else3 c .provenance .given .1) .passed (c .if3 .left)
 
 read : (c : tie.Else3) → let t = entry-before-else3 c in (m : Memory) → HoldsMarked m (now (t .args .allocs)) (now (t .args .parents)) (now (t .args .protectors)) (now (t .args .codes))
     → HoldsMarked (afterReads m (provenance-before-else3 c .provenance .given .0 .0) (provenance-before-else3 c .provenance .given .0 .1 .0) (t .args .p .addr) (now (t .args .inside))) (now (t .args .allocs)) (now (t .args .parents)) (now (t .args .protectors)) (c .before .before .before .retag-refusal .last .1 .1 .0)
@@ -149,7 +180,7 @@ read c m h =
     let t = entry-before-else3 c in
     let of = provenance-before-else3 c .provenance .given .0 in
     holds-after (readsAt m (of .0) (of .1 .0) (t .args .p .addr) (now (t .args .inside))) m (of .0) (passed c m h .fits .reached .made) h
-    (tested-made (now (t .args .inside)) (c .before .before .before .retag-refusal .ensures .1 m (trees-of h) (located (used-behind-before-else3 c) m h)) (c .if3 .left))
+    (tested-made (now (t .args .inside)) (c .before .before .before .retag-refusal .ensures .1 m _ _ (trees-of h) (located (used-behind-before-else3 c) m h) (provenance-before-else3 c .provenance .given .1)) (c .if3 .left))
 
 enum-told : tie.Need-enum-told
 enum-told c = search needs
@@ -171,8 +202,11 @@ cast-n c = search needs
 cast-parent : tie.Need-cast-parent
 cast-parent c = search needs
 
+target-of-requires : tie.Need-target-of-requires
+target-of-requires c κs = allocs-length (trees-of (entry-before-provenance (c .before .before) .pre .0 .1) .records)
+
 never-made-requires : tie.Need-never-made-requires
-never-made-requires c κs = let t = entry-before-never-made-arg c in (t .pre .0 .0, trees-of (t .pre .0 .1) .records)
+never-made-requires c κs = search needs
 
 same-length : tie.Need-same-length
 same-length c = search needs
@@ -180,22 +214,24 @@ same-length c = search needs
 returns-2 : tie.Need-returns-2
 returns-2 c = λ s frame mask h a.
     let t = entry-before-then2 c in
-    let unmade = first-4 _ _ _ (thinPointerOf (t .args .p)) (s .memory) (ap (λ (q : Provenance). namesNeverMade (s .memory) (provenanceOf q)) (c .before .before .before .before .provenance .given .1) ∙ sym (c .before .never-made .ensures (s .memory) (trees-of h .records)) ∙ c .if2 .taken) in
-    retagged-refused (settingsOf (t .args .settings) mask) frame (t .args .p) (c .before .before .before .before .provenance .given .1) s _
+    let unmade = first-4 _ _ _ (thinPointerOf (t .args .p)) (s .memory) (ap (λ (q : Provenance). namesNeverMade (s .memory) (provenanceOf q)) (provenance-before-never-made (c .before) .provenance .given .1) ∙ sym (c .before .never-made .ensures (s .memory) _ (trees-of h .records) (target-of-before-never-made (c .before) .target-of .ensures)) ∙ c .if2 .taken) in
+    retagged-refused (settingsOf (t .args .settings) mask) frame (t .args .p) (provenance-before-never-made (c .before) .provenance .given .1) s _
     (refused-by-tests (t .args .settings) mask frame (t .args .entries) s a (t .args .p) _ unmade (λ z. omega (arith, z))) (λ z. omega (arith, z)) (h .trees)
 
-parts-at-requires : tie.Need-parts-at-requires
-parts-at-requires c κs =
-    let t = entry-before-else2 (c .before) in
-    let r = trees-of (t .pre .0 .1) .records in
-    let known = ap (λ (q : Provenance). namesNeverMade (t .pre .0 .0) (provenanceOf q)) (c .before .before .before .before .before .provenance .given .1) ∙ sym (c .before .before .never-made .ensures (t .pre .0 .0) r) ∙ c .before .if2 .left in
-    (t .pre .0 .0, (r, points-made (t .args .p) (c .before .before .before .before .before .provenance .given .1) (record { records = r; made = known })))
+parts-of-requires : tie.Need-parts-of-requires
+parts-of-requires c κs =
+    let (m, h) = entry-before-else2 c .pre .0 in
+    let r = trees-of h .records in
+    (read-nodes r (made c m h) (own-record c m h), read-codes r (made c m h) (own-record c m h))
 
 used-behind-requires : tie.Need-used-behind-requires
-used-behind-requires c κs = let (m, h) = entry-before-parts-at (c .before) .pre .0 in (m, (trees-of h .records, part (c .before) m h .1 .made))
+used-behind-requires c κs = let passed = c .before .before in let (m, h) = entry-before-else2 passed .pre .0 in (m, (trees-of h .records, made passed m h))
 
 retag-refusal-requires : tie.Need-retag-refusal-requires
-retag-refusal-requires c κs = let (m, h) = entry-before-used-behind (c .before .before .before) .pre .0 in ((m, (trees-of h, located (c .before .before .before) m h)), provenance-before-used-behind (c .before .before .before) .provenance .given .1)
+retag-refusal-requires c κs =
+    let used = c .before .before in
+    let (m, h) = entry-before-used-behind used .pre .0 in
+    (m, (_, (_, (trees-of h, located used m h, provenance-before-used-behind used .provenance .given .1))))
 
 same-length-2 : tie.Need-same-length-2
 same-length-2 c = search needs
@@ -211,19 +247,19 @@ returns-3 c = λ s frame mask h a.
     let t = entry-before-then3 c in
     let l = located (used-behind-before-then3 c) (s .memory) h in
     retagged-refused (settingsOf (t .args .settings) mask) frame (t .args .p) (provenance-before-then3 c .provenance .given .1) s _
-    (c .before .before .before .retag-refusal .ensures .0 s frame mask (trees-of h) l a) (c .if3 .taken)
+    (c .before .before .before .retag-refusal .ensures .0 s frame mask _ _ (trees-of h) l (provenance-before-then3 c .provenance .given .1) a) (c .if3 .taken)
     (record {
       allocs = h .trees .allocs;
       parents = h .trees .parents;
       protectors = h .trees .protectors;
-      codes = tested-kept (now (t .args .inside)) (c .before .before .before .retag-refusal .ensures .1 (s .memory) (trees-of h) l) (c .if3 .taken);
+      codes = tested-kept (now (t .args .inside)) (c .before .before .before .retag-refusal .ensures .1 (s .memory) _ _ (trees-of h) l (provenance-before-then3 c .provenance .given .1)) (c .if3 .taken);
     })
 
 add-child-requires : tie.Need-add-child-requires
 add-child-requires c κs = let t = entry-before-else3 (c .before .before .before .before) in let (m, h) = t .pre .0 in ((m, (located (used-behind-before-else3 (c .before .before .before .before)) m h, passed (c .before .before .before .before) m h, h .valid, read (c .before .before .before .before) m h)), (provenance-before-else3 (c .before .before .before .before) .provenance .given .1, t .pre .1))
 
-cast-t44 : tie.Need-cast-t44
-cast-t44 c =
+cast-t41 : tie.Need-cast-t41
+cast-t41 c =
     let t = entry-before-slice-known9 c in
     let (m, h) = t .pre .0 in
     let k = passed (else3-before-slice-known9 c) m h in
@@ -254,7 +290,7 @@ returns-5 c = λ s frame mask h a.
     let t = entry-before-slice-known9 c in
     let m = s .memory in
     let l = located (used-behind-before-slice-known9 c) m h in
-    retagged-child (settingsOf (t .args .settings) mask) frame (t .args .p) (provenance-before-slice-known9 c .provenance .given .1) s (sym (retag-refusal-before-slice-known9 c .retag-refusal .ensures .0 s frame mask (trees-of h) l a) ∙ else3-before-slice-known9 c .if3 .left)
+    retagged-child (settingsOf (t .args .settings) mask) frame (t .args .p) (provenance-before-slice-known9 c .provenance .given .1) s (sym (retag-refusal-before-slice-known9 c .retag-refusal .ensures .0 s frame mask _ _ (trees-of h) l (provenance-before-slice-known9 c .provenance .given .1) a) ∙ else3-before-slice-known9 c .if3 .left)
     (add-child-before-slice-known9 c .add-child .ensures m mask l (passed (else3-before-slice-known9 c) m h) (h .valid) (read (else3-before-slice-known9 c) m h) (a .inside))
 
 pub reborrow-inside-spec : {M : Type 1} → statement M
@@ -266,10 +302,11 @@ reborrow-inside-spec =
     enum-known-provenance
     cast-n
     cast-parent
+    target-of-requires
     never-made-requires
     same-length
     returns-2
-    parts-at-requires
+    parts-of-requires
     used-behind-requires
     retag-refusal-requires
     same-length-2
@@ -277,7 +314,7 @@ reborrow-inside-spec =
     same-length-4
     returns-3
     add-child-requires
-    cast-t44
+    cast-t41
     returns-4
     same-length-5
     same-length-6

@@ -1,5 +1,6 @@
 -- The tests, or, where they refuse nothing, the reads through the parent, which are made.
 use Prim.Native.Nat.{ℕ}
+use mathlib.Core.List.{List}
 use mathlib.Core.Path.{_≡_, sym, ap, _∙_}
 use native.Mathlib.Omega.{arith}
 use borrow.Author.Needs.{needs}
@@ -8,93 +9,95 @@ use lib.ListN.{length}
 use Rattle.definition.specs.Memory.{Memory, allocationAt}
 use Rattle.definition.specs.Permission.{isYes}
 use Rattle.permission.specs.Codes.{protector}
-use Rattle.pointer.specs.Pointer.{provenanceOf}
-use Rattle.tables.proofs.Lookup.{record-in}
-use Rattle.bounds.proofs.Points.{read-address}
+use Rattle.pointer.specs.declared.Provenance.the-variants.{Of}
+use Rattle.pointer.specs.Pointer.{provenanceOf, thinPointerOf}
+use Rattle.bounds.proofs.Points.{read-address, target-space}
 use Rattle.parts.specs.Trees.{HoldsTrees}
 use Rattle.parts.proofs.Lent.{tree-at}
-use Rattle.retag.specs.Retag.{Located, Passed}
+use Rattle.retag.specs.Retag.{Located, boundsRefusal, Passed}
 use Rattle.retag.specs.Settings.{placeIn}
 use Rattle.retag.proofs.Children.{tested-refused, tested-read, refused-by-tests, refused-by-reads}
-use Rattle.retag.proofs.Tests.{passed-at, fits-at}
+use Rattle.retag.proofs.Tests.{own, passed-at, fits-at}
 use Rattle.retag.proofs.retag_refusal.Statement.{statement}
 use Rattle.retag.proofs.retag_refusal.Tie as tie
 
--- ---- states by name: `g-before-f` is the state behind g, as it is known behind f; the first one is `entry`
+-- ---- states by name: the tests were made, they were passed, the place is known, the reads are made; the first one is `entry`
 abbrev entry-before-bounds-refusal : tie.After-bounds-refusal → tie.Start
-entry-before-bounds-refusal c = c .before .before .before .before .before
+entry-before-bounds-refusal c = c .before .before .before .before
+
+abbrev entry-before-passed : tie.Else1 → tie.Start
+entry-before-passed c = entry-before-bounds-refusal (c .before)
+
+abbrev passed-before-place-in : tie.After-place-in → tie.Else1
+passed-before-place-in c = c .before
 
 abbrev entry-before-place-in : tie.After-place-in → tie.Start
-entry-before-place-in c = entry-before-bounds-refusal (c .before .before .before)
+entry-before-place-in c = entry-before-passed (passed-before-place-in c)
 
-abbrev entry-before-allocation-at : tie.After-allocation-at → tie.Start
-entry-before-allocation-at c = entry-before-bounds-refusal (c .before .before)
+abbrev place-in-before-make-reads : tie.After-make-reads → tie.After-place-in
+place-in-before-make-reads c = c .before .before
 
-abbrev entry-before-make-reads : tie.After-make-reads → tie.Start
-entry-before-make-reads c = entry-before-bounds-refusal (c .before .before .before .before .before)
+-- what the tests refuse, and that they refuse nothing
+tested : (c : tie.After-bounds-refusal) → let a = entry-before-bounds-refusal c .args in (m : Memory) (A : List ℕ) (n : ℕ) → HoldsTrees m A (now (a .parents)) (now (a .codes))
+    → Located m A (provenanceOf (a .p .provenance)) n (a .a) (a .used) (a .t) → a .p .provenance ≡ Of n (a .node)
+    → c .bounds-refusal .result ≡ boundsRefusal (isYes (protector (a .settings .protected))) (a .entries) (length (now (a .inside))) (thinPointerOf (a .p)) m
+tested c m A n h l of = c .bounds-refusal .ensures m A n _ of (record { records = h .records; made = l .made }) (l .read) (l .used)
 
-abbrev bounds-refusal-before-make-reads : tie.After-make-reads → tie.After-bounds-refusal
-bounds-refusal-before-make-reads c = c .before .before .before .before .before
-
--- the tests refuse nothing
-tests-passed : (c : tie.Else1) → let a = c .before .before .before .before .before .before .args in (m : Memory) → HoldsTrees m (now (a .allocs)) (now (a .parents)) (now (a .codes))
-    → Located m (provenanceOf (a .p .provenance)) (a .n) (a .used) (a .t) → Passed m (a .n) (a .node) (a .p .addr) (length (now (a .inside)))
-tests-passed c m h l =
-    let t = c .before .before .before .before .before .before in
-    passed-at m (t .args .p) (t .pre .1) (isYes (protector (t .args .settings .protected))) (t .args .entries) (length (now (t .args .inside)))
-    (sym (c .before .bounds-refusal .ensures m (record { records = h .records; made = l .made }) (l .used)) ∙ c .if1 .left)
+tests-passed : (c : tie.Else1) → let a = entry-before-passed c .args in (m : Memory) (A : List ℕ) (n : ℕ) → HoldsTrees m A (now (a .parents)) (now (a .codes))
+    → Located m A (provenanceOf (a .p .provenance)) n (a .a) (a .used) (a .t) → a .p .provenance ≡ Of n (a .node) → Passed m n (a .node) (a .p .addr) (length (now (a .inside)))
+tests-passed c m A n h l of =
+    let a = entry-before-passed c .args in
+    passed-at m (a .p) of (isYes (protector (a .settings .protected))) (a .entries) (length (now (a .inside))) (sym (tested (c .before) m A n h l of) ∙ c .if1 .left)
 
 -- where the bytes start
-place : (c : tie.After-place-in) → let a = entry-before-place-in c .args in (m : Memory) → HoldsTrees m (now (a .allocs)) (now (a .parents)) (now (a .codes))
-    → Located m (provenanceOf (a .p .provenance)) (a .n) (a .used) (a .t)
-    → c .place-in .result ≡ placeIn (allocationAt m (a .n) .address) (a .p .addr) (length (now (a .inside)))
-place c m h l =
+place : (c : tie.After-place-in) → let a = entry-before-place-in c .args in (m : Memory) (A : List ℕ) (n : ℕ) → HoldsTrees m A (now (a .parents)) (now (a .codes))
+    → Located m A (provenanceOf (a .p .provenance)) n (a .a) (a .used) (a .t) → a .p .provenance ≡ Of n (a .node)
+    → c .place-in .result ≡ placeIn (allocationAt m n .address) (a .p .addr) (length (now (a .inside)))
+place c m A n h l of =
     let a = entry-before-place-in c .args in
     c .place-in .ensures
-    ∙ ap (λ (k : ℕ). placeIn k (a .p .addr) (length (now (a .inside)))) (read-address (h .records) (tests-passed (c .before .before) m h l .fits .reached .made) (c .before .allocation-at .ensures))
+    ∙ ap (λ (k : ℕ). placeIn k (a .p .addr) (length (now (a .inside)))) (read-address (h .records) (tests-passed (passed-before-place-in c) m A n h l of .fits .reached .made) (own (a .p) (h .records) l of))
 
 bounds-refusal-requires : tie.Need-bounds-refusal-requires
-bounds-refusal-requires c κs = let t = c .before .before .before .before in let (m, (h, l)) = t .pre .0 in ((m, (record { records = h .records; made = l .made }, l .used)), t .pre .1)
+bounds-refusal-requires c κs = let (m, (A, (n, (h, l, of)))) = c .before .before .before .pre in (target-space (h .records) _ (l .read), (m, (h .records .valid, l .used)))
 
 returns : tie.Need-returns
 returns c =
-    let t = c .before .before .before .before .before .before in (
-      λ s frame mask h l a.
-          refused-by-tests (t .args .settings) mask frame (t .args .entries) s a (t .args .p) _ (c .before .bounds-refusal .ensures (s .memory) (record { records = h .records; made = l .made }) (l .used)) (c .if1 .taken),
-      λ m h l. tested-refused (now (t .args .inside)) (c .if1 .taken) (h .codes),
+    let a = entry-before-bounds-refusal (c .before) .args in (
+      λ s frame mask A n h l of asked. refused-by-tests (a .settings) mask frame (a .entries) s asked (a .p) _ (tested (c .before) (s .memory) A n h l of) (c .if1 .taken),
+      λ m A n h l of. tested-refused (now (a .inside)) (c .if1 .taken) (h .codes),
     )
-
-allocation-at-requires : tie.Need-allocation-at-requires
-allocation-at-requires c κs = let (m, (h, l)) = c .before .before .before .before .before .before .pre .0 in record-in (h .records) _ (tests-passed c m h l .fits .reached .made)
 
 place-in-requires : tie.Need-place-in-requires
 place-in-requires c κs =
-    let (m, (h, l)) = entry-before-allocation-at c .pre .0 in
-    let passed = tests-passed (c .before) m h l in
-    λ long. omega (arith, read-address (h .records) (passed .fits .reached .made) (c .allocation-at .ensures), passed .above long)
+    let s = entry-before-passed c in
+    let (m, (A, (n, (h, l, of)))) = s .pre in
+    let passed = tests-passed c m A n h l of in
+    λ long. omega (arith, read-address (h .records) (passed .fits .reached .made) (own (s .args .p) (h .records) l of), passed .above long)
 
 make-reads-requires : tie.Need-make-reads-requires
 make-reads-requires c κs =
-    let t = entry-before-place-in (c .before) in
-    let (m, (h, l)) = t .pre .0 in
-    (m, (t .args .n, (tree-at h (l .part), fits-at (tests-passed (c .before .before .before) m h l) (place (c .before) m h l) .reached)))
+    let placed = c .before in
+    let (m, (A, (n, (h, l, of)))) = entry-before-place-in placed .pre in
+    (m, (n, (tree-at h (l .part), fits-at (tests-passed (passed-before-place-in placed) m A n h l of) (place placed m A n h l of) .reached)))
 
 same-length : tie.Need-same-length
 same-length c = search needs
 
 returns-2 : tie.Need-returns-2
 returns-2 c =
-    let t = entry-before-make-reads (c .before .before) in
-    let reads = c .before .before .make-reads in (
-      λ s frame mask h l a.
-          let at = place (c .before .before .before .before) (s .memory) h l in
-          reads .ensures (s .memory) (t .args .n) (tree-at h (l .part)) (fits-at (tests-passed (c .before .before .before .before .before .before) (s .memory) h l) at .reached) .refusal
-          ∙ refused-by-reads (t .args .settings) mask frame (t .args .entries) s a (t .args .p) (t .pre .1) (h .records .valid)
-          (sym (bounds-refusal-before-make-reads (c .before .before) .bounds-refusal .ensures (s .memory) (record { records = h .records; made = l .made }) (l .used)) ∙ c .before .before .before .before .before .before .if1 .left) at,
-      λ m h l.
-          let at = place (c .before .before .before .before) m h l in
-          let passed = tests-passed (c .before .before .before .before .before .before) m h l in
-          tested-read (now (t .args .inside)) passed at (reads .ensures m (t .args .n) (tree-at h (l .part)) (fits-at passed at .reached)),
+    let reads = c .before .before .make-reads in
+    let placed = place-in-before-make-reads (c .before .before) in
+    let passed = passed-before-place-in placed in
+    let t = entry-before-passed passed in (
+      λ s frame mask A n h l of a.
+          let at = place placed (s .memory) A n h l of in
+          reads .ensures (s .memory) n (tree-at h (l .part)) (fits-at (tests-passed passed (s .memory) A n h l of) at .reached) .refusal
+          ∙ refused-by-reads (t .args .settings) mask frame (t .args .entries) s a (t .args .p) of (h .records .valid) (sym (tested (passed .before) (s .memory) A n h l of) ∙ passed .if1 .left) at,
+      λ m A n h l of.
+          let at = place placed m A n h l of in
+          let fits = tests-passed passed m A n h l of in
+          tested-read (now (t .args .inside)) fits at (reads .ensures m n (tree-at h (l .part)) (fits-at fits at .reached)),
     )
 
 pub retag-refusal-spec : {M : Type 1} → statement M
@@ -103,7 +106,6 @@ retag-refusal-spec =
     (tie.spec
     bounds-refusal-requires
     returns
-    allocation-at-requires
     place-in-requires
     make-reads-requires
     same-length

@@ -1,29 +1,35 @@
 -- The allocation's parts hold its tree (`all-held`), and come back as the write leaves them (`deallocate-visited`).
+use Prim.Native.Nat.{ℕ}
+use mathlib.Core.Path.{sym, subst}
 use native.Mathlib.Omega.{arith}
 use borrow.Author.Needs.{needs}
 use denote.Ref.{now}
 use Rattle.definition.specs.Memory.{Memory}
-use Rattle.parts.specs.Trees.{HoldsMarked, TreeAt}
-use Rattle.parts.proofs.Lent.{records-of, trees-of, tree-at, nodes-ordered, codes-ordered, nodes-small, parents-in, protectors-in, codes-in, all-held, node-in}
-use Rattle.memory.specs.Deallocate.{NodeIn}
+use Rattle.tables.proofs.Lookup.{read-nodes, read-codes}
+use Rattle.parts.specs.declared.Parts.{Parts}
+use Rattle.parts.specs.Trees.{TreeAt}
+use Rattle.parts.proofs.Lent.{records-of, trees-of, tree-at, parts-read, nodes-ordered, codes-ordered, nodes-small, parents-in, protectors-in, codes-in, all-held, node-in}
+use Rattle.memory.specs.Deallocate.{FoundMarked, NodeIn}
 use Rattle.memory.proofs.OneTree.{deallocate-visited}
 use Rattle.memory.proofs.deallocate.write_all.Statement.{statement}
 use Rattle.memory.proofs.deallocate.write_all.Tie as tie
 
 -- the state at the entry, as it is known behind the parts
-abbrev entry : tie.After-parts-at → tie.Start
-entry c = c .before .before .before .before .before
+abbrev entry : tie.After-parts-of → tie.Start
+entry c = c .before .before .before .before
 
 -- the tree that is lent, for each memory that the tables hold; and for the one that the caller has
-lent : (c : tie.After-parts-at) (m : Memory) → let a = entry c .args in HoldsMarked m (now (a .allocs)) (now (a .parents)) (now (a .protectors)) (now (a .codes)) → NodeIn m (a .n) (a .node)
-    → TreeAt m (a .n) (now (a .parents)) (now (a .codes)) (c .parts-at .result)
-lent c m h k = tree-at (trees-of h) (c .parts-at .ensures m (records-of h) (k .made))
+lent : (c : tie.After-parts-of) (m : Memory) (n : ℕ) → let a = entry c .args in FoundMarked m n (a .a) (now (a .parents)) (now (a .protectors)) (now (a .codes)) → NodeIn m n (a .node)
+    → TreeAt m n (now (a .parents)) (now (a .codes)) (c .parts-of .result)
+lent c m n f k =
+    let a = entry c .args in
+    subst (λ (r : Parts). TreeAt m n (now (a .parents)) (now (a .codes)) r) (sym (c .parts-of .ensures)) (tree-at (trees-of (f .trees)) (parts-read (records-of (f .trees)) (k .made) (f .read)))
 
-given : (c : tie.After-parts-at) → let t = entry c in TreeAt (t .pre .0) (t .args .n) (now (t .args .parents)) (now (t .args .codes)) (c .parts-at .result)
-given c = let (m, (h, k)) = entry c .pre in lent c m h k
+given : (c : tie.After-parts-of) → let t = entry c in TreeAt (t .pre .0) (t .pre .1 .0) (now (t .args .parents)) (now (t .args .codes)) (c .parts-of .result)
+given c = let (m, (n, (f, k))) = entry c .pre in lent c m n f k
 
-parts-at-requires : tie.Need-parts-at-requires
-parts-at-requires c κs = let (m, (h, k)) = c .before .before .before .before .pre in (m, (records-of h, k .made))
+parts-of-requires : tie.Need-parts-of-requires
+parts-of-requires c κs = let (m, (n, (f, k))) = c .before .before .before .pre in (read-nodes (records-of (f .trees)) (k .made) (f .read), read-codes (records-of (f .trees)) (k .made) (f .read))
 
 mul-deallocate : tie.Need-mul-deallocate
 mul-deallocate c = omega (arith, nodes-small (given c), nodes-ordered (given c))
@@ -44,7 +50,7 @@ part-deallocate-start-2 : tie.Need-part-deallocate-start-2
 part-deallocate-start-2 c = nodes-ordered (given (c .before))
 
 part-deallocate-end-2 : tie.Need-part-deallocate-end-2
-part-deallocate-end-2 c = protectors-in (given (c .before)) (entry (c .before) .pre .1 .0 .trees .protectors)
+part-deallocate-end-2 c = protectors-in (given (c .before)) (entry (c .before) .pre .1 .1 .0 .trees .trees .protectors)
 
 sub-deallocate-3 : tie.Need-sub-deallocate-3
 sub-deallocate-3 c = omega (arith, codes-ordered (given (c .before .before)))
@@ -59,23 +65,23 @@ deallocate-requires : tie.Need-deallocate-requires
 deallocate-requires c κs =
     let lies = c .before .before .before in
     let t = given lies in
-    let (h, k) = entry lies .pre .1 in
-    ((_, all-held t (h .trees .protectors)), node-in t (k .inTree))
+    let (f, k) = entry lies .pre .1 .1 in
+    ((_, all-held t (f .trees .trees .protectors)), node-in t (k .inTree))
 
 same-length : tie.Need-same-length
 same-length c = search needs
 
 returns : tie.Need-returns
-returns c = λ m h k.
+returns c = λ m n f k.
     let lies = c .before .before .before .before .before .before in
-    let t = lent lies m h k in
-    deallocate-visited t (entry lies .args .node) _ (c .before .before .deallocate .ensures _ (all-held t (h .trees .protectors)))
+    let t = lent lies m n f k in
+    deallocate-visited t (entry lies .args .node) _ (c .before .before .deallocate .ensures _ (all-held t (f .trees .trees .protectors)))
 
 pub write-all-spec : {M : Type 1} → statement M
 write-all-spec =
     tie.close
     (tie.spec
-    parts-at-requires
+    parts-of-requires
     mul-deallocate
     sub-deallocate
     part-deallocate-start
