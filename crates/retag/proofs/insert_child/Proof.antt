@@ -18,23 +18,23 @@ entry-before-protector-number c = entry-before-start-code (c .before)
 abbrev entry-before-insert-node-at : tie.After-insert-node-at → tie.Start
 entry-before-insert-node-at c = entry-before-start-code (c .before .before .before .before .before .before)
 
-abbrev entry-before-slice-known8 : tie.After-slice-known8 → tie.Start
-entry-before-slice-known8 c = let c1 = c .before .before .before .before .before .before in entry-before-insert-node-at (c1 .before .before)
-
 abbrev insert-node-at-before-slice-known8 : tie.After-slice-known8 → tie.After-insert-node-at
-insert-node-at-before-slice-known8 c = let c1 = c .before .before .before .before .before .before in c1 .before .before
+insert-node-at-before-slice-known8 c = let left = c .before .before in left .before .before .before .before .before .before
+
+abbrev entry-before-slice-known8 : tie.After-slice-known8 → tie.Start
+entry-before-slice-known8 c = entry-before-insert-node-at (insert-node-at-before-slice-known8 c)
 
 abbrev start-code-before-insert-node-at : tie.After-insert-node-at → tie.After-start-code
 start-code-before-insert-node-at c = c .before .before .before .before .before .before
 
 abbrev start-code-before-slice-known8 : tie.After-slice-known8 → tie.After-start-code
-start-code-before-slice-known8 c = let c1 = c .before .before .before .before .before .before in start-code-before-insert-node-at (c1 .before .before)
+start-code-before-slice-known8 c = start-code-before-insert-node-at (insert-node-at-before-slice-known8 c)
 
 abbrev protector-number-before-insert-node-at : tie.After-insert-node-at → tie.After-protector-number
 protector-number-before-insert-node-at c = c .before .before .before .before .before
 
 abbrev protector-number-before-slice-known8 : tie.After-slice-known8 → tie.After-protector-number
-protector-number-before-slice-known8 c = let c1 = c .before .before .before .before .before .before in protector-number-before-insert-node-at (c1 .before .before)
+protector-number-before-slice-known8 c = protector-number-before-insert-node-at (insert-node-at-before-slice-known8 c)
 
 start-code-requires : tie.Need-start-code-requires
 start-code-requires c κs = search needs

@@ -12,28 +12,25 @@ use Rattle.retag.proofs.reborrow.Tie as tie
 
 -- ---- states by name: `g-before-f` is the state behind g, as it is known behind f; the first one is `entry`
 abbrev entry-before-inside-codes : tie.After-inside-codes → tie.Start
-entry-before-inside-codes c = let c1 = c .before .before .before .before .before .before in c1 .before
-
-abbrev entry-before-reborrow-inside-arg5 : tie.After-reborrow-inside-arg5 → tie.Start
-entry-before-reborrow-inside-arg5 c = let c1 = c .before .before .before .before .before .before in entry-before-inside-codes (c1 .before)
+entry-before-inside-codes c = let lent = c .before in lent .before .before .before .before .before .before
 
 abbrev inside-codes-before-reborrow-inside-arg5 : tie.After-reborrow-inside-arg5 → tie.After-inside-codes
-inside-codes-before-reborrow-inside-arg5 c = let c1 = c .before .before .before .before .before .before in c1 .before
+inside-codes-before-reborrow-inside-arg5 c = let relent = c .before in relent .before .before .before .before .before .before
 
-abbrev entry-before-reborrow-inside : tie.After-reborrow-inside → tie.Start
-entry-before-reborrow-inside c = let c1 = c .before .before .before .before .before .before in entry-before-inside-codes (c1 .before .before)
-
-abbrev entry-before-slice-known10 : tie.After-slice-known10 → tie.Start
-entry-before-slice-known10 c = let c1 = c .before .before .before .before .before .before in entry-before-reborrow-inside (c1 .before .before)
+abbrev entry-before-reborrow-inside-arg5 : tie.After-reborrow-inside-arg5 → tie.Start
+entry-before-reborrow-inside-arg5 c = entry-before-inside-codes (inside-codes-before-reborrow-inside-arg5 c)
 
 abbrev inside-codes-before-reborrow-inside : tie.After-reborrow-inside → tie.After-inside-codes
-inside-codes-before-reborrow-inside c = let c1 = c .before .before .before .before .before .before in c1 .before .before
-
-abbrev inside-codes-before-slice-known10 : tie.After-slice-known10 → tie.After-inside-codes
-inside-codes-before-slice-known10 c = let c1 = c .before .before .before .before .before .before in inside-codes-before-reborrow-inside (c1 .before .before)
+inside-codes-before-reborrow-inside c = inside-codes-before-reborrow-inside-arg5 (c .before)
 
 abbrev reborrow-inside-before-slice-known10 : tie.After-slice-known10 → tie.After-reborrow-inside
-reborrow-inside-before-slice-known10 c = let c1 = c .before .before .before .before .before .before in c1 .before .before
+reborrow-inside-before-slice-known10 c = let left = c .before .before in left .before .before .before .before .before .before
+
+abbrev inside-codes-before-slice-known10 : tie.After-slice-known10 → tie.After-inside-codes
+inside-codes-before-slice-known10 c = inside-codes-before-reborrow-inside (reborrow-inside-before-slice-known10 c)
+
+abbrev entry-before-slice-known10 : tie.After-slice-known10 → tie.Start
+entry-before-slice-known10 c = entry-before-inside-codes (inside-codes-before-slice-known10 c)
 
 slice-relend-prefix-inside-codes : tie.Need-slice-relend-prefix-inside-codes
 slice-relend-prefix-inside-codes c = search needs

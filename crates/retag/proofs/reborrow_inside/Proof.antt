@@ -78,7 +78,7 @@ abbrev used-behind-before-else3 : tie.Else3 → tie.After-used-behind
 used-behind-before-else3 c = used-behind-before-retag-refusal (c .before .before .before)
 
 abbrev entry-before-then1 : tie.Then1 → tie.Start
-entry-before-then1 c = let c1 = c .before .before .before .before .before .before in c1 .before .before
+entry-before-then1 c = let lent = c .before .before in lent .before .before .before .before .before .before
 
 abbrev entry-before-then2 : tie.Then2 → tie.Start
 entry-before-then2 c = entry-before-never-made (c .before)
@@ -98,32 +98,32 @@ provenance-before-then3 c = provenance-before-retag-refusal (c .before .before .
 abbrev entry-before-add-child : tie.After-add-child → tie.Start
 entry-before-add-child c = entry-before-else3 (c .before .before .before .before .before)
 
+abbrev add-child-before-slice-known9 : tie.After-slice-known9 → tie.After-add-child
+add-child-before-slice-known9 c = let left = c .before .before in left .before .before .before .before .before .before
+
 abbrev entry-before-slice-known9 : tie.After-slice-known9 → tie.Start
-entry-before-slice-known9 c = let c1 = c .before .before .before .before .before .before in entry-before-add-child (c1 .before .before)
+entry-before-slice-known9 c = entry-before-add-child (add-child-before-slice-known9 c)
 
 abbrev else3-before-add-child : tie.After-add-child → tie.Else3
 else3-before-add-child c = c .before .before .before .before .before
 
 abbrev else3-before-slice-known9 : tie.After-slice-known9 → tie.Else3
-else3-before-slice-known9 c = let c1 = c .before .before .before .before .before .before in else3-before-add-child (c1 .before .before)
-
-abbrev add-child-before-slice-known9 : tie.After-slice-known9 → tie.After-add-child
-add-child-before-slice-known9 c = let c1 = c .before .before .before .before .before .before in c1 .before .before
+else3-before-slice-known9 c = else3-before-add-child (add-child-before-slice-known9 c)
 
 abbrev used-behind-before-add-child : tie.After-add-child → tie.After-used-behind
 used-behind-before-add-child c = used-behind-before-else3 (c .before .before .before .before .before)
 
 abbrev used-behind-before-slice-known9 : tie.After-slice-known9 → tie.After-used-behind
-used-behind-before-slice-known9 c = let c1 = c .before .before .before .before .before .before in used-behind-before-add-child (c1 .before .before)
+used-behind-before-slice-known9 c = used-behind-before-add-child (add-child-before-slice-known9 c)
 
 abbrev entry-before-else1 : tie.Else1 → tie.Start
-entry-before-else1 c = let c1 = c .before .before .before .before .before .before in c1 .before .before
+entry-before-else1 c = let lent = c .before .before in lent .before .before .before .before .before .before
 
 abbrev provenance-before-add-child : tie.After-add-child → tie.After-provenance
 provenance-before-add-child c = provenance-before-else3 (c .before .before .before .before .before)
 
 abbrev provenance-before-slice-known9 : tie.After-slice-known9 → tie.After-provenance
-provenance-before-slice-known9 c = let c1 = c .before .before .before .before .before .before in provenance-before-add-child (c1 .before .before)
+provenance-before-slice-known9 c = provenance-before-add-child (add-child-before-slice-known9 c)
 
 abbrev retag-refusal-before-else3 : tie.Else3 → tie.After-retag-refusal
 retag-refusal-before-else3 c = c .before .before .before
@@ -132,7 +132,7 @@ abbrev retag-refusal-before-add-child : tie.After-add-child → tie.After-retag-
 retag-refusal-before-add-child c = retag-refusal-before-else3 (c .before .before .before .before .before)
 
 abbrev retag-refusal-before-slice-known9 : tie.After-slice-known9 → tie.After-retag-refusal
-retag-refusal-before-slice-known9 c = let c1 = c .before .before .before .before .before .before in retag-refusal-before-add-child (c1 .before .before)
+retag-refusal-before-slice-known9 c = retag-refusal-before-add-child (add-child-before-slice-known9 c)
 
 -- 4 was passed, and so the record that was looked up is the allocation's own
 known : (c : tie.Else2) → let t = entry-before-else2 c in (m : Memory) → HoldsMarked m (now (t .args .allocs)) (now (t .args .parents)) (now (t .args .protectors)) (now (t .args .codes))
