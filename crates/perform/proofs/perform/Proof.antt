@@ -6,37 +6,37 @@ use Rattle.perform.proofs.perform.Tie as tie
 
 -- ---- states by name: `g-before-f` is the state behind g, as it is known behind f; the first one is `entry`
 abbrev entry-before-frame-used : tie.After-frame-used → tie.Start
-entry-before-frame-used c = let c1 = c .before .before .before .before .before .before in c1 .before .before
+entry-before-frame-used c = let lent = c .before .before in lent .before .before .before .before .before .before
 
 abbrev entry-before-retag-arg5 : tie.After-retag-arg5 → tie.Start
-entry-before-retag-arg5 c = let c1 = c .before .before .before .before .before .before in entry-before-frame-used (c1 .before)
-
-abbrev entry-before-end-call-arg5 : tie.After-end-call-arg5 → tie.Start
-entry-before-end-call-arg5 c = let c1 = c .before .before .before .before .before .before in entry-before-frame-used (c1 .before)
+entry-before-retag-arg5 c = let told = c .before .before .before .before .before in entry-before-frame-used (told .before .before)
 
 abbrev frame-used-before-end-call-arg5 : tie.After-end-call-arg5 → tie.After-frame-used
-frame-used-before-end-call-arg5 c = let c1 = c .before .before .before .before .before .before in c1 .before
+frame-used-before-end-call-arg5 c = let told = c .before .before .before .before .before in told .before .before
+
+abbrev entry-before-end-call-arg5 : tie.After-end-call-arg5 → tie.Start
+entry-before-end-call-arg5 c = entry-before-frame-used (frame-used-before-end-call-arg5 c)
 
 abbrev enum-told-before-retag : tie.After-retag → tie.After-enum-told
 enum-told-before-retag c = c .before .before .before .before .before .before
 
-abbrev enum-told-before-slice-known11 : tie.After-slice-known11 → tie.After-enum-told
-enum-told-before-slice-known11 c = let c1 = c .before .before .before .before .before .before in enum-told-before-retag (c1 .before .before .before .before)
-
 abbrev retag-before-slice-known11 : tie.After-slice-known11 → tie.After-retag
-retag-before-slice-known11 c = let c1 = c .before .before .before .before .before .before in c1 .before .before .before .before
+retag-before-slice-known11 c = let protectors-back = c .before .before .before .before .before in protectors-back .before .before .before .before .before
 
-abbrev frame-used-before-end-call : tie.After-end-call → tie.After-frame-used
-frame-used-before-end-call c = let c1 = c .before .before .before .before .before .before in c1 .before .before
+abbrev enum-told-before-slice-known11 : tie.After-slice-known11 → tie.After-enum-told
+enum-told-before-slice-known11 c = enum-told-before-retag (retag-before-slice-known11 c)
 
 abbrev enum-told3-before-end-call : tie.After-end-call → tie.After-enum-told3
 enum-told3-before-end-call c = c .before .before .before .before .before .before
 
-abbrev entry-before-in-memory : tie.After-in-memory → tie.Start
-entry-before-in-memory c = let c1 = c .before .before .before .before .before .before in entry-before-frame-used (c1 .before)
+abbrev frame-used-before-end-call : tie.After-end-call → tie.After-frame-used
+frame-used-before-end-call c = enum-told3-before-end-call c .before .before
 
 abbrev at-match-keys4-before-in-memory : tie.After-in-memory → tie.At-match-keys4
 at-match-keys4-before-in-memory c = c .before .before .before .before .before .before
+
+abbrev entry-before-in-memory : tie.After-in-memory → tie.Start
+entry-before-in-memory c = entry-before-frame-used (at-match-keys4-before-in-memory c .before)
 
 frame-used-requires : tie.Need-frame-used-requires
 frame-used-requires c κs = search needs

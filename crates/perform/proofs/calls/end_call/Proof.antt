@@ -9,7 +9,7 @@ use Rattle.perform.proofs.calls.end_call.Tie as tie
 
 -- ---- states by name: `g-before-f` is the state behind g, as it is known behind f; the first one is `entry`
 abbrev entry-before-frame-numbers : tie.After-frame-numbers → tie.Start
-entry-before-frame-numbers c = let c1 = c .before .before .before .before .before .before in c1 .before
+entry-before-frame-numbers c = let lent = c .before in lent .before .before .before .before .before .before
 
 abbrev entry-before-end-call-in-run : tie.After-end-call-in-run → tie.Start
 entry-before-end-call-in-run c = entry-before-frame-numbers (c .before .before .before)

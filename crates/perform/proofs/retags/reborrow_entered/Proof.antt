@@ -16,7 +16,7 @@ use Rattle.perform.proofs.retags.reborrow_entered.Tie as tie
 
 -- ---- states by name: `g-before-f` is the state behind g, as it is known behind f; the first one is `entry`
 abbrev entry-before-pointer : tie.After-pointer → tie.Start
-entry-before-pointer c = let c1 = c .before .before .before .before .before .before in c1 .before
+entry-before-pointer c = let lent = c .before in lent .before .before .before .before .before .before
 
 abbrev entry-before-settings : tie.After-settings → tie.Start
 entry-before-settings c = entry-before-pointer (c .before .before)
@@ -27,8 +27,11 @@ entry-before-entry-count c = entry-before-pointer (c .before .before .before .be
 abbrev entry-before-reborrow : tie.After-reborrow → tie.Start
 entry-before-reborrow c = entry-before-entry-count (c .before .before .before .before .before .before)
 
+abbrev reborrow-before-enter-arg : tie.After-enter-arg → tie.After-reborrow
+reborrow-before-enter-arg c = let protectors-back = c .before .before .before .before .before .before in protectors-back .before .before .before .before .before
+
 abbrev entry-before-enter-arg : tie.After-enter-arg → tie.Start
-entry-before-enter-arg c = let c1 = c .before .before .before .before .before .before in entry-before-reborrow (c1 .before .before .before .before .before)
+entry-before-enter-arg c = entry-before-reborrow (reborrow-before-enter-arg c)
 
 abbrev frame-number-before-entry-count : tie.After-entry-count → tie.After-frame-number
 frame-number-before-entry-count c = c .before .before .before
@@ -37,7 +40,7 @@ abbrev frame-number-before-reborrow : tie.After-reborrow → tie.After-frame-num
 frame-number-before-reborrow c = frame-number-before-entry-count (c .before .before .before .before .before .before)
 
 abbrev frame-number-before-enter-arg : tie.After-enter-arg → tie.After-frame-number
-frame-number-before-enter-arg c = let c1 = c .before .before .before .before .before .before in frame-number-before-reborrow (c1 .before .before .before .before .before)
+frame-number-before-enter-arg c = frame-number-before-reborrow (reborrow-before-enter-arg c)
 
 abbrev settings-before-entry-count : tie.After-entry-count → tie.After-settings
 settings-before-entry-count c = c .before .before
@@ -46,31 +49,28 @@ abbrev settings-before-reborrow : tie.After-reborrow → tie.After-settings
 settings-before-reborrow c = settings-before-entry-count (c .before .before .before .before .before .before)
 
 abbrev settings-before-enter-arg : tie.After-enter-arg → tie.After-settings
-settings-before-enter-arg c = let c1 = c .before .before .before .before .before .before in settings-before-reborrow (c1 .before .before .before .before .before)
-
-abbrev reborrow-before-enter-arg : tie.After-enter-arg → tie.After-reborrow
-reborrow-before-enter-arg c = let c1 = c .before .before .before .before .before .before in c1 .before .before .before .before .before
+settings-before-enter-arg c = settings-before-reborrow (reborrow-before-enter-arg c)
 
 abbrev entry-count-before-reborrow : tie.After-reborrow → tie.After-entry-count
 entry-count-before-reborrow c = c .before .before .before .before .before .before
 
 abbrev entry-count-before-enter-arg : tie.After-enter-arg → tie.After-entry-count
-entry-count-before-enter-arg c = let c1 = c .before .before .before .before .before .before in entry-count-before-reborrow (c1 .before .before .before .before .before)
-
-abbrev entry-before-enter : tie.After-enter → tie.Start
-entry-before-enter c = let c1 = c .before .before .before .before .before .before in entry-before-reborrow (c1 .before .before .before .before .before .before)
-
-abbrev frame-number-before-enter : tie.After-enter → tie.After-frame-number
-frame-number-before-enter c = let c1 = c .before .before .before .before .before .before in frame-number-before-reborrow (c1 .before .before .before .before .before .before)
-
-abbrev settings-before-enter : tie.After-enter → tie.After-settings
-settings-before-enter c = let c1 = c .before .before .before .before .before .before in settings-before-reborrow (c1 .before .before .before .before .before .before)
+entry-count-before-enter-arg c = entry-count-before-reborrow (reborrow-before-enter-arg c)
 
 abbrev reborrow-before-enter : tie.After-enter → tie.After-reborrow
-reborrow-before-enter c = let c1 = c .before .before .before .before .before .before in c1 .before .before .before .before .before .before
+reborrow-before-enter c = reborrow-before-enter-arg (c .before)
+
+abbrev entry-before-enter : tie.After-enter → tie.Start
+entry-before-enter c = entry-before-reborrow (reborrow-before-enter c)
+
+abbrev frame-number-before-enter : tie.After-enter → tie.After-frame-number
+frame-number-before-enter c = frame-number-before-reborrow (reborrow-before-enter c)
+
+abbrev settings-before-enter : tie.After-enter → tie.After-settings
+settings-before-enter c = settings-before-reborrow (reborrow-before-enter c)
 
 abbrev entry-count-before-enter : tie.After-enter → tie.After-entry-count
-entry-count-before-enter c = let c1 = c .before .before .before .before .before .before in entry-count-before-reborrow (c1 .before .before .before .before .before .before)
+entry-count-before-enter c = entry-count-before-reborrow (reborrow-before-enter c)
 
 abbrev pointer-before-entry-count : tie.After-entry-count → tie.After-pointer
 pointer-before-entry-count c = c .before .before .before .before
@@ -79,7 +79,7 @@ abbrev pointer-before-reborrow : tie.After-reborrow → tie.After-pointer
 pointer-before-reborrow c = pointer-before-entry-count (c .before .before .before .before .before .before)
 
 abbrev pointer-before-enter : tie.After-enter → tie.After-pointer
-pointer-before-enter c = let c1 = c .before .before .before .before .before .before in pointer-before-reborrow (c1 .before .before .before .before .before .before)
+pointer-before-enter c = pointer-before-reborrow (reborrow-before-enter c)
 
 pointer-requires : tie.Need-pointer-requires
 pointer-requires c κs = search needs
