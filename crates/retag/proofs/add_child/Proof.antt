@@ -27,7 +27,7 @@ abbrev node-place-before-insert-child : tie.After-insert-child → tie.After-nod
 node-place-before-insert-child c = c .before .before .before .before .before
 
 abbrev insert-child-before-slice-known8 : tie.After-slice-known8 → tie.After-insert-child
-insert-child-before-slice-known8 c = let left = c .before .before in left .before .before .before .before .before .before
+insert-child-before-slice-known8 c = let protectors-back = c .before .before in protectors-back .before .before .before .before .before .before
 
 place-in-requires : tie.Need-place-in-requires
 place-in-requires c κs =

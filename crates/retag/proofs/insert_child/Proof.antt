@@ -19,7 +19,7 @@ abbrev entry-before-insert-node-at : tie.After-insert-node-at → tie.Start
 entry-before-insert-node-at c = entry-before-start-code (c .before .before .before .before .before .before)
 
 abbrev insert-node-at-before-slice-known8 : tie.After-slice-known8 → tie.After-insert-node-at
-insert-node-at-before-slice-known8 c = let left = c .before .before in left .before .before .before .before .before .before
+insert-node-at-before-slice-known8 c = let protectors-back = c .before .before in protectors-back .before .before .before .before .before .before
 
 abbrev entry-before-slice-known8 : tie.After-slice-known8 → tie.Start
 entry-before-slice-known8 c = entry-before-insert-node-at (insert-node-at-before-slice-known8 c)

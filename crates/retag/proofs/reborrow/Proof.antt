@@ -24,7 +24,7 @@ abbrev inside-codes-before-reborrow-inside : tie.After-reborrow-inside → tie.A
 inside-codes-before-reborrow-inside c = inside-codes-before-reborrow-inside-arg5 (c .before)
 
 abbrev reborrow-inside-before-slice-known10 : tie.After-slice-known10 → tie.After-reborrow-inside
-reborrow-inside-before-slice-known10 c = let left = c .before .before in left .before .before .before .before .before .before
+reborrow-inside-before-slice-known10 c = let protectors-back = c .before .before in protectors-back .before .before .before .before .before .before
 
 abbrev inside-codes-before-slice-known10 : tie.After-slice-known10 → tie.After-inside-codes
 inside-codes-before-slice-known10 c = inside-codes-before-reborrow-inside (reborrow-inside-before-slice-known10 c)

@@ -99,7 +99,7 @@ abbrev entry-before-add-child : tie.After-add-child → tie.Start
 entry-before-add-child c = entry-before-else3 (c .before .before .before .before .before)
 
 abbrev add-child-before-slice-known9 : tie.After-slice-known9 → tie.After-add-child
-add-child-before-slice-known9 c = let left = c .before .before in left .before .before .before .before .before .before
+add-child-before-slice-known9 c = let protectors-back = c .before .before in protectors-back .before .before .before .before .before .before
 
 abbrev entry-before-slice-known9 : tie.After-slice-known9 → tie.Start
 entry-before-slice-known9 c = entry-before-add-child (add-child-before-slice-known9 c)
