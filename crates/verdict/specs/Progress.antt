@@ -32,7 +32,7 @@ textAtHand p out = take (p .advance .at) out
 
 -- more text than this is written before the next turn
 abbrev pub mostText : ℕ
-mostText = 0x10000
+mostText = 0xf000
 
 pub record Ready (p : Progress) (input : List ℕ) : Type 0 where
   pub ordered : p .advance .from ≤ p .end

@@ -96,7 +96,7 @@ fn flushed(out: &[u8], p: Progress, next: Advance) -> Progress
     ensures { λ r. ⌜ (r ≡ flushedAs p next (r .failed)) × (isLong next ≡ false → r .failed ≡ false) ⌝ }
 {
     let at = next.at;
-    if at <= 0x10000 {
+    if at <= 0xf000 {
         return Progress {
             advance: next,
             end: p.end,
