@@ -79,10 +79,10 @@ fn foreign_write(code: u8) -> Outcome
     ensures { λ r. ⌜ r ≡ transitionCode Write Foreign code ⌝ }
 {
     match code {
-        0 | 2 | 6 => Outcome::Stays,
+        0 | 2 | 14 => Outcome::Stays,
         1 => Outcome::Becomes(5),
         3..=4 => Outcome::Becomes(5),
-        5 | 14 => Outcome::Stays,
+        5..=6 => Outcome::Stays,
         7 | 9 | 12 => Outcome::Becomes(14),
         8 | 10 | 13 => Outcome::Refused(22),
         11 => Outcome::Refused(23),
