@@ -81,12 +81,12 @@ fn strong_protector_planned(
     width: usize,
     node: usize,
 ) -> bool
-    requires { ⌜ Zeros (now scratch) × (3 * length (now parents) ≤ length (now scratch)) ⌝ }
+    requires { ⌜ Zeros (now scratch) × (4 * length (now parents) ≤ length (now scratch)) ⌝ }
     requires { ⌜ Some (λ nodes. HoldsAll nodes width (now parents) (now protectors) (now codes)) ⌝ }
     requires { ⌜ node < length (now parents) ⌝ }
     ensures { λ r. ⌜ Each (λ nodes. HoldsAll nodes width (now (parents .entry)) (now (protectors .entry)) (now (codes .entry))) (λ nodes. r ≡ any nodePreventsDeallocation (visited (accessVisit Write node 0 width) nodes)) ⌝ }
 {
-    let size = 3 * parents.len();
+    let size = 4 * parents.len();
     let v = Reach {
         node,
         spared: parents.len(),
@@ -110,7 +110,7 @@ fn strong_protector_after_write(
     requires { ⌜ node < length (now parents) ⌝ }
     ensures { λ r. ⌜ Each (λ nodes. HoldsAll nodes width (now (parents .entry)) (now (protectors .entry)) (now (codes .entry))) (λ nodes. r ≡ any nodePreventsDeallocation (visited (accessVisit Write node 0 width) nodes)) ⌝ }
 {
-    let mut scratch = [0u16; 3072];
+    let mut scratch = [0u16; 4096];
     strong_protector_planned(&mut scratch, parents, protectors, codes, width, node)
 }
 

@@ -1,8 +1,7 @@
--- Codes under accesses, byte by byte: what is left from a place on tells of the whole. The codes at the front that stay under one access; and the
--- visited bytes in a row.
+-- Codes under accesses, byte by byte: what is left from a place on tells of the whole. Codes that all stay; and the visited bytes in a row.
 use Prim.Native.Nat.{ℕ, zero, suc, _+_, _≤_, _<_}
 use mathlib.Core.Path.{_≡_, refl, sym, ap, ap₂, subst, _∙_}
-use mathlib.Core.Bool.{Bool, true, false, not}
+use mathlib.Core.Bool.{Bool, true, false, not, _&&_, and-true, and-assoc}
 use mathlib.Core.Option.{Option, none, some}
 use mathlib.Core.List.{List, [], _∷_, _++_, map}
 use native.Mathlib.Numerals.{add-one}
@@ -26,7 +25,7 @@ use Rattle.visit.specs.declared.Answer.the-variants as answer
 use Rattle.visit.specs.declared.Accesses.the-variants as accesses
 use Rattle.visit.specs.declared.Accesses.the-variants.{Each, AtInit}
 use Rattle.visit.specs.declared.Reach.{Reach}
-use Rattle.visit.specs.Walk.{Told, ToldBytes, ToldRow, unrefused, toldAccess, accessAt, accessesAt, codesRefusal, codesAfter, outcomeAt, isStays, stayingUnder, stayingCount}
+use Rattle.visit.specs.Walk.{Told, ToldBytes, ToldRow, unrefused, toldAccess, accessAt, accessesAt, codesRefusal, codesAfter, codesStay, outcomeAt, isStays}
 use Rattle.visit.proofs.Steps.{no-refusal, no-change}
 
 abbrev isTrue : Bool → Type 0
@@ -44,7 +43,7 @@ pub is-so : (b : Bool) → not b ≡ false → b ≡ true
 is-so true e = refl
 is-so false e = absurd (true-not-false e)
 
-is-not : (b : Bool) → not b ≡ true → b ≡ false
+pub is-not : (b : Bool) → not b ≡ true → b ≡ false
 is-not true e = absurd (true-not-false (sym e))
 is-not false e = refl
 
@@ -229,6 +228,62 @@ module _ (r : NodeRelation) where
             let f = at-refused x r c n (sym t ∙ e) in
             (sym (refusal-here ∙ ap (λ (m : ℕ). m or codesRefusal r (drop (k + 1) xs) (drop (k + 1) cs)) (f .0) ∙ or-positive n _ (omega (arith, f .2))) ∙ told .0, f .2)
 
+-- ---- whether every code stays
+both-so : (a b : Bool) → (a && b) ≡ true → (a ≡ true) × (b ≡ true)
+both-so true b e = (refl, e)
+both-so false b e = absurd (true-not-false (sym e))
+
+module _ (r : NodeRelation) where
+  nothing-moves : (cs : List ℕ) → codesStay r [] cs ≡ true
+  unfolding codesStay
+  nothing-moves [] = refl
+  nothing-moves (c ∷ cs) = refl
+
+  -- the first code, under the k-th access
+  stay-first : (xs : List (Option AccessKind)) (k c : ℕ) (cs : List ℕ)
+      → codesStay r (drop k xs) (c ∷ cs) ≡ (isStays (outcomeAt (getD xs k none) r c) && codesStay r (drop (suc k) xs) cs)
+  unfolding codesStay
+  stay-first [] zero c cs = sym (nothing-moves cs)
+  stay-first [] (suc k) c cs = sym (nothing-moves cs)
+  stay-first (x ∷ xs) zero c cs = refl
+  stay-first (x ∷ xs) (suc k) c cs = stay-first xs k c cs
+
+  -- then nothing is refused, and nothing changes
+  pub stay-told : (xs : List (Option AccessKind)) (cs : List ℕ) → codesStay r xs cs ≡ true → Bytes r xs cs answer.Stays
+  unfolding codesStay codesRefusal codesAfter
+  stay-told xs [] e = (refl, refl)
+  stay-told [] (c ∷ cs) e = (refl, refl)
+  stay-told (x ∷ xs) (c ∷ cs) e =
+      let both = both-so (isStays (outcomeAt x r c)) (codesStay r xs cs) e in
+      let s = at-stays x r c (is-stays (outcomeAt x r c) (both .0)) in
+      let rest = stay-told xs cs (both .1) in
+      (ap₂ _or_ (s .0) (rest .0), ap₂ (λ (d : ℕ) (ds : List ℕ). d ∷ ds) (sym (s .1)) (rest .1))
+
+  module _ (xs : List (Option AccessKind)) (cs : List ℕ) where
+    -- at the k-th code: all before it stay, or not
+    abbrev pub StayAt : ℕ → Bool → Type 0
+    StayAt k all = codesStay r xs cs ≡ (all && codesStay r (drop k xs) (drop k cs))
+
+    pub stay-done : (k : ℕ) (all : Bool) → length cs ≤ k → StayAt k all → codesStay r xs cs ≡ all
+    unfolding codesStay
+    stay-done k all l e = e ∙ ap (λ (ds : List ℕ). all && codesStay r (drop k xs) ds) (drop-of-length-le cs l) ∙ and-true all
+
+    -- b tells whether the k-th stays
+    pub stay-turn : (k : ℕ) → k < length cs → (all b : Bool) (o : Outcome) → o ≡ outcomeAt (getD xs k none) r (getD cs k 0) → b ≡ isStays o
+        → StayAt k all → StayAt (k + 1) (all && b)
+    stay-turn k l all b o t q e =
+        let c = getD cs k 0 in
+        let here : drop k cs ≡ c ∷ drop (k + 1) cs = rw (add-one k) (drop-cons cs k 0 l) in
+        let rest = codesStay r (drop (k + 1) xs) (drop (k + 1) cs) in
+        let first : codesStay r (drop k xs) (drop k cs) ≡ (isStays (outcomeAt (getD xs k none) r c) && rest) =
+        ap (codesStay r (drop k xs)) here ∙ rw (add-one k) (stay-first xs k c (drop (suc k) cs)) in
+        e ∙ ap (λ (x : Bool). all && x) (first ∙ ap (λ (x : Bool). x && rest) (sym (q ∙ ap isStays t))) ∙ sym (and-assoc all b rest)
+
+-- under one access
+pub each-outcome : (a : declared.AccessKind) (r : NodeRelation) (cs : List ℕ) (k : ℕ) → k < length cs
+    → transitionCode (accessKind a) r (getD cs k 0) ≡ outcomeAt (getD (accessesAt (Each a) (length cs) []) k none) r (getD cs k 0)
+each-outcome a r cs k l = sym (ap (λ (x : Option AccessKind). outcomeAt x r (getD cs k 0)) (planned-at (Each a) (length cs) [] k l))
+
 -- ---- a turn of the change, at the k-th code
 module _ (x : Option AccessKind) (r : NodeRelation) (now after : List ℕ) (k : ℕ) (o : Outcome) (t : o ≡ outcomeAt x r (getD now k 0)) where
   pub turn-stays : o ≡ Stays → after ≡ now → after ≡ set now k (nextCode x r (getD now k 0))
@@ -240,93 +295,7 @@ module _ (x : Option AccessKind) (r : NodeRelation) (now after : List ℕ) (k : 
   pub turn-refused : (n : ℕ) → o ≡ Refused n → after ≡ now → after ≡ set now k (nextCode x r (getD now k 0))
   turn-refused n e s = s ∙ sym (ap (set now k) (at-refused x r (getD now k 0) n (sym t ∙ e) .1) ∙ set-getD now k 0)
 
--- ---- the codes at the front that stay under one access
-module _ (a : AccessKind) (r : NodeRelation) where
-  module _ (cs : List ℕ) (k : ℕ) (l : k < length cs) where
-    front : drop k cs ≡ getD cs k 0 ∷ drop (k + 1) cs
-    front = rw (add-one k) (drop-cons cs k 0 l)
-
-    pub one-more : not (isStays (transitionCode a r (getD cs k 0))) ≡ false → stayingUnder a r (drop k cs) ≡ suc (stayingUnder a r (drop (k + 1) cs))
-    unfolding stayingUnder
-    one-more e = ap (stayingUnder a r) front ∙ rw (is-so (isStays (transitionCode a r (getD cs k 0))) e)
-
-    pub no-more : not (isStays (transitionCode a r (getD cs k 0))) ≡ true → stayingUnder a r (drop k cs) ≡ 0
-    unfolding stayingUnder
-    no-more e = ap (stayingUnder a r) front ∙ rw (is-not (isStays (transitionCode a r (getD cs k 0))) e)
-
-  pub none-left : (cs : List ℕ) (k : ℕ) → length cs ≤ k → stayingUnder a r (drop k cs) ≡ 0
-  unfolding stayingUnder
-  none-left cs k l = ap (stayingUnder a r) (drop-of-length-le cs l)
-
-  no-longer : (b : Bool) (k n : ℕ) → k ≤ n → (if b then suc k else 0) ≤ suc n
-  no-longer true k n l = omega arith
-  no-longer false k n l = omega arith
-
-  pub staying-within : (cs : List ℕ) → stayingUnder a r cs ≤ length cs
-  unfolding stayingUnder
-  staying-within [] = omega arith
-  staying-within (c ∷ cs) = no-longer (isStays (transitionCode a r c)) (stayingUnder a r cs) (length cs) (staying-within cs)
-
-  abbrev each : List ℕ → List (Option AccessKind)
-  each cs = replicate (length cs) (some a)
-
-  -- what they come to is what those behind the front come to
-  refusal-by : (c : ℕ) (cs : List ℕ) (b : Bool) (k : ℕ) → isStays (transitionCode a r c) ≡ b
-      → codesRefusal r (each cs) cs ≡ codesRefusal r (each (drop k cs)) (drop k cs)
-      → codesRefusal r (each (c ∷ cs)) (c ∷ cs) ≡ codesRefusal r (each (drop (if b then suc k else 0) (c ∷ cs))) (drop (if b then suc k else 0) (c ∷ cs))
-  unfolding codesRefusal
-  refusal-by c cs true k e rest = ap (λ (n : ℕ). n or codesRefusal r (each cs) cs) (stays-told a r c (is-stays (transitionCode a r c) e) .0) ∙ rest
-  refusal-by c cs false k e rest = refl
-
-  front-refusal : (cs : List ℕ) → codesRefusal r (each cs) cs ≡ codesRefusal r (each (drop (stayingUnder a r cs) cs)) (drop (stayingUnder a r cs) cs)
-  unfolding stayingUnder
-  front-refusal [] = refl
-  front-refusal (c ∷ cs) = refusal-by c cs (isStays (transitionCode a r c)) (stayingUnder a r cs) refl (front-refusal cs)
-
-  after-by : (c : ℕ) (cs : List ℕ) (b : Bool) (k : ℕ) → isStays (transitionCode a r c) ≡ b
-      → codesAfter r (each cs) cs ≡ take k cs ++ codesAfter r (each (drop k cs)) (drop k cs)
-      → codesAfter r (each (c ∷ cs)) (c ∷ cs) ≡ take (if b then suc k else 0) (c ∷ cs) ++ codesAfter r (each (drop (if b then suc k else 0) (c ∷ cs))) (drop (if b then suc k else 0) (c ∷ cs))
-  unfolding codesAfter
-  after-by c cs true k e rest = ap₂ (λ (d : ℕ) (ds : List ℕ). d ∷ ds) (stays-told a r c (is-stays (transitionCode a r c) e) .1) rest
-  after-by c cs false k e rest = refl
-
-  front-after : (cs : List ℕ) → codesAfter r (each cs) cs ≡ take (stayingUnder a r cs) cs ++ codesAfter r (each (drop (stayingUnder a r cs) cs)) (drop (stayingUnder a r cs) cs)
-  unfolding stayingUnder
-  front-after [] = refl
-  front-after (c ∷ cs) = after-by c cs (isStays (transitionCode a r c)) (stayingUnder a r cs) refl (front-after cs)
-
-  pub front-told : (cs : List ℕ) (given : Answer)
-      → Bytes r (each (drop (stayingUnder a r cs) cs)) (drop (stayingUnder a r cs) cs) given → Bytes r (each cs) cs given
-  front-told cs answer.Stays t = (
-    front-refusal cs ∙ t .0,
-    sym (front-after cs ∙ ap (λ (ds : List ℕ). take (stayingUnder a r cs) cs ++ ds) (sym (t .1)) ∙ take-append-drop (stayingUnder a r cs) cs),
-  )
-  front-told cs answer.Changes t = front-refusal cs ∙ t
-  front-told cs (answer.Refused n) t = (t .0 ∙ sym (front-refusal cs), t .1)
-
--- ---- the visited bytes of a row
-module _ (lent : List ℕ) (r : NodeRelation) where
-  no-bytes : (what : Accesses) → ToldBytes what lent r [] answer.Stays
-  unfolding codesRefusal codesAfter
-  no-bytes what = (refl, refl)
-
-  pub count-within : (what : Accesses) (cs : List ℕ) (k : ℕ) → k ≡ stayingCount what r cs → k ≤ length cs
-  count-within (Each a) cs k e = omega (arith, e, staying-within (accessKind a) r cs)
-  count-within accesses.Told cs k e = omega (arith, e)
-  count-within AtInit cs k e = omega (arith, e)
-
-  -- behind those that stay
-  pub behind-told : (what : Accesses) (cs : List ℕ) (k : ℕ) (given : Answer) → k ≡ stayingCount what r cs → ToldBytes what lent r (drop k cs) given → ToldBytes what lent r cs given
-  behind-told (Each a) cs k given e t = front-told (accessKind a) r cs given (subst (λ (i : ℕ). ToldBytes (Each a) lent r (drop i cs) given) e t)
-  behind-told accesses.Told cs k given e t = subst (λ (i : ℕ). ToldBytes accesses.Told lent r (drop i cs) given) e t
-  behind-told AtInit cs k given e t = subst (λ (i : ℕ). ToldBytes AtInit lent r (drop i cs) given) e t
-
-  -- all of them stay
-  pub all-stay : (what : Accesses) (cs : List ℕ) (k : ℕ) → k ≡ stayingCount what r cs → k ≡ length cs → ToldBytes what lent r cs answer.Stays
-  all-stay what cs k e q =
-      behind-told what cs k answer.Stays e (subst (λ (ds : List ℕ). ToldBytes what lent r ds answer.Stays) (sym (drop-of-length-le cs {i = k} (omega arith))) (no-bytes what))
-
--- they are a part of the row
+-- ---- the visited bytes are a part of the row
 module _ (v : Reach) (lent : List ℕ) (r : NodeRelation) (row : List ℕ) (inside : v .from + v .len ≤ length row) where
   abbrev bytes : List ℕ
   bytes = drop (v .from) row

@@ -33,31 +33,31 @@ pub at-first : {v : Reach} {ps plan codes : List ℕ} {first : ℕ} → VisitFro
 at-first {first = first} p = record { inside = p .inside; visited = p .visited; later = le-refl first }
 
 module _ {v : Reach} {ps plan codes : List ℕ} {first m : ℕ} (p : VisitFrom v ps plan codes first) (at : At v ps first m) where
-  pub planned-here : (3 * m + 2 < length plan) × (length plan ≤ 3072)
+  pub planned-here : (4 * m + 2 < length plan) × (length plan ≤ 4096)
   planned-here = in-plan (p .planned .room) m (at .inside)
 
   pub row-here : (m * v .width + v .width ≤ length codes) × (v .from + v .len ≤ v .width)
   row-here = (row-in v ps codes m (p .ready) (at .inside), p .ready .inside)
 
-  child-is : (child : ℕ) → child ≡ getD plan (3 * m) 0 → child ≡ childFrom (v .spared) m (m + 1) (drop (m + 1) ps)
+  child-is : (child : ℕ) → child ≡ getD plan (4 * m) 0 → child ≡ childFrom (v .spared) m (m + 1) (drop (m + 1) ps)
   child-is child c = c ∙ p .planned .links .first m (at .inside)
 
-  sibling-is : (sibling : ℕ) → sibling ≡ getD plan (3 * m + 1) 0 → sibling ≡ nextSibling (v .spared) ps m
+  sibling-is : (sibling : ℕ) → sibling ≡ getD plan (4 * m + 1) 0 → sibling ≡ nextSibling (v .spared) ps m
   sibling-is sibling b = b ∙ p .planned .links .next m (at .inside)
 
   -- where the pass goes on
-  pub at-child : (child : ℕ) → child ≡ getD plan (3 * m) 0 → (child ≡ 0 → ⊥) → (m < child) × At v ps first child
+  pub at-child : (child : ℕ) → child ≡ getD plan (4 * m) 0 → (child ≡ 0 → ⊥) → (m < child) × At v ps first child
   at-child child c q =
       let l = child-later (v .spared) ps m child (child-is child c) q in
       (l .0, record { inside = l .1; visited = l .2; later = omega (arith, l .0, at .later) })
 
-  pub at-sibling : (sibling : ℕ) → sibling ≡ getD plan (3 * m + 1) 0 → (sibling ≡ 0 → ⊥) → (m < sibling) × At v ps first sibling
+  pub at-sibling : (sibling : ℕ) → sibling ≡ getD plan (4 * m + 1) 0 → (sibling ≡ 0 → ⊥) → (m < sibling) × At v ps first sibling
   at-sibling sibling b q =
       let l = sibling-later (v .spared) ps m sibling (sibling-is sibling b) q in
       (l .0, record { inside = l .1; visited = l .2; later = omega (arith, l .0, at .later) })
 
   -- a visit of the child can be made with the plan that is handed on, on a table of the same length
-  pub from-child : (child : ℕ) → child ≡ getD plan (3 * m) 0 → (child ≡ 0 → ⊥) → (codes′ : List ℕ) → length codes′ ≡ length codes → VisitFrom v ps (take (length plan) plan) codes′ child
+  pub from-child : (child : ℕ) → child ≡ getD plan (4 * m) 0 → (child ≡ 0 → ⊥) → (codes′ : List ℕ) → length codes′ ≡ length codes → VisitFrom v ps (take (length plan) plan) codes′ child
   from-child child c q codes′ e =
       let next = at-child child c q .1 in
       subst (λ (l : List ℕ). VisitFrom v ps l codes′ child) (sym (take-length plan))
@@ -89,7 +89,7 @@ module _ {v : Reach} {ps plan codes : List ℕ} {first m : ℕ} (p : VisitFrom v
     pub seen-changes : (changes′ : Bool) → answer ≡ Changes → changes′ ≡ true → Seen changes′
     seen-changes changes′ q s = note-changes v ps lent _ codes _ answer node q changes changes′ s
 
-    module _ (changes′ : Bool) (seen : Seen changes′) (child sibling : ℕ) (c : child ≡ getD plan (3 * m) 0) (b : sibling ≡ getD plan (3 * m + 1) 0) where
+    module _ (changes′ : Bool) (seen : Seen changes′) (child sibling : ℕ) (c : child ≡ getD plan (4 * m) 0) (b : sibling ≡ getD plan (4 * m + 1) 0) where
       pub nothing-left : sibling ≡ 0 → child ≡ 0 → ToldOf v ps lent codes whole (unrefused changes′)
       nothing-left = children.done-last v ps lent codes whole m child sibling (at .inside) (at .visited) (child-is child c) (sibling-is sibling b) changes goes changes′ seen
 
@@ -124,7 +124,7 @@ module _ {v : Reach} {ps plan codes : List ℕ} {first m : ℕ} (p : VisitFrom v
     abbrev after : ℕ → List ℕ → List ℕ
     after n cs = walkAfter v ps lent (nodesFrom (v .spared) ps n) cs
 
-    module _ (child sibling : ℕ) (c : child ≡ getD plan (3 * m) 0) (b : sibling ≡ getD plan (3 * m + 1) 0) where
+    module _ (child sibling : ℕ) (c : child ≡ getD plan (4 * m) 0) (b : sibling ≡ getD plan (4 * m + 1) 0) where
       pub changed-last : sibling ≡ 0 → child ≡ 0 → codes′ ≡ after m codes
       changed-last = children.changed-last v ps lent codes codes m child sibling (at .inside) (at .visited) (child-is child c) (sibling-is sibling b) codes′ changed-node
 
@@ -142,7 +142,7 @@ pub still : {v : Reach} {ps plan codes codes′ : List ℕ} {first : ℕ} → le
 still {v} {ps} {plan} {codes} {codes′} e p = record { planned = p .planned; ready = ready-again v ps codes codes′ e (p .ready); inside = p .inside; visited = p .visited }
 
 -- fewer nodes are later than a child
-pub fewer : (n first m child : ℕ) → first ≤ m → m < child → 3 * m + 2 < n → n - 3 * child < n - 3 * first
+pub fewer : (n first m child : ℕ) → first ≤ m → m < child → 4 * m + 2 < n → n - 4 * child < n - 4 * first
 fewer n first m child l h i = omega arith
 
 -- ---- what holds at m, whatever tree the plan is of

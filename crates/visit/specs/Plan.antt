@@ -1,4 +1,4 @@
--- The plan of a visit: for node k, three numbers from place 3 * k on.
+-- The plan of a visit: for node k, four places from 4 * k on, of which the last is not used.
 use Prim.Native.Nat.{ℕ, zero, suc, _+_, _*_, _≤_, _<_}
 use mathlib.Core.Path.{_≡_}
 use mathlib.Core.List.{List, [], _∷_}
@@ -23,20 +23,20 @@ nextSibling s ps (suc m) = childFrom s (getD ps (suc m) 0) (suc m + 1) (drop (su
 
 -- what the plan says that node n is to the accessed one
 abbrev pub relationIn : List ℕ → ℕ → NodeRelation
-relationIn plan n = if eqb (getD plan (3 * n + 2) 0) 0 then Foreign else Local
+relationIn plan n = if eqb (getD plan (4 * n + 2) 0) 0 then Foreign else Local
 
 -- each node's first child and next sibling are in the plan; the root has no sibling
 pub record Linked (s : ℕ) (ps plan : List ℕ) : Type 0 where
-  pub first : (k : ℕ) → k < length ps → getD plan (3 * k) 0 ≡ childFrom s k (k + 1) (drop (k + 1) ps)
-  pub next : (k : ℕ) → k < length ps → getD plan (3 * k + 1) 0 ≡ nextSibling s ps k
+  pub first : (k : ℕ) → k < length ps → getD plan (4 * k) 0 ≡ childFrom s k (k + 1) (drop (k + 1) ps)
+  pub next : (k : ℕ) → k < length ps → getD plan (4 * k + 1) 0 ≡ nextSibling s ps k
 
 -- and so is what it is to the accessed node
 abbrev pub TellsPath : ℕ → List ℕ → List ℕ → Type 0
 TellsPath accessed ps plan = (k : ℕ) → k < length ps → relationIn plan k ≡ relation ps k accessed
 
--- a plan has three numbers for each of at most 1,024 nodes
+-- a plan has four places for each of at most 1,024 nodes
 pub record Roomy (ps plan : List ℕ) : Type 0 where
-  pub size : length plan ≡ 3 * length ps
+  pub size : length plan ≡ 4 * length ps
   pub few : length ps ≤ 1024
 
 -- the plan of a visit
@@ -59,5 +59,5 @@ Zeros plan = (i : ℕ) → getD plan i 0 ≡ 0
 -- node m in front of the children of its parent p, but for s
 abbrev pub linkedIn : ℕ → ℕ → ℕ → List ℕ → List ℕ
 linkedIn s p m plan =
-    let followed = set plan (3 * m + 1) (getD plan (3 * p) 0) in
-    if eqb m s then followed else set followed (3 * p) m
+    let followed = set plan (4 * m + 1) (getD plan (4 * p) 0) in
+    if eqb m s then followed else set followed (4 * p) m

@@ -1,7 +1,7 @@
 -- A visit as the code makes it, over the tables. That it is the definition's is shown in the proofs of `tree` (Meaning).
 use Prim.Native.Nat.{ℕ, zero, suc, _+_, _*_, _≤_, _<_}
 use mathlib.Core.Path.{_≡_}
-use mathlib.Core.Bool.{Bool, true, false}
+use mathlib.Core.Bool.{Bool, true, false, _&&_}
 use mathlib.Core.Option.{Option, none, some}
 use mathlib.Core.List.{List, [], _∷_, _++_, map}
 use lib.ListN.{length, getD, take, drop, replicate}
@@ -77,18 +77,6 @@ isStays outcome.Stays = true
 isStays (outcome.Becomes d) = false
 isStays (outcome.Refused n) = false
 
--- ---- codes under one access
--- how many of them stay, from the front on
-unfoldable pub stayingUnder : AccessKind → NodeRelation → List ℕ → ℕ
-stayingUnder a r [] = 0
-stayingUnder a r (c ∷ cs) = if isStays (transitionCode a r c) then suc (stayingUnder a r cs) else 0
-
--- none are counted where each byte has an access of its own
-abbrev pub stayingCount : Accesses → NodeRelation → List ℕ → ℕ
-stayingCount (Each a) r cs = stayingUnder (accessKind a) r cs
-stayingCount accesses.Told r cs = 0
-stayingCount AtInit r cs = 0
-
 -- ---- a row
 -- the first refusal of codes under accesses
 unfoldable pub codesRefusal : NodeRelation → List (Option AccessKind) → List ℕ → ℕ
@@ -102,12 +90,21 @@ codesAfter r xs [] = []
 codesAfter r [] (c ∷ cs) = c ∷ cs
 codesAfter r (x ∷ xs) (c ∷ cs) = nextCode x r c ∷ codesAfter r xs cs
 
+-- whether every code stays
+unfoldable pub codesStay : NodeRelation → List (Option AccessKind) → List ℕ → Bool
+codesStay r xs [] = true
+codesStay r [] (c ∷ cs) = true
+codesStay r (x ∷ xs) (c ∷ cs) = isStays (outcomeAt x r c) && codesStay r xs cs
+
 -- the same of the visited bytes of a row, by themselves
 abbrev pub bytesRefusal : Accesses → List ℕ → NodeRelation → List ℕ → ℕ
 bytesRefusal what lent r cs = codesRefusal r (accessesAt what (length cs) lent) cs
 
 abbrev pub bytesAfter : Accesses → List ℕ → NodeRelation → List ℕ → List ℕ
 bytesAfter what lent r cs = codesAfter r (accessesAt what (length cs) lent) cs
+
+abbrev pub bytesStay : Accesses → List ℕ → NodeRelation → List ℕ → Bool
+bytesStay what lent r cs = codesStay r (accessesAt what (length cs) lent) cs
 
 abbrev pub ToldBytes : Accesses → List ℕ → NodeRelation → List ℕ → Answer → Type 0
 ToldBytes what lent r cs = Told (bytesRefusal what lent r cs) cs (bytesAfter what lent r cs)

@@ -40,11 +40,11 @@ fn apply_from(plan: &[u16], codes: &mut [u8], lent: &[u8], v: Reach, first: usiz
 
 // With a plan, for which zeros are lent.
 fn apply_planned(scratch: &mut [u16], parents: &[u16], codes: &mut [u8], lent: &[u8], v: Reach)
-    requires { ⌜ Zeros (now scratch) × (3 * length (now parents) ≤ length (now scratch)) ⌝ }
+    requires { ⌜ Zeros (now scratch) × (4 * length (now parents) ≤ length (now scratch)) ⌝ }
     requires { ⌜ Ready v (now parents) (now codes) × (0 < v .spared) ⌝ }
     ensures { λ _. ⌜ now (codes .exit) ≡ walkAfter v (now (parents .entry)) (now (lent .entry)) (subtree (v .spared) 0 (now (parents .entry))) (now (codes .entry)) ⌝ }
 {
-    let size = 3 * parents.len();
+    let size = 4 * parents.len();
     make_plan(parents, &mut scratch[..size], v);
     apply_from(&scratch[..size], codes, lent, v, 0);
 }
@@ -55,15 +55,15 @@ pub fn apply(parents: &[u16], codes: &mut [u8], lent: &[u8], v: Reach)
     ensures { λ _. ⌜ now (codes .exit) ≡ walkAfter v (now (parents .entry)) (now (lent .entry)) (subtree (v .spared) 0 (now (parents .entry))) (now (codes .entry)) ⌝ }
 {
     if parents.len() <= 16 {
-        let mut scratch = [0u16; 48];
+        let mut scratch = [0u16; 64];
         apply_planned(&mut scratch, parents, codes, lent, v);
         return;
     }
     if parents.len() <= 128 {
-        let mut scratch = [0u16; 384];
+        let mut scratch = [0u16; 512];
         apply_planned(&mut scratch, parents, codes, lent, v);
         return;
     }
-    let mut scratch = [0u16; 3072];
+    let mut scratch = [0u16; 4096];
     apply_planned(&mut scratch, parents, codes, lent, v);
 }

@@ -59,11 +59,11 @@ fn check_planned(
     lent: &[u8],
     v: Reach,
 ) -> Answer
-    requires { ⌜ Zeros (now scratch) × (3 * length (now parents) ≤ length (now scratch)) ⌝ }
+    requires { ⌜ Zeros (now scratch) × (4 * length (now parents) ≤ length (now scratch)) ⌝ }
     requires { ⌜ Ready v (now parents) (now codes) × (0 < v .spared) ⌝ }
     ensures { λ r. ⌜ ToldOf v (now (parents .entry)) (now (lent .entry)) (now (codes .entry)) (subtree (v .spared) 0 (now (parents .entry))) r ⌝ }
 {
-    let size = 3 * parents.len();
+    let size = 4 * parents.len();
     make_plan(parents, &mut scratch[..size], v);
     check_from(&scratch[..size], codes, lent, v, 0)
 }
@@ -74,14 +74,14 @@ pub fn check(parents: &[u16], codes: &[u8], lent: &[u8], v: Reach) -> Answer
     ensures { λ r. ⌜ ToldOf v (now (parents .entry)) (now (lent .entry)) (now (codes .entry)) (subtree (v .spared) 0 (now (parents .entry))) r ⌝ }
 {
     if parents.len() <= 16 {
-        let mut scratch = [0u16; 48];
+        let mut scratch = [0u16; 64];
         return check_planned(&mut scratch, parents, codes, lent, v);
     }
     if parents.len() <= 128 {
-        let mut scratch = [0u16; 384];
+        let mut scratch = [0u16; 512];
         return check_planned(&mut scratch, parents, codes, lent, v);
     }
-    let mut scratch = [0u16; 3072];
+    let mut scratch = [0u16; 4096];
     check_planned(&mut scratch, parents, codes, lent, v)
 }
 

@@ -1,5 +1,6 @@
-// The plan of a visit: three numbers for each node: its first child, its next sibling, both without the spared node (0 for none: the root is
-// nobody's child), and whether it is on the path from the accessed node to the root. It is made once for a visit.
+// The plan of a visit: for each node its first child, its next sibling, both without the spared node (0 for none: the root is nobody's child),
+// and whether it is on the path from the accessed node to the root. A node has four places, of which the last is not used: they are found by a
+// shift. The plan is made once for a visit.
 use crate::Reach;
 use permission::NodeRelation;
 ghost use mathlib.Core.Path.{_≡_};
@@ -16,25 +17,25 @@ fn wide(x: u16) -> usize
 }
 
 pub(crate) fn first_child(plan: &[u16], n: usize) -> usize
-    requires { ⌜ (3 * n + 2 < length (now plan)) × (length (now plan) ≤ 3072) ⌝ }
-    ensures { λ r. ⌜ r ≡ getD (now (plan .entry)) (3 * n) 0 ⌝ }
+    requires { ⌜ (4 * n + 2 < length (now plan)) × (length (now plan) ≤ 4096) ⌝ }
+    ensures { λ r. ⌜ r ≡ getD (now (plan .entry)) (4 * n) 0 ⌝ }
 {
-    wide(plan[3 * n])
+    wide(plan[4 * n])
 }
 
 pub(crate) fn next_sibling(plan: &[u16], n: usize) -> usize
-    requires { ⌜ (3 * n + 2 < length (now plan)) × (length (now plan) ≤ 3072) ⌝ }
-    ensures { λ r. ⌜ r ≡ getD (now (plan .entry)) (3 * n + 1) 0 ⌝ }
+    requires { ⌜ (4 * n + 2 < length (now plan)) × (length (now plan) ≤ 4096) ⌝ }
+    ensures { λ r. ⌜ r ≡ getD (now (plan .entry)) (4 * n + 1) 0 ⌝ }
 {
-    wide(plan[3 * n + 1])
+    wide(plan[4 * n + 1])
 }
 
 // What a node is to the accessed one.
 pub fn relation(plan: &[u16], n: usize) -> NodeRelation
-    requires { ⌜ (3 * n + 2 < length (now plan)) × (length (now plan) ≤ 3072) ⌝ }
+    requires { ⌜ (4 * n + 2 < length (now plan)) × (length (now plan) ≤ 4096) ⌝ }
     ensures { λ r. ⌜ nodeRelation r ≡ relationIn (now (plan .entry)) n ⌝ }
 {
-    if plan[3 * n + 2] == 0 {
+    if plan[4 * n + 2] == 0 {
         return NodeRelation::Foreign;
     }
     NodeRelation::Local
@@ -42,16 +43,16 @@ pub fn relation(plan: &[u16], n: usize) -> NodeRelation
 
 // Node m in front of the children of its parent that are linked; the spared one is passed by.
 fn link(plan: &mut [u16], parent: usize, m: usize, spared: usize)
-    requires { ⌜ (parent < m) × (3 * m + 2 < length (now plan)) × (length (now plan) ≤ 3072) ⌝ }
+    requires { ⌜ (parent < m) × (4 * m + 2 < length (now plan)) × (length (now plan) ≤ 4096) ⌝ }
     ensures { λ _. ⌜ now (plan .exit) ≡ linkedIn spared parent m (now (plan .entry)) ⌝ }
 {
-    plan[3 * m + 1] = plan[3 * parent];
+    plan[4 * m + 1] = plan[4 * parent];
     if m != spared {
-        plan[3 * parent] = m as u16;
+        plan[4 * parent] = m as u16;
     }
 }
 
-// The plan, in a part of zeros that has three numbers for each node: made from the last node down, each linked in front of those made after it. The
+// The plan, in a part of zeros that has four places for each node: made from the last node down, each linked in front of those made after it. The
 // path is met on the way: from the accessed node on, the next node of it is a parent, and so further down.
 pub fn make_plan(parents: &[u16], plan: &mut [u16], v: Reach)
     requires { ⌜ Parents (now parents) × (v .node < length (now parents)) ⌝ }
@@ -66,7 +67,7 @@ pub fn make_plan(parents: &[u16], plan: &mut [u16], v: Reach)
         let parent = wide(parents[m]);
         link(plan, parent, m, spared);
         if m == on {
-            plan[3 * m + 2] = 1;
+            plan[4 * m + 2] = 1;
             on = parent;
         }
     }

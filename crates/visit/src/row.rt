@@ -10,11 +10,13 @@ use permission::Outcome;
 ghost use mathlib.Core.Path.{_≡_};
 ghost use mathlib.Core.Bool.{true, false};
 ghost use mathlib.Core.Option.{none};
+ghost use mathlib.Core.List.{List, []};
 ghost use Prim.Native.Nat.{ℕ, _+_, _*_, _≤_, _<_};
 ghost use lib.ListN.{length, getD};
 ghost use Rattle.definition.specs.Permission.NodeRelation.{Local, Foreign};
 ghost use Rattle.permission.specs.Codes.{accessKind, maybeAccess, nodeRelation};
-ghost use Rattle.visit.specs.Walk.{SameVisit, ToldBytes, ToldRow, accessAt, bytesAfter, isStays, outcomeAt, rowAfter, rowAt, stayingCount, stayingUnder, toldAccess, withRowAt};
+ghost use Rattle.visit.specs.Walk.{SameVisit, ToldBytes, ToldRow, accessAt, bytesAfter, bytesStay, isStays, outcomeAt, rowAfter, rowAt, toldAccess, withRowAt};
+ghost use Rattle.visit.specs.declared.Accesses.the-variants.{Each};
 
 // ---- the accesses at the visited bytes
 // The lent number at the k-th of them, 0 where there is none.
@@ -97,7 +99,7 @@ pub fn settled(lent: &[u8], v: Reach) -> Reach
     }
 }
 
-// ---- codes under one access: how many of them stay, from the front on
+// ---- one code
 fn stays(outcome: Outcome) -> bool
     ensures { λ r. ⌜ r ≡ isStays outcome ⌝ }
 {
@@ -108,53 +110,6 @@ fn stays(outcome: Outcome) -> bool
     }
 }
 
-fn staying_local(row: &[u8], kind: AccessKind) -> usize
-    ensures { λ r. ⌜ r ≡ stayingUnder (accessKind kind) Local (now (row .entry)) ⌝ }
-{
-    let mut k = 0;
-    while k < row.len() {
-        if !stays(permission::local(row[k], kind)) {
-            return k;
-        }
-        k += 1;
-    }
-    k
-}
-
-fn staying_foreign(row: &[u8], kind: AccessKind) -> usize
-    ensures { λ r. ⌜ r ≡ stayingUnder (accessKind kind) Foreign (now (row .entry)) ⌝ }
-{
-    let mut k = 0;
-    while k < row.len() {
-        if !stays(permission::foreign(row[k], kind)) {
-            return k;
-        }
-        k += 1;
-    }
-    k
-}
-
-fn staying_under(row: &[u8], kind: AccessKind, relation: NodeRelation) -> usize
-    ensures { λ r. ⌜ r ≡ stayingUnder (accessKind kind) (nodeRelation relation) (now (row .entry)) ⌝ }
-{
-    match relation {
-        NodeRelation::Local => staying_local(row, kind),
-        NodeRelation::Foreign => staying_foreign(row, kind),
-    }
-}
-
-// None are counted where each byte has an access of its own.
-fn staying(row: &[u8], what: Accesses, relation: NodeRelation) -> usize
-    ensures { λ r. ⌜ r ≡ stayingCount what (nodeRelation relation) (now (row .entry)) ⌝ }
-{
-    match what {
-        Accesses::Each(kind) => staying_under(row, kind, relation),
-        Accesses::Told => 0,
-        Accesses::AtInit => 0,
-    }
-}
-
-// ---- the visited bytes of a row, one by one
 fn outcome(code: u8, access: MaybeAccess, relation: NodeRelation) -> Outcome
     ensures { λ r. ⌜ r ≡ outcomeAt (maybeAccess access) (nodeRelation relation) code ⌝ }
 {
@@ -164,6 +119,113 @@ fn outcome(code: u8, access: MaybeAccess, relation: NodeRelation) -> Outcome
     }
 }
 
+// ---- whether every code of a row stays
+// Under one access, up to the first that does not.
+fn stay_local(row: &[u8], kind: AccessKind) -> bool
+    ensures { λ r. ⌜ r ≡ bytesStay (Each kind) [] Local (now (row .entry)) ⌝ }
+{
+    let mut k = 0;
+    while k < row.len() {
+        if !stays(permission::local(row[k], kind)) {
+            return false;
+        }
+        k += 1;
+    }
+    true
+}
+
+fn stay_foreign(row: &[u8], kind: AccessKind) -> bool
+    ensures { λ r. ⌜ r ≡ bytesStay (Each kind) [] Foreign (now (row .entry)) ⌝ }
+{
+    let mut k = 0;
+    while k < row.len() {
+        if !stays(permission::foreign(row[k], kind)) {
+            return false;
+        }
+        k += 1;
+    }
+    true
+}
+
+fn stay_under(row: &[u8], kind: AccessKind, relation: NodeRelation) -> bool
+    ensures { λ r. ⌜ r ≡ bytesStay (Each kind) [] (nodeRelation relation) (now (row .entry)) ⌝ }
+{
+    match relation {
+        NodeRelation::Local => stay_local(row, kind),
+        NodeRelation::Foreign => stay_foreign(row, kind),
+    }
+}
+
+// It is not asked where bytes have accesses of their own.
+fn short_stays(row: &[u8], what: Accesses, relation: NodeRelation) -> bool
+    ensures { λ r. ⌜ (r ≡ true → (lent : List ℕ) → bytesStay what lent (nodeRelation relation) (now (row .entry)) ≡ true) ⌝ }
+{
+    match what {
+        Accesses::Each(kind) => stay_under(row, kind, relation),
+        Accesses::Told => false,
+        Accesses::AtInit => false,
+    }
+}
+
+// The same of a long row: no way leads out of the loop, so that the compiler makes vector code of it.
+fn long_local(row: &[u8], kind: AccessKind) -> bool
+    ensures { λ r. ⌜ r ≡ bytesStay (Each kind) [] Local (now (row .entry)) ⌝ }
+{
+    let mut all = true;
+    let mut k = 0;
+    while k < row.len() {
+        all = all & stays(permission::local(row[k], kind));
+        k += 1;
+    }
+    all
+}
+
+fn long_foreign(row: &[u8], kind: AccessKind) -> bool
+    ensures { λ r. ⌜ r ≡ bytesStay (Each kind) [] Foreign (now (row .entry)) ⌝ }
+{
+    let mut all = true;
+    let mut k = 0;
+    while k < row.len() {
+        all = all & stays(permission::foreign(row[k], kind));
+        k += 1;
+    }
+    all
+}
+
+fn long_under(row: &[u8], kind: AccessKind, relation: NodeRelation) -> bool
+    ensures { λ r. ⌜ r ≡ bytesStay (Each kind) [] (nodeRelation relation) (now (row .entry)) ⌝ }
+{
+    match relation {
+        NodeRelation::Local => long_local(row, kind),
+        NodeRelation::Foreign => long_foreign(row, kind),
+    }
+}
+
+// Under accesses of their own.
+fn long_told(row: &[u8], lent: &[u8], what: Accesses, relation: NodeRelation) -> bool
+    ensures { λ r. ⌜ r ≡ bytesStay what (now (lent .entry)) (nodeRelation relation) (now (row .entry)) ⌝ }
+{
+    let mut all = true;
+    let mut k = 0;
+    while k < row.len() {
+        all = all & stays(outcome(row[k], access_at(what, lent, k), relation));
+        k += 1;
+    }
+    all
+}
+
+// Both passes ask it of a long row. So it stays a function by itself, and its vectors take no registers from the recursion.
+fn long_stays(row: &[u8], lent: &[u8], what: Accesses, relation: NodeRelation) -> bool
+    ensures { λ r. ⌜ r ≡ bytesStay what (now (lent .entry)) (nodeRelation relation) (now (row .entry)) ⌝ }
+{
+    match what {
+        Accesses::Each(kind) => long_under(row, kind, relation),
+        Accesses::Told => long_told(row, lent, what, relation),
+        Accesses::AtInit => long_told(row, lent, what, relation),
+    }
+}
+
+// ---- the visited bytes of a row, one by one
 fn check_bytes(row: &[u8], lent: &[u8], what: Accesses, relation: NodeRelation) -> Answer
     ensures { λ r. ⌜ ToldBytes what (now (lent .entry)) (nodeRelation relation) (now (row .entry)) r ⌝ }
 {
@@ -194,15 +256,34 @@ fn apply_bytes(row: &mut [u8], lent: &[u8], what: Accesses, relation: NodeRelati
     }
 }
 
-// The codes that stay are passed over; from the first that does not, byte by byte.
+// ---- a row
 fn check_row(row: &[u8], lent: &[u8], what: Accesses, relation: NodeRelation) -> Answer
     ensures { λ r. ⌜ ToldBytes what (now (lent .entry)) (nodeRelation relation) (now (row .entry)) r ⌝ }
 {
-    let k = staying(row, what, relation);
-    if k == row.len() {
+    let size = row.len();
+    if 16 <= size {
+        let told = lent.len();
+        if long_stays(&row[..size], &lent[..told], what, relation) {
+            return Answer::Stays;
+        }
+    }
+    if short_stays(row, what, relation) {
         return Answer::Stays;
     }
-    check_bytes(&row[k..], lent, what, relation)
+    check_bytes(row, lent, what, relation)
+}
+
+// A long row of which every code stays is left alone.
+fn apply_row(row: &mut [u8], lent: &[u8], what: Accesses, relation: NodeRelation)
+    ensures { λ _. ⌜ now (row .exit) ≡ bytesAfter what (now (lent .entry)) (nodeRelation relation) (now (row .entry)) ⌝ }
+{
+    if 16 <= row.len() {
+        let told = lent.len();
+        if long_stays(row, &lent[..told], what, relation) {
+            return;
+        }
+    }
+    apply_bytes(row, lent, what, relation);
 }
 
 // ---- the row of node n in a table: its visited bytes are the part that is handed on
@@ -229,5 +310,5 @@ pub(crate) fn apply_at(codes: &mut [u8], lent: &[u8], v: Reach, n: usize, relati
     let what = v.what;
     let start = n * v.width + v.from;
     let end = start + v.len;
-    apply_bytes(&mut codes[start..end], lent, what, relation);
+    apply_row(&mut codes[start..end], lent, what, relation);
 }

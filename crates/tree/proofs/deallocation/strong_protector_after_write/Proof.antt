@@ -9,7 +9,7 @@ slice-aggregate-strong-protector-planned : tie.Need-slice-aggregate-strong-prote
 slice-aggregate-strong-protector-planned c = search needs
 
 strong-protector-planned-requires : tie.Need-strong-protector-planned-requires
-strong-protector-planned-requires c κs = let s = c .before .before .before .before in ((zeros 3072, omega (arith, s .pre .0 .1 .holds .few)), s .pre)
+strong-protector-planned-requires c κs = let s = c .before .before .before .before in ((zeros 4096, omega (arith, s .pre .0 .1 .holds .few)), s .pre)
 
 returns : tie.Need-returns
 returns c = search needs

@@ -1,4 +1,4 @@
--- The part of the scratch that the plan takes has three numbers for each node.
+-- The part of the scratch that the plan takes has four places for each node.
 use Prim.Native.Nat.{_*_}
 use mathlib.Core.Path.{sym, _∙_}
 use lib.Seq.{length-take-le}
@@ -17,13 +17,13 @@ slice-relend-prefix-make-plan c = search needs
 slice-aggregate-make-plan : tie.Need-slice-aggregate-make-plan
 slice-aggregate-make-plan c =
     let s = c .before .before .before .before .before in
-    sym (length-take-le (3 * length (s .args .parents .now)) (s .args .scratch .now) (s .pre .0 .1))
+    sym (length-take-le (4 * length (s .args .parents .now)) (s .args .scratch .now) (s .pre .0 .1))
 
 make-plan-requires : tie.Need-make-plan-requires
 make-plan-requires c κs =
     let s = c .before .before .before .before .before in
     let tree = s .pre .1 .0 .1 .holds in
-    let size = 3 * length (s .args .parents .now) in (
+    let size = 4 * length (s .args .parents .now) in (
       (tree .earlier, s .pre .1 .1),
       (record { size = length-take-le size (s .args .scratch .now) (s .pre .0 .1); few = tree .few }, zeros-taken (s .args .scratch .now) size (s .pre .0 .0)),
     )
@@ -36,7 +36,7 @@ slice-aggregate-strong-protector-in c =
     let made = c .before .before .before in
     let call = made .make-plan in
     let s = made .before .before .before .before .before .before in
-    let size = 3 * length (s .args .parents .now) in
+    let size = 4 * length (s .args .parents .now) in
     let long = call .kept .1 .0 ∙ length-take-le size (s .args .scratch .now) (s .pre .0 .1) in
     lent-long (call .last .1 .0) (drop size (s .args .scratch .now)) size long
 
@@ -45,7 +45,7 @@ strong-protector-in-requires c κs =
     let made = c .before .before .before in
     let call = made .make-plan in
     let s = made .before .before .before .before .before .before in
-    let size = 3 * length (s .args .parents .now) in
+    let size = 4 * length (s .args .parents .now) in
     let long = call .kept .1 .0 ∙ length-take-le size (s .args .scratch .now) (s .pre .0 .1) in
     (s .pre .1 .0, planned-lent _ (s .args .parents .now) (call .last .1 .0) (drop size (s .args .scratch .now)) size long (call .ensures) .room)
 
@@ -57,7 +57,7 @@ returns c =
     let made = c .before .before .before .before in
     let call = made .make-plan in
     let s = made .before .before .before .before .before .before in
-    let size = 3 * length (s .args .parents .now) in
+    let size = 4 * length (s .args .parents .now) in
     let long = call .kept .1 .0 ∙ length-take-le size (s .args .scratch .now) (s .pre .0 .1) in
     c .strong-protector-in .ensures (s .args .node) (planned-lent _ (s .args .parents .now) (call .last .1 .0) (drop size (s .args .scratch .now)) size long (call .ensures) .path)
 

@@ -18,7 +18,7 @@ use Rattle.visit.proofs.apply_pass.+apply_from.{statement}
 use Rattle.visit.proofs.apply_pass.+apply_from.Tie.{close}
 
 abbrev μ-apply-from : Measures 3 apply-from-kinds.ps ℕ
-μ-apply-from κs a = length (a .0 .now) - 3 * a .1 .1 .1 .1 .0
+μ-apply-from κs a = length (a .0 .now) - 4 * a .1 .1 .1 .1 .0
 
 abbrev apply-from-at : ℕ → In 3 apply-from-kinds.ps
 apply-from-at t =
@@ -37,7 +37,7 @@ apply-from-Inv-loop plan codes₀ lent v first size m₀ codes m =
     Applying plan codes₀ lent v first m codes × (length codes ≡ length codes₀)
 
 abbrev apply-from-μ-loop : apply-from-lts.MeasureT-loop
-apply-from-μ-loop plan codes₀ lent v first size m₀ codes m = length plan - 3 * m
+apply-from-μ-loop plan codes₀ lent v first size m₀ codes m = length plan - 4 * m
 
 apply-from-loop-holds : (t : ℕ) → apply-from-lts.Need-loop-holds (claims t) (apply-from-at t) apply-from.Post apply-from-Inv-loop apply-from-μ-loop
 apply-from-loop-holds t c = (λ ps p. (at-first p, refl), refl)
@@ -133,7 +133,7 @@ apply-from-apply-from-requires t c κs =
     let s = l .before .before .before .before in
     let q = s .pre .1 in let i₀ = l .loop .inv .0 (q .0) (q .1) in
     let below = at-child (q .1) (i₀ .0) (child .first-child .result) (child .first-child .ensures) (c .before .before .if3 .taken) in
-    (subst (λ (n : ℕ). n - 3 * child .first-child .result < t) (as-long (s .args .plan .now)) (subst (λ (k : ℕ). length (s .args .plan .now) - 3 * child .first-child .result < k) (s .pre .0) (fewer (length (s .args .plan .now)) (s .args .first) (l .loop .m) (child .first-child .result) (i₀ .0 .later) (below .0) (planned-here (q .1) (i₀ .0) .0))), (q .0, from-child (q .1) (i₀ .0) (child .first-child .result) (child .first-child .ensures) (c .before .before .if3 .taken) _ (changed .apply-at .kept .0 ∙ l .loop .inv .1)))
+    (subst (λ (n : ℕ). n - 4 * child .first-child .result < t) (as-long (s .args .plan .now)) (subst (λ (k : ℕ). length (s .args .plan .now) - 4 * child .first-child .result < k) (s .pre .0) (fewer (length (s .args .plan .now)) (s .args .first) (l .loop .m) (child .first-child .result) (i₀ .0 .later) (below .0) (planned-here (q .1) (i₀ .0) .0))), (q .0, from-child (q .1) (i₀ .0) (child .first-child .result) (child .first-child .ensures) (c .before .before .if3 .taken) _ (changed .apply-at .kept .0 ∙ l .loop .inv .1)))
 
 apply-from-loop-less-2 : (t : ℕ) → apply-from-lts.Need-loop-less-2 (claims t) (apply-from-at t) apply-from.Post apply-from-Inv-loop apply-from-μ-loop
 apply-from-loop-less-2 t c =

@@ -9,7 +9,7 @@ slice-aggregate-apply-planned : tie.Need-slice-aggregate-apply-planned
 slice-aggregate-apply-planned c = search needs
 
 apply-planned-requires : tie.Need-apply-planned-requires
-apply-planned-requires c κs = let s = c .before .before .before .before .before .before in ((zeros 48, omega arith), s .pre)
+apply-planned-requires c κs = let s = c .before .before .before .before .before .before in ((zeros 64, omega arith), s .pre)
 
 same-length : tie.Need-same-length
 same-length c = search needs
@@ -24,7 +24,7 @@ apply-planned-requires-2 : tie.Need-apply-planned-requires-2
 apply-planned-requires-2 c κs =
     let longer = c .before .before in
     let s = longer .before .before .before .before .before in
-    ((zeros 384, omega arith), s .pre)
+    ((zeros 512, omega arith), s .pre)
 
 same-length-2 : tie.Need-same-length-2
 same-length-2 c = search needs
@@ -39,7 +39,7 @@ apply-planned-requires-3 : tie.Need-apply-planned-requires-3
 apply-planned-requires-3 c κs =
     let longer = c .before .before in
     let s = longer .before .before .before .before .before in
-    ((zeros 3072, omega (arith, s .pre .0 .few)), s .pre)
+    ((zeros 4096, omega (arith, s .pre .0 .few)), s .pre)
 
 same-length-3 : tie.Need-same-length-3
 same-length-3 c = search needs

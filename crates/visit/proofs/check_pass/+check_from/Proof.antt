@@ -21,7 +21,7 @@ use Rattle.visit.proofs.check_pass.+check_from.{statement}
 use Rattle.visit.proofs.check_pass.+check_from.Tie.{close}
 
 abbrev μ-check-from : Measures 3 check-from-kinds.ps ℕ
-μ-check-from κs a = length (a .0 .now) - 3 * a .1 .1 .1 .1 .0
+μ-check-from κs a = length (a .0 .now) - 4 * a .1 .1 .1 .1 .0
 
 abbrev check-from-at : ℕ → In 3 check-from-kinds.ps
 check-from-at t =
@@ -40,7 +40,7 @@ check-from-Inv-loop plan codes lent v first size changes₀ m₀ changes m =
     Checking plan codes lent v first m changes
 
 abbrev check-from-μ-loop : check-from-lts.MeasureT-loop
-check-from-μ-loop plan codes lent v first size changes₀ m₀ changes m = length plan - 3 * m
+check-from-μ-loop plan codes lent v first size changes₀ m₀ changes m = length plan - 4 * m
 
 check-from-loop-holds : (t : ℕ) → check-from-lts.Need-loop-holds (claims t) (check-from-at t) check-from.Post check-from-Inv-loop check-from-μ-loop
 check-from-loop-holds t c = let s = c .before .before .before in λ ps p. (at-first p, (refl, λ z. refl))
@@ -155,7 +155,7 @@ check-from-check-from-requires t c κs =
     let s = l .before .before .before .before in
     let q = s .pre .1 in let i₀ = l .loop .inv (q .0) (q .1) in
     let below = at-child (q .1) (i₀ .0) (child .first-child .result) (child .first-child .ensures) (c .before .if3 .taken) in
-    (subst (λ (n : ℕ). n - 3 * child .first-child .result < t) (as-long (s .args .plan .now)) (subst (λ (k : ℕ). length (s .args .plan .now) - 3 * child .first-child .result < k) (s .pre .0) (fewer (length (s .args .plan .now)) (s .args .first) (l .loop .m) (child .first-child .result) (i₀ .0 .later) (below .0) (planned-here (q .1) (i₀ .0) .0))), (q .0, from-child (q .1) (i₀ .0) (child .first-child .result) (child .first-child .ensures) (c .before .if3 .taken) _ refl))
+    (subst (λ (n : ℕ). n - 4 * child .first-child .result < t) (as-long (s .args .plan .now)) (subst (λ (k : ℕ). length (s .args .plan .now) - 4 * child .first-child .result < k) (s .pre .0) (fewer (length (s .args .plan .now)) (s .args .first) (l .loop .m) (child .first-child .result) (i₀ .0 .later) (below .0) (planned-here (q .1) (i₀ .0) .0))), (q .0, from-child (q .1) (i₀ .0) (child .first-child .result) (child .first-child .ensures) (c .before .if3 .taken) _ refl))
 
 check-from-enum-told-3 : (t : ℕ) → check-from-lts.Need-enum-told-3 (claims t) (check-from-at t) check-from.Post check-from-Inv-loop check-from-μ-loop
 check-from-enum-told-3 t c = search needs

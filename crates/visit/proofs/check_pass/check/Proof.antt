@@ -9,7 +9,7 @@ slice-aggregate-check-planned : tie.Need-slice-aggregate-check-planned
 slice-aggregate-check-planned c = search needs
 
 check-planned-requires : tie.Need-check-planned-requires
-check-planned-requires c κs = let s = c .before .before .before .before .before in ((zeros 48, omega arith), s .pre)
+check-planned-requires c κs = let s = c .before .before .before .before .before in ((zeros 64, omega arith), s .pre)
 
 returns : tie.Need-returns
 returns c = search needs
@@ -18,7 +18,7 @@ slice-aggregate-check-planned-2 : tie.Need-slice-aggregate-check-planned-2
 slice-aggregate-check-planned-2 c = search needs
 
 check-planned-requires-2 : tie.Need-check-planned-requires-2
-check-planned-requires-2 c κs = let s = c .before .before .before .before .before .before in ((zeros 384, omega arith), s .pre)
+check-planned-requires-2 c κs = let s = c .before .before .before .before .before .before in ((zeros 512, omega arith), s .pre)
 
 returns-2 : tie.Need-returns-2
 returns-2 c = search needs
@@ -27,7 +27,7 @@ slice-aggregate-check-planned-3 : tie.Need-slice-aggregate-check-planned-3
 slice-aggregate-check-planned-3 c = search needs
 
 check-planned-requires-3 : tie.Need-check-planned-requires-3
-check-planned-requires-3 c κs = let s = c .before .before .before .before .before .before in ((zeros 3072, omega (arith, s .pre .0 .few)), s .pre)
+check-planned-requires-3 c κs = let s = c .before .before .before .before .before .before in ((zeros 4096, omega (arith, s .pre .0 .few)), s .pre)
 
 returns-3 : tie.Need-returns-3
 returns-3 c = search needs

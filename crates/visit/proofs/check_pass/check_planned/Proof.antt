@@ -1,4 +1,4 @@
--- The part of the scratch that the plan takes has three numbers for each node.
+-- The part of the scratch that the plan takes has four places for each node.
 use Prim.Native.Nat.{ℕ, _*_}
 use mathlib.Core.List.{List}
 use mathlib.Core.Path.{sym, subst, _∙_}
@@ -21,12 +21,12 @@ slice-relend-prefix-make-plan c = search needs
 slice-aggregate-make-plan : tie.Need-slice-aggregate-make-plan
 slice-aggregate-make-plan c =
     let s = c .before .before .before .before .before in
-    sym (length-take-le (3 * length (s .args .parents .now)) (s .args .scratch .now) (s .pre .0 .1))
+    sym (length-take-le (4 * length (s .args .parents .now)) (s .args .scratch .now) (s .pre .0 .1))
 
 make-plan-requires : tie.Need-make-plan-requires
 make-plan-requires c κs =
     let s = c .before .before .before .before .before in
-    let size = 3 * length (s .args .parents .now) in (
+    let size = 4 * length (s .args .parents .now) in (
       (s .pre .1 .0 .tree, s .pre .1 .0 .node),
       (record { size = length-take-le size (s .args .scratch .now) (s .pre .0 .1); few = s .pre .1 .0 .few }, zeros-taken (s .args .scratch .now) size (s .pre .0 .0)),
     )
@@ -39,7 +39,7 @@ slice-aggregate-check-from c =
     let made = c .before .before .before in
     let call = made .make-plan in
     let s = made .before .before .before .before .before .before in
-    let size = 3 * length (s .args .parents .now) in
+    let size = 4 * length (s .args .parents .now) in
     let long = call .kept .1 .0 ∙ length-take-le size (s .args .scratch .now) (s .pre .0 .1) in
     lent-long (call .last .1 .0) (drop size (s .args .scratch .now)) size long
 
@@ -48,7 +48,7 @@ check-from-requires c κs =
     let made = c .before .before .before in
     let call = made .make-plan in
     let s = made .before .before .before .before .before .before in
-    let size = 3 * length (s .args .parents .now) in
+    let size = 4 * length (s .args .parents .now) in
     let long = call .kept .1 .0 ∙ length-take-le size (s .args .scratch .now) (s .pre .0 .1) in
     (s .args .parents .now, record { planned = planned-lent (s .args .v) (s .args .parents .now) (call .last .1 .0) (drop size (s .args .scratch .now)) size long (call .ensures); ready = s .pre .1 .0; inside = omega (arith, s .pre .1 .0 .node); visited = λ e. absurd (omega (arith, s .pre .1 .1, e)) })
 
@@ -60,7 +60,7 @@ returns c =
     let made = c .before .before .before .before in
     let call = made .make-plan in
     let s = made .before .before .before .before .before .before in
-    let size = 3 * length (s .args .parents .now) in
+    let size = 4 * length (s .args .parents .now) in
     let long = call .kept .1 .0 ∙ length-take-le size (s .args .scratch .now) (s .pre .0 .1) in
     subst (λ (ns : List ℕ). ToldOf (s .args .v) (s .args .parents .now) (s .args .lent .now) (s .args .codes .now) ns (c .check-from .result)) (nodes-root (s .args .v .spared) (s .args .parents .now))
     (c .check-from .ensures (s .args .parents .now) (record { planned = planned-lent (s .args .v) (s .args .parents .now) (call .last .1 .0) (drop size (s .args .scratch .now)) size long (call .ensures); ready = s .pre .1 .0; inside = omega (arith, s .pre .1 .0 .node); visited = λ e. absurd (omega (arith, s .pre .1 .1, e)) }))

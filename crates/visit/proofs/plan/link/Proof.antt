@@ -38,7 +38,7 @@ mul-plan-6 : tie.Need-mul-plan-6
 mul-plan-6 c = search needs
 
 slice-write-plan-2 : tie.Need-slice-write-plan-2
-slice-write-plan-2 c = omega (arith, length-set (c .before .before .args .plan .now) (3 * c .before .before .args .m + 1) (getD (c .before .before .args .plan .now) (3 * c .before .before .args .parent) 0))
+slice-write-plan-2 c = omega (arith, length-set (c .before .before .args .plan .now) (4 * c .before .before .args .m + 1) (getD (c .before .before .args .plan .now) (4 * c .before .before .args .parent) 0))
 
 same-length : tie.Need-same-length
 same-length c = search needs

@@ -78,7 +78,7 @@ loop-again c = let linked = c .before .before .before in
     subst (λ (q : List ℕ). Traced ps (s .args .v .node) q (l .loop .on)) (sym (link .ensures)) (traced-linked ps (s .pre .0 .0) (s .args .v .node) (s .args .v .spared) (wide .result) m (l .loop .plan) (l .loop .on) (l .loop .inv .4)) in (
       omega arith,
       omega (arith, wide .ensures, parent-earlier ps (s .pre .0 .0) m (omega arith)),
-      length-set plan (3 * m + 2) 1 ∙ long,
+      length-set plan (4 * m + 2) 1 ∙ long,
       links-left (s .args .v .spared) ps plan m m (links),
       traced-up ps (s .pre .0 .0) (s .args .v .node) plan m (omega (arith, long, l .loop .inv .0, s .pre .1 .0 .size)) (subst (Traced ps (s .args .v .node) plan) (sym (c .if1 .taken)) (traced)) (omega arith) (wide .result) (wide .ensures),
     )
@@ -119,7 +119,7 @@ returns c = let l = c .before in
     let plan = l .loop .plan in
     let tree = s .pre .0 .0 in
     let root : l .loop .on ≡ 0 = omega (arith, l .loop .inv .1) in
-    let long : length plan ≡ 3 * length ps = l .loop .inv .2 ∙ s .pre .1 .0 .size in
+    let long : length plan ≡ 4 * length ps = l .loop .inv .2 ∙ s .pre .1 .0 .size in
     record {
       room = record { size = length-set plan 2 1 ∙ long; few = s .pre .1 .0 .few };
       links = linked (s .args .v .spared) ps tree (set plan 2 1) (l .loop .m) (omega arith) (λ q. omega (arith, l .loop .inv .1)) (links-left (s .args .v .spared) ps plan (l .loop .m) 0 (l .loop .inv .3));

@@ -13,7 +13,7 @@ use Rattle.visit.proofs.row.apply_at.Statement.{statement}
 use Rattle.visit.proofs.row.apply_at.Tie as tie
 
 -- the state at the entry, as it is known behind the change
-abbrev entry : tie.After-apply-bytes → tie.Start
+abbrev entry : tie.After-apply-row → tie.Start
 entry c = let cut = c .before .before in cut .before .before .before .before .before
 
 mul-start : tie.Need-mul-start
@@ -25,17 +25,17 @@ add-start c = search needs
 add-end : tie.Need-add-end
 add-end c = search needs
 
-sub-apply-bytes : tie.Need-sub-apply-bytes
-sub-apply-bytes c = search needs
+sub-apply-row : tie.Need-sub-apply-row
+sub-apply-row c = search needs
 
-part-apply-bytes-start : tie.Need-part-apply-bytes-start
-part-apply-bytes-start c = search needs
+part-apply-row-start : tie.Need-part-apply-row-start
+part-apply-row-start c = search needs
 
-part-apply-bytes-end : tie.Need-part-apply-bytes-end
-part-apply-bytes-end c = search needs
+part-apply-row-end : tie.Need-part-apply-row-end
+part-apply-row-end c = search needs
 
-apply-bytes-requires : tie.Need-apply-bytes-requires
-apply-bytes-requires c κs = search needs
+apply-row-requires : tie.Need-apply-row-requires
+apply-row-requires c κs = search needs
 
 same-length : tie.Need-same-length
 same-length c = search needs
@@ -46,7 +46,7 @@ returns c = let s = entry (c .before .before) in
     let codes = s .args .codes .now in
     let r = nodeRelation (s .args .relation) in
     let row = rowAt (v .width) (s .args .n) codes in
-    let given = c .before .before .apply-bytes in
+    let given = c .before .before .apply-row in
     let inside : v .from + v .len ≤ length row = omega (arith, row-length (v .width) (s .args .n) codes (s .pre .0), s .pre .1) in
     let changed = given .ensures ∙ ap (bytesAfter (v .what) (s .args .lent .now) r) (part-bytes (v .width) (s .args .n) (v .from) (v .len) codes (s .pre .0) (s .pre .1)) in
     put-bytes (v .width) (s .args .n) (v .from) (v .len) codes (s .pre .0) (s .pre .1) (given .last .0)
@@ -60,9 +60,9 @@ apply-at-spec =
     mul-start
     add-start
     add-end
-    sub-apply-bytes
-    part-apply-bytes-start
-    part-apply-bytes-end
-    apply-bytes-requires
+    sub-apply-row
+    part-apply-row-start
+    part-apply-row-end
+    apply-row-requires
     same-length
     returns)

@@ -1,56 +1,64 @@
--- Behind the codes that stay.
-use Prim.Native.Nat.{ℕ, _-_}
+-- Rows that stay have nothing refused or changed.
+use Prim.Native.Nat.{ℕ}
+use mathlib.Core.Path.{_≡_, sym, subst₂, _∙_}
+use mathlib.Core.Bool.{true}
 use mathlib.Core.List.{List}
-use mathlib.Core.Path.{subst}
-use lib.ListN.{length, drop, length-drop}
-use lib.Seq.{take-all}
+use lib.ListN.{length}
+use lib.Seq.{take-length}
 use Rattle.permission.specs.Codes.{nodeRelation}
-use Rattle.visit.specs.Walk.{ToldBytes}
-use Rattle.visit.proofs.Rows.{all-stay, behind-told, count-within}
+use Rattle.visit.specs.Walk.{accessesAt, bytesStay}
+use Rattle.visit.proofs.Rows.{stay-told}
+use Rattle.visit.proofs.Turns.{as-long}
 use borrow.Author.Needs.{needs}
 use native.Mathlib.Omega.{arith}
 use Rattle.visit.proofs.row.check_row.Statement.{statement}
 use Rattle.visit.proofs.row.check_row.Tie as tie
 
-staying-requires : tie.Need-staying-requires
-staying-requires c κs = search needs
+slice-aggregate-long-stays : tie.Need-slice-aggregate-long-stays
+slice-aggregate-long-stays c = let s = c .before .before .before .before in
+    as-long (s .args .row .now)
+
+slice-aggregate-long-stays-2 : tie.Need-slice-aggregate-long-stays-2
+slice-aggregate-long-stays-2 c = let s = c .before .before .before .before .before in
+    as-long (s .args .lent .now)
+
+long-stays-requires : tie.Need-long-stays-requires
+long-stays-requires c κs = search needs
 
 returns : tie.Need-returns
-returns c = let k = c .before .staying in
-    let s = c .before .before .before .before in
-    all-stay (s .args .lent .now) (nodeRelation (s .args .relation)) (s .args .what) (s .args .row .now) (k .result) (k .ensures) (c .if1 .taken)
+returns c = let asked = c .before in
+    let s = asked .before .before .before .before .before .before in
+    let r = nodeRelation (s .args .relation) in
+    let lent = s .args .lent .now in
+    let row = s .args .row .now in
+    stay-told r (accessesAt (s .args .what) (length row) lent) row
+    (subst₂ (λ (l cs : List ℕ). bytesStay (s .args .what) l r cs ≡ true) (take-length lent) (take-length row) (sym (asked .long-stays .ensures) ∙ c .if2 .taken))
 
-sub-check-bytes : tie.Need-sub-check-bytes
-sub-check-bytes c = let k = c .before .staying in
-    let s = c .before .before .before .before in
-    count-within (s .args .lent .now) (nodeRelation (s .args .relation)) (s .args .what) (s .args .row .now) (k .result) (k .ensures)
+short-stays-requires : tie.Need-short-stays-requires
+short-stays-requires c κs = search needs
 
-part-check-bytes-start : tie.Need-part-check-bytes-start
-part-check-bytes-start c = let k = c .before .staying in
-    let s = c .before .before .before .before in
-    count-within (s .args .lent .now) (nodeRelation (s .args .relation)) (s .args .what) (s .args .row .now) (k .result) (k .ensures)
-
-part-check-bytes-end : tie.Need-part-check-bytes-end
-part-check-bytes-end c = search needs
+returns-2 : tie.Need-returns-2
+returns-2 c = let asked = c .before in
+    let s = asked .before .before .before .before in
+    let row = s .args .row .now in
+    let lent = s .args .lent .now in
+    stay-told (nodeRelation (s .args .relation)) (accessesAt (s .args .what) (length row) lent) row (asked .short-stays .ensures (c .if3 .taken) lent)
 
 check-bytes-requires : tie.Need-check-bytes-requires
 check-bytes-requires c κs = search needs
 
-returns-2 : tie.Need-returns-2
-returns-2 c = let k = c .before .before .before .staying in
-    let s = c .before .before .before .before .before .before in
-    let row = s .args .row .now in
-    behind-told (s .args .lent .now) (nodeRelation (s .args .relation)) (s .args .what) row (k .result) (c .check-bytes .result) (k .ensures)
-    (subst (λ (cs : List ℕ). ToldBytes (s .args .what) (s .args .lent .now) (nodeRelation (s .args .relation)) cs (c .check-bytes .result)) (take-all (length row - k .result) (drop (k .result) row) (omega (arith, length-drop (k .result) row))) (c .check-bytes .ensures))
+returns-3 : tie.Need-returns-3
+returns-3 c = search needs
 
 pub check-row-spec : {M : Type 1} → statement M
 check-row-spec =
     tie.close
     (tie.spec
-    staying-requires
+    slice-aggregate-long-stays
+    slice-aggregate-long-stays-2
+    long-stays-requires
     returns
-    sub-check-bytes
-    part-check-bytes-start
-    part-check-bytes-end
+    short-stays-requires
+    returns-2
     check-bytes-requires
-    returns-2)
+    returns-3)
