@@ -25,7 +25,7 @@ add-result-2 c = omega (arith, and-le-r ((c .digits-apart .result + 0x6060606060
 
 returns : tie.Need-returns
 returns c = let w = c .before .args .w in
-    ap (λ (x : ℕ). x + 0x3030303030303030 + bitAnd ((x + 0x606060606060606) / 16) 0x101010101010101 * 39) (c .digits-apart .ensures) ∙ characters-step (w / 268435456 % 16) (w / 16777216 % 16) (w / 1048576 % 16) (w / 65536 % 16) (w / 4096 % 16) (w / 256 % 16) (w / 16 % 16) (w % 16) (omega arith) (omega arith) (omega arith) (omega arith) (omega arith) (omega arith) (omega arith) (omega arith)
+    ap (λ (x : ℕ). x + 0x3030303030303030 + bitAnd ((x + 0x606060606060606) / 16) 0x101010101010101 * 39) (c .digits-apart .ensures) ∙ characters-step (w % 16) (w / 16 % 16) (w / 256 % 16) (w / 4096 % 16) (w / 65536 % 16) (w / 1048576 % 16) (w / 16777216 % 16) (w / 268435456 % 16) (omega arith) (omega arith) (omega arith) (omega arith) (omega arith) (omega arith) (omega arith) (omega arith)
 
 pub characters-spec : {M : Type 1} → statement M
 characters-spec =
