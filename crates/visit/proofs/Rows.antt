@@ -25,7 +25,7 @@ use Rattle.visit.specs.declared.Answer.the-variants as answer
 use Rattle.visit.specs.declared.Accesses.the-variants as accesses
 use Rattle.visit.specs.declared.Accesses.the-variants.{Each, AtInit}
 use Rattle.visit.specs.declared.Reach.{Reach}
-use Rattle.visit.specs.Walk.{Told, ToldBytes, ToldRow, unrefused, toldAccess, accessAt, accessesAt, codesRefusal, codesAfter, codesStay, outcomeAt, isStays}
+use Rattle.visit.specs.Walk.{Told, ToldBytes, ToldRow, unrefused, toldAccess, accessAt, accessesAt, codesRefusal, codesAfter, codesStay, bytesStay, shortStays, outcomeAt, isStays}
 use Rattle.visit.proofs.Steps.{no-refusal, no-change}
 
 abbrev isTrue : Bool → Type 0
@@ -278,6 +278,11 @@ module _ (r : NodeRelation) where
         let first : codesStay r (drop k xs) (drop k cs) ≡ (isStays (outcomeAt (getD xs k none) r c) && rest) =
         ap (codesStay r (drop k xs)) here ∙ rw (add-one k) (stay-first xs k c (drop (suc k) cs)) in
         e ∙ ap (λ (x : Bool). all && x) (first ∙ ap (λ (x : Bool). x && rest) (sym (q ∙ ap isStays t))) ∙ sym (and-assoc all b rest)
+
+pub short-stay : (what : Accesses) (lent : List ℕ) (r : NodeRelation) (cs : List ℕ) → shortStays what r cs ≡ true → bytesStay what lent r cs ≡ true
+short-stay (Each a) lent r cs e = e
+short-stay accesses.Told lent r cs e = absurd (true-not-false (sym e))
+short-stay AtInit lent r cs e = absurd (true-not-false (sym e))
 
 -- under one access
 pub each-outcome : (a : declared.AccessKind) (r : NodeRelation) (cs : List ℕ) (k : ℕ) → k < length cs

@@ -106,6 +106,12 @@ bytesAfter what lent r cs = codesAfter r (accessesAt what (length cs) lent) cs
 abbrev pub bytesStay : Accesses → List ℕ → NodeRelation → List ℕ → Bool
 bytesStay what lent r cs = codesStay r (accessesAt what (length cs) lent) cs
 
+-- what a short row is asked: nothing where bytes have accesses of their own
+abbrev pub shortStays : Accesses → NodeRelation → List ℕ → Bool
+shortStays (Each a) r cs = bytesStay (Each a) [] r cs
+shortStays accesses.Told r cs = false
+shortStays AtInit r cs = false
+
 abbrev pub ToldBytes : Accesses → List ℕ → NodeRelation → List ℕ → Answer → Type 0
 ToldBytes what lent r cs = Told (bytesRefusal what lent r cs) cs (bytesAfter what lent r cs)
 

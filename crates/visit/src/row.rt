@@ -15,7 +15,7 @@ ghost use Prim.Native.Nat.{ℕ, _+_, _*_, _≤_, _<_};
 ghost use lib.ListN.{length, getD};
 ghost use Rattle.definition.specs.Permission.NodeRelation.{Local, Foreign};
 ghost use Rattle.permission.specs.Codes.{accessKind, maybeAccess, nodeRelation};
-ghost use Rattle.visit.specs.Walk.{SameVisit, ToldBytes, ToldRow, accessAt, bytesAfter, bytesStay, isStays, outcomeAt, rowAfter, rowAt, toldAccess, withRowAt};
+ghost use Rattle.visit.specs.Walk.{SameVisit, ToldBytes, ToldRow, accessAt, bytesAfter, bytesStay, isStays, outcomeAt, rowAfter, rowAt, shortStays, toldAccess, withRowAt};
 ghost use Rattle.visit.specs.declared.Accesses.the-variants.{Each};
 
 // ---- the accesses at the visited bytes
@@ -158,7 +158,7 @@ fn stay_under(row: &[u8], kind: AccessKind, relation: NodeRelation) -> bool
 
 // It is not asked where bytes have accesses of their own.
 fn short_stays(row: &[u8], what: Accesses, relation: NodeRelation) -> bool
-    ensures { λ r. ⌜ (r ≡ true → (lent : List ℕ) → bytesStay what lent (nodeRelation relation) (now (row .entry)) ≡ true) ⌝ }
+    ensures { λ r. ⌜ r ≡ shortStays what (nodeRelation relation) (now (row .entry)) ⌝ }
 {
     match what {
         Accesses::Each(kind) => stay_under(row, kind, relation),

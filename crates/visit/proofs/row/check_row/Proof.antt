@@ -7,7 +7,7 @@ use lib.ListN.{length}
 use lib.Seq.{take-length}
 use Rattle.permission.specs.Codes.{nodeRelation}
 use Rattle.visit.specs.Walk.{accessesAt, bytesStay}
-use Rattle.visit.proofs.Rows.{stay-told}
+use Rattle.visit.proofs.Rows.{short-stay, stay-told}
 use Rattle.visit.proofs.Turns.{as-long}
 use borrow.Author.Needs.{needs}
 use native.Mathlib.Omega.{arith}
@@ -42,7 +42,8 @@ returns-2 c = let asked = c .before in
     let s = asked .before .before .before .before in
     let row = s .args .row .now in
     let lent = s .args .lent .now in
-    stay-told (nodeRelation (s .args .relation)) (accessesAt (s .args .what) (length row) lent) row (asked .short-stays .ensures (c .if3 .taken) lent)
+    let r = nodeRelation (s .args .relation) in
+    stay-told r (accessesAt (s .args .what) (length row) lent) row (short-stay (s .args .what) lent r row (sym (asked .short-stays .ensures) ∙ c .if3 .taken))
 
 check-bytes-requires : tie.Need-check-bytes-requires
 check-bytes-requires c κs = search needs
