@@ -110,12 +110,32 @@ fn stays(outcome: Outcome) -> bool
     }
 }
 
+// What an access makes of it, if there is one.
 fn outcome(code: u8, access: MaybeAccess, relation: NodeRelation) -> Outcome
     ensures { λ r. ⌜ r ≡ outcomeAt (maybeAccess access) (nodeRelation relation) code ⌝ }
 {
     match access {
         MaybeAccess::Nothing => Outcome::Stays,
         MaybeAccess::Access(kind) => permission::transition(code, kind, relation),
+    }
+}
+
+// Of one relation, for the loops over long rows: a match of both is too large for the compiler to put it there.
+fn local_outcome(code: u8, access: MaybeAccess) -> Outcome
+    ensures { λ r. ⌜ r ≡ outcomeAt (maybeAccess access) Local code ⌝ }
+{
+    match access {
+        MaybeAccess::Nothing => Outcome::Stays,
+        MaybeAccess::Access(kind) => permission::local(code, kind),
+    }
+}
+
+fn foreign_outcome(code: u8, access: MaybeAccess) -> Outcome
+    ensures { λ r. ⌜ r ≡ outcomeAt (maybeAccess access) Foreign code ⌝ }
+{
+    match access {
+        MaybeAccess::Nothing => Outcome::Stays,
+        MaybeAccess::Access(kind) => permission::foreign(code, kind),
     }
 }
 
@@ -202,16 +222,37 @@ fn long_under(row: &[u8], kind: AccessKind, relation: NodeRelation) -> bool
 }
 
 // Under accesses of their own.
-fn long_told(row: &[u8], lent: &[u8], what: Accesses, relation: NodeRelation) -> bool
-    ensures { λ r. ⌜ r ≡ bytesStay what (now (lent .entry)) (nodeRelation relation) (now (row .entry)) ⌝ }
+fn told_local(row: &[u8], lent: &[u8], what: Accesses) -> bool
+    ensures { λ r. ⌜ r ≡ bytesStay what (now (lent .entry)) Local (now (row .entry)) ⌝ }
 {
     let mut all = true;
     let mut k = 0;
     while k < row.len() {
-        all = all & stays(outcome(row[k], access_at(what, lent, k), relation));
+        all = all & stays(local_outcome(row[k], access_at(what, lent, k)));
         k += 1;
     }
     all
+}
+
+fn told_foreign(row: &[u8], lent: &[u8], what: Accesses) -> bool
+    ensures { λ r. ⌜ r ≡ bytesStay what (now (lent .entry)) Foreign (now (row .entry)) ⌝ }
+{
+    let mut all = true;
+    let mut k = 0;
+    while k < row.len() {
+        all = all & stays(foreign_outcome(row[k], access_at(what, lent, k)));
+        k += 1;
+    }
+    all
+}
+
+fn told_under(row: &[u8], lent: &[u8], what: Accesses, relation: NodeRelation) -> bool
+    ensures { λ r. ⌜ r ≡ bytesStay what (now (lent .entry)) (nodeRelation relation) (now (row .entry)) ⌝ }
+{
+    match relation {
+        NodeRelation::Local => told_local(row, lent, what),
+        NodeRelation::Foreign => told_foreign(row, lent, what),
+    }
 }
 
 // Both passes ask it of a long row. So it stays a function by itself, and its vectors take no registers from the recursion.
@@ -220,8 +261,7 @@ fn long_stays(row: &[u8], lent: &[u8], what: Accesses, relation: NodeRelation) -
 {
     match what {
         Accesses::Each(kind) => long_under(row, kind, relation),
-        Accesses::Told => long_told(row, lent, what, relation),
-        Accesses::AtInit => long_told(row, lent, what, relation),
+        _ => told_under(row, lent, what, relation),
     }
 }
 
@@ -257,6 +297,7 @@ fn apply_bytes(row: &mut [u8], lent: &[u8], what: Accesses, relation: NodeRelati
 }
 
 // ---- a row
+// A row that does not stay is gone over byte by byte. The slices of a long one are handed on as parts of themselves, as in the recursion.
 fn check_row(row: &[u8], lent: &[u8], what: Accesses, relation: NodeRelation) -> Answer
     ensures { λ r. ⌜ ToldBytes what (now (lent .entry)) (nodeRelation relation) (now (row .entry)) r ⌝ }
 {
