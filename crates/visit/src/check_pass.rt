@@ -1,11 +1,11 @@
 // The check pass: what the accesses of a visit come to, by recursion over the tree.
 use crate::Answer;
 use crate::Reach;
+use crate::access::any_access;
 use crate::plan::first_child;
 use crate::plan::make_plan;
 use crate::plan::next_sibling;
 use crate::plan::relation;
-use crate::row::any_access;
 use crate::row::check_at;
 use crate::unrefused;
 ghost use Prim.Native.Nat.{ℕ, _*_, _≤_, _<_};

@@ -1,18 +1,20 @@
 // A visit of one allocation's tree over its tables: each node's parent, and a row of codes for its bytes. It goes to every node but one that is
 // spared and its descendants, parents before children, children in the order they were made, each with its bytes ascending.
 // It is made in two passes, a check and, if nothing is refused, the change. So a refusal leaves nothing to undo.
+mod access;
 mod apply_pass;
 mod check_pass;
 mod plan;
 mod row;
+mod staying;
 
+pub use access::settled;
 pub use apply_pass::apply;
 pub use check_pass::check;
 pub use check_pass::check_lent;
 use permission::AccessKind;
 pub use plan::make_plan;
 pub use plan::relation;
-pub use row::settled;
 ghost use mathlib.Core.Path.{_≡_};
 ghost use Rattle.visit.specs.Walk as walk;
 
