@@ -9,7 +9,7 @@ use native.Mathlib.Nat.{min-le-left}
 use native.Mathlib.Omega.{arith}
 use lib.ListN.{length, getD, take, drop, set, replicate, getD-replicate, length-replicate, length-map, length-take, length-drop, take-append-drop, List·getD-map, drop-of-length-le}
 use lib.Seq.{getD-take, drop-cons, length-take-le, set-getD}
-use Rattle.definition.specs.Notation.{if_then_else_, _or_}
+use Rattle.definition.specs.Notation.{_or_}
 use Rattle.definition.specs.Permission.{AccessKind, NodeRelation}
 use Rattle.definition.specs.Permission.AccessKind.{Read, Write}
 use Rattle.definition.specs.Permission.Permission.{Unprot}

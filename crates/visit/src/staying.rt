@@ -123,7 +123,7 @@ fn long_under(row: &[u8], kind: AccessKind, relation: NodeRelation) -> bool
     }
 }
 
-// Under accesses of their own.
+// Under accesses of their own; apart, since in one loop for all accesses a local write is no vector code.
 fn told_local(row: &[u8], lent: &[u8], what: Accesses) -> bool
     ensures { λ r. ⌜ r ≡ bytesStay what (now (lent .entry)) Local (now (row .entry)) ⌝ }
 {

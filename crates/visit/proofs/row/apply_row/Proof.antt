@@ -10,7 +10,6 @@ use Rattle.visit.specs.Walk.{accessesAt, bytesStay}
 use Rattle.visit.proofs.Rows.{stay-told}
 use Rattle.visit.proofs.Turns.{as-long}
 use borrow.Author.Needs.{needs}
-use native.Mathlib.Omega.{arith}
 use Rattle.visit.proofs.row.apply_row.Statement.{statement}
 use Rattle.visit.proofs.row.apply_row.Tie as tie
 

@@ -10,7 +10,6 @@ use Rattle.visit.specs.Walk.{accessesAt, bytesStay}
 use Rattle.visit.proofs.Rows.{short-stay, stay-told}
 use Rattle.visit.proofs.Turns.{as-long}
 use borrow.Author.Needs.{needs}
-use native.Mathlib.Omega.{arith}
 use Rattle.visit.proofs.row.check_row.Statement.{statement}
 use Rattle.visit.proofs.row.check_row.Tie as tie
 
