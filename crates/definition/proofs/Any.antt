@@ -1,13 +1,13 @@
 -- Laws of `any`.
 use Prim.Native.Nat.{ℕ, zero, suc, _+_, _≤_, _<_}
-use mathlib.Core.Path.{_≡_, refl, sym, ap, _∙_}
+use mathlib.Core.Path.{_≡_, refl, sym, ap, ap₂, _∙_}
 use mathlib.Core.Bool.{Bool, true, false, _||_}
 use mathlib.Core.List.{List, [], _∷_, _++_}
 use native.Mathlib.Numerals.{add-one}
 use native.Mathlib.Omega.{arith}
 use lib.ListN.{length, getD, drop, drop-of-length-le}
 use lib.Seq.{drop-cons}
-use Rattle.definition.specs.Notation.{if_then_else_, any}
+use Rattle.definition.specs.Notation.{if_then_else_, mapFrom, any}
 use Rattle.definition.specs.Valid.{All}
 
 -- ---- a loop that looks for one: at i, among those from i on
@@ -73,3 +73,9 @@ pub any-more : {A : Type 0} (test : A → Bool) (xs : List A) (x : A) → any te
 unfolding any
 any-more test [] x = refl
 any-more test (y ∷ ys) x = rw (any-more test ys x) (swap (test y) (test x) (any test ys))
+
+-- ---- elements changed in a way that the test does not see
+pub any-each : {A : Type 0} (test : A → Bool) (f : ℕ → A → A) → ((n : ℕ) (x : A) → test (f n x) ≡ test x) → (n : ℕ) (l : List A) → any test (mapFrom n f l) ≡ any test l
+unfolding any mapFrom
+any-each test f h n [] = refl
+any-each test f h n (x ∷ xs) = ap₂ (λ (b c : Bool). if b then true else c) (h n x) (any-each test f h (suc n) xs)

@@ -8,7 +8,7 @@ use native.Mathlib.Nat.{zero-add}
 use native.Mathlib.Decide.{ℕ-discrete}
 use native.Mathlib.Omega.{arith}
 use lib.Dec.{eqb}
-use lib.ListN.{length, getD}
+use lib.ListN.{length, getD, set}
 use borrow.Author.Tests.{eq-eqb, ne-eqb}
 use Rattle.definition.specs.Notation.{if_then_else_, tableFrom, filter, sumOf}
 use Rattle.definition.specs.Valid.{All}
@@ -45,6 +45,13 @@ unfolding sumOf
 part-of-sum g d [] n h = absurd (omega arith)
 part-of-sum g d (x ∷ xs) zero h = omega arith
 part-of-sum g d (x ∷ xs) (suc n) h = omega (arith, part-of-sum g d xs n (omega arith))
+
+-- one element replaced; what stands where no element is counts 0
+pub sum-set : {A : Type 0} (g : A → ℕ) (d : A) → g d ≡ 0 → (l : List A) (n : ℕ) (x : A) → sumOf g (set l n x) + g (getD l n d) ≤ sumOf g l + g x
+unfolding sumOf
+sum-set g d z [] n x = omega arith
+sum-set g d z (y ∷ l) zero x = omega arith
+sum-set g d z (y ∷ l) (suc n) x = omega (arith, sum-set g d z l n x)
 
 module _ (j : ℕ) where
   pub count-here : (x : ℕ) (xs : List ℕ) → x ≡ j → count j (x ∷ xs) ≡ suc (count j xs)

@@ -14,10 +14,12 @@ pub mod Visits
 pub mod Trees
 pub mod Order
 pub mod Turns
+pub mod Rows
 pub mod Recursion
 pub mod Ranges
 pub mod Leaves
 pub mod Retags
+pub mod Releases
 -- requests and runs
 pub mod Accesses
 pub mod Leaks
@@ -29,3 +31,6 @@ pub mod ValidTrees
 pub mod ValidMemory
 pub mod ValidFrames
 pub mod ValidRuns
+pub mod Changes
+pub mod Entries
+pub mod EndCalls

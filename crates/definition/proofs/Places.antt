@@ -1,7 +1,7 @@
 -- What stands at a place of a list.
 use Prim.Native.Nat.{ℕ, zero, suc, _+_, _<_}
 use mathlib.Core.Path.{_≡_, refl, sym, ap, subst, _∙_}
-use mathlib.Core.List.{List, [], _∷_}
+use mathlib.Core.List.{List, [], _∷_, _++_}
 use native.Mathlib.Nat.{zero-add, add-zero}
 use native.Mathlib.Omega.{arith}
 use lib.ListN.{length, getD}
@@ -45,6 +45,23 @@ module _ {A : Type 0} where
   mutate-same f g d [] n e = refl
   mutate-same f g d (x ∷ xs) zero e = ap (λ (y : A). y ∷ xs) e
   mutate-same f g d (x ∷ xs) (suc n) e = ap (λ (l : List A). x ∷ l) (mutate-same f g d xs n e)
+
+module _ {A : Type 0} (P : A → Type 0) (d : A) where
+  -- what holds of the element at place k still does after a change at place n, if the change keeps it
+  pub mutate-holds : (f : A → A) (l : List A) (n k : ℕ) → (n ≡ k → P (getD l n d) → P (f (getD l n d))) → P (getD l k d) → P (getD (mutateAt n f l) k d)
+  unfolding mutateAt
+  mutate-holds f [] n k h p = p
+  mutate-holds f (x ∷ xs) zero zero h p = h refl p
+  mutate-holds f (x ∷ xs) zero (suc k) h p = p
+  mutate-holds f (x ∷ xs) (suc n) zero h p = p
+  mutate-holds f (x ∷ xs) (suc n) (suc k) h p = mutate-holds f xs n k (λ e. h (ap suc e)) p
+
+  -- and after one more element, if that one has it where nothing stood
+  pub append-holds : (l : List A) (x : A) (k : ℕ) → (k ≡ length l → P d → P x) → P (getD l k d) → P (getD (l ++ (x ∷ [])) k d)
+  append-holds [] x zero h p = h refl p
+  append-holds [] x (suc k) h p = p
+  append-holds (y ∷ l) x zero h p = p
+  append-holds (y ∷ l) x (suc k) h p = append-holds l x k (λ e. h (ap suc e)) p
 
 -- ---- an allocation of a well-formed memory
 pub valid-at : (m : Memory) (n : ℕ) → Valid m → n < length m → ValidAllocation (allocationAt m n)

@@ -2,6 +2,7 @@
 use Prim.Native.Nat.{ℕ, zero, suc, _≤_, _<_}
 use mathlib.Core.Path.{_≡_, refl, sym, ap, subst, _∙_}
 use mathlib.Core.Bool.{Bool, true, false, _||_, or-true, or-self}
+use mathlib.Core.Logic.{_⊎_, inl, inr}
 use mathlib.Core.List.{List, [], _∷_, _++_}
 use native.Mathlib.Nat.{le-of-eq, le-of-lt}
 use native.Mathlib.Decide.{ℕ-discrete, decLt}
@@ -85,6 +86,9 @@ module _ (ps : List ℕ) (tree : Parents ps) where
       upwards (λ j. j < n → isAbove ps n j ≡ false) (λ l. root-within n 0 ∙ ne-eqb 0 n (omega arith))
       (λ j z up l. rw (above-parent n j z, ne-eqb j n (omega arith)) (up (omega (arith, parent-earlier j z))))
 
+  from-parent : (j : ℕ) → 0 < j → (n : ℕ) → (j ≡ n → ⊥) → isAbove ps n j ≡ true → isAbove ps n (getD ps j 0) ≡ true
+  from-parent j z n q e = ap (λ (t : Bool). t || isAbove ps n (getD ps j 0)) (sym (ne-eqb j n q)) ∙ sym (above-parent n j z) ∙ e
+
   pub above-trans : (a b c : ℕ) → isAbove ps a b ≡ true → isAbove ps b c ≡ true → isAbove ps a c ≡ true
   above-trans a b c ab =
       upwards (λ c. isAbove ps b c ≡ true → isAbove ps a c ≡ true)
@@ -95,8 +99,25 @@ module _ (ps : List ℕ) (tree : Parents ps) where
           elim (ℕ-discrete j b) [
             | yes q ↦ subst (λ (x : ℕ). isAbove ps a x ≡ true) (sym q) ab
             | no q ↦
-                let bp : isAbove ps b (getD ps j 0) ≡ true = ap (λ (t : Bool). t || isAbove ps b (getD ps j 0)) (sym (ne-eqb j b q)) ∙ sym (above-parent b j z) ∙ e in
-                rw (above-parent a j z, up bp) (or-true (eqb j a))
+                rw (above-parent a j z, up (from-parent j z b q e)) (or-true (eqb j a))
+          ]
+
+  -- of two nodes above a third, one lies above the other
+  pub above-linear : (a b c : ℕ) → isAbove ps a c ≡ true → isAbove ps b c ≡ true → (isAbove ps a b ≡ true) ⊎ (isAbove ps b a ≡ true)
+  above-linear a b =
+      upwards (λ c. isAbove ps a c ≡ true → isAbove ps b c ≡ true → (isAbove ps a b ≡ true) ⊎ (isAbove ps b a ≡ true))
+      (λ h k. inl (subst (λ (x : ℕ). isAbove ps x b ≡ true) (eqb-true 0 a (sym (root-within a 0) ∙ h)) (root-above b))) step
+    where
+      step : (j : ℕ) → 0 < j → (isAbove ps a (getD ps j 0) ≡ true → isAbove ps b (getD ps j 0) ≡ true → (isAbove ps a b ≡ true) ⊎ (isAbove ps b a ≡ true))
+          → isAbove ps a j ≡ true → isAbove ps b j ≡ true → (isAbove ps a b ≡ true) ⊎ (isAbove ps b a ≡ true)
+      step j z up h k =
+          elim (ℕ-discrete j a) [
+            | yes q ↦ inr (subst (λ (x : ℕ). isAbove ps b x ≡ true) q k)
+            | no q ↦
+                elim (ℕ-discrete j b) [
+                  | yes r ↦ inl (subst (λ (x : ℕ). isAbove ps a x ≡ true) r h)
+                  | no r ↦ up (from-parent j z a q h) (from-parent j z b r k)
+                ]
           ]
 
 -- ---- nodes made later

@@ -93,13 +93,14 @@ module _ (w : ReborrowSettings) (p : ThinPointer) where
 
 -- what an accepted retag passed
 module _ (w : ReborrowSettings) (frame : ℕ) (p : ThinPointer) (s : State) where
-  record Passed : Type 0 where
-    known : namesNeverMade (s .memory) (p .provenance) ≡ false
-    inBounds : checkPtr (target (s .memory) p) p 0 (length (w .inside)) ≡ 0
-    node : exceedsBounds (s .memory) (ofNode (target (s .memory) p)) ≡ false
-    entry : exceedsEntries w frame s ≡ false
+  pub record Passed : Type 0 where
+    pub known : namesNeverMade (s .memory) (p .provenance) ≡ false
+    pub inBounds : checkPtr (target (s .memory) p) p 0 (length (w .inside)) ≡ 0
+    pub node : exceedsBounds (s .memory) (ofNode (target (s .memory) p)) ≡ false
+    pub entry : exceedsEntries w frame s ≡ false
+    pub reads : initRefusal (length (target (s .memory) p .nodes)) (offset (target (s .memory) p) p) (w .inside) (withChild w p (target (s .memory) p)) ≡ 0
 
-  passed : reborrowRefusal w frame p s ≡ 0 → Passed
+  pub passed : reborrowRefusal w frame p s ≡ 0 → Passed
   unfolding reborrowRefusal
   passed e =
       let a : Allocation = target (s .memory) p in
@@ -118,6 +119,7 @@ module _ (w : ReborrowSettings) (frame : ℕ) (p : ThinPointer) (s : State) wher
         inBounds = or-left r9 (r14 or r15 or r17) from9;
         node = fits .0;
         entry = fits .1;
+        reads = or-right r15 r17 from15;
       }
 
 -- an accepted retag has provenance, which was made, unless it is one of zero length without
@@ -126,12 +128,12 @@ length-or-provenance isZero false rest e h = refl
 length-or-provenance true true rest e h = h
 length-or-provenance false true rest e h = absurd (omega arith)
 
-has-provenance : (a : Allocation) (p : ThinPointer) (len : ℕ) → checkPtr a p 0 len ≡ 0 → hasNone (p .provenance) && eqb len 0 ≡ false → hasNone (p .provenance) ≡ false
+pub has-provenance : (a : Allocation) (p : ThinPointer) (len : ℕ) → checkPtr a p 0 len ≡ 0 → hasNone (p .provenance) && eqb len 0 ≡ false → hasNone (p .provenance) ≡ false
 unfolding checkPtr
 has-provenance a p len e h =
     length-or-provenance (eqb len 0) (hasNone (p .provenance)) (deadAllocation when not (isLive (a .state)) or outOfBounds when isOutside a p 0 len) (rw zero-add at e) h
 
-named-made : (m : Memory) (o : Option Provenance) → namesNeverMade m o ≡ false → hasNone o ≡ false → Made m (record { allocation = allocationOf o; node = nodeOf o })
+pub named-made : (m : Memory) (o : Option Provenance) → namesNeverMade m o ≡ false → hasNone o ≡ false → Made m (record { allocation = allocationOf o; node = nodeOf o })
 named-made m none u h = absurd (false≢true (sym h))
 named-made m (some t) u h = was-made m t (not-not-false (wasMade m t) u)
 

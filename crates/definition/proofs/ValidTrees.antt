@@ -40,7 +40,7 @@ unfolding next
 next-protected a r (Unprot u) = after-wrapped Unprot false (λ q. refl) u (transitionUnprot a r u)
 next-protected a r (Prot p) = after-wrapped Prot true (λ q. refl) p (transitionProt a r p)
 
-nextBy-protected : (a : Option AccessKind) (r : NodeRelation) (p : Permission) → isProtected (nextBy a r p) ≡ isProtected p
+pub nextBy-protected : (a : Option AccessKind) (r : NodeRelation) (p : Permission) → isProtected (nextBy a r p) ≡ isProtected p
 nextBy-protected none r p = refl
 nextBy-protected (some a) r p = next-protected a r p
 
@@ -152,7 +152,7 @@ module _ (w : ReborrowSettings) (p : ThinPointer) (a : Allocation) where
   unfolding withChild
   withChild-length = length-append (a .nodes) (childNode w p a ∷ [])
 
-  child-valid : SettingsAgree w → (live : Bool) (n : ℕ) → nodeOf (p .provenance) < n → ValidNode (size a) live n (childNode w p a)
+  pub child-valid : SettingsAgree w → (live : Bool) (n : ℕ) → nodeOf (p .provenance) < n → ValidNode (size a) live n (childNode w p a)
   unfolding childNode
   child-valid agree live n h =
       let Marked : Permission → Type 0 = λ q. isProtected q ≡ isYes (w .protected) in

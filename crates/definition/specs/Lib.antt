@@ -12,3 +12,4 @@ pub mod Run
 pub mod Valid
 pub mod Exchange
 pub mod Output
+pub mod EndCalls

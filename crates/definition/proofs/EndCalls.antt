@@ -1,0 +1,181 @@
+-- Ending a call is never refused (M-109; specs/EndCalls). An end call releases the entries of its frame one after another. Each release is accepted: the
+-- entry has its protector, as it stands among all entries once (Entries), and the accesses at the protector's end are accepted in its tree (Releases).
+-- Both hold of the empty memory, and every request keeps them (`Sound`).
+use Prim.Native.Nat.{ℕ, zero, suc, _+_, _≤_, _<_}
+use mathlib.Core.Path.{_≡_, refl, sym, ap, ap₂, _∙_}
+use mathlib.Core.Bool.{Bool, true, false, not, _||_, false≢true}
+use mathlib.Core.Logic.{inl, inr}
+use mathlib.Core.Option.{none}
+use mathlib.Core.List.{List, [], _∷_, _++_}
+use native.Mathlib.Decide.{decLt}
+use native.Mathlib.Omega.{arith}
+use borrow.Author.Tests.{lt-ltb}
+use lib.ListN.{length, getD, replicate, set, length-set, List·getD-eq-default}
+use Rattle.definition.specs.Notation.{if_then_else_, _when_, _or_, sumOf}
+use Rattle.definition.specs.Refusal.{malformed, neverMade, notProtected}
+use Rattle.definition.specs.Permission.{PermissionUnprot, Protected, endAccess}
+use Rattle.definition.specs.Permission.Permission.{Unprot}
+use Rattle.definition.specs.Tree.{nodeAt}
+use Rattle.definition.specs.Memory.{Allocation, Memory, allocationAt, offset, Provenance, refusedWith, accepted, wasMade, visitOf, writeAll, afterAccessIn, afterDeallocateIn, newAllocation}
+use Rattle.definition.specs.Frame.{Frame, State, frameCount, frameAt, isOpen, entries, empty, lacksProtector, releaseVisitRefusal, releaseRefusalIn, releaseRefusal, afterReleaseIn, afterRelease, releaseAllRefusal, endCallRefusal, acceptEndCall, endCall}
+use Rattle.definition.specs.Frame.Frame.{Closed, Open}
+use Rattle.definition.specs.Retag.{ReborrowSettings, reborrowSettings, withChild, afterReborrowIn}
+use Rattle.definition.specs.Request.{request, followingLength, isMiscounted, isMalformed}
+use Rattle.definition.specs.Request.Kind.{EndCall}
+use Rattle.definition.specs.Run.{perform, step, answers, final}
+use Rattle.definition.specs.EndCalls.{EndCallsAccepted, Blameless, EndCallsBlameless}
+use Rattle.definition.proofs.Booleans.{or-right}
+use Rattle.definition.proofs.Any.{none-any}
+use Rattle.definition.proofs.Alls.{all-getD, all-replicate}
+use Rattle.definition.proofs.Rows.{permissionAt}
+use Rattle.definition.proofs.Releases.{Releasable, visited-releasable, release-accepted, released-releasable, withChild-releasable, init-releasable, no-end-releasable}
+use Rattle.definition.proofs.ValidMemory.{is-made}
+use Rattle.definition.proofs.Changes.{Kept, KeptByRelease, InAllocation, in-allocation, ended-allocation, release-keeps, in-frames, step-keeps}
+use Rattle.definition.proofs.Entries.{has-node, has-allocation, entryCount, enteredCount, protectors, HasAt, has-one, entry-here, each-entry, frame-replaced, EnteredOnce, release-first, entered-kept, entered-ended}
+
+-- ---- every allocation's tree: requests keep that the end of any protector in it is accepted
+abbrev HasReleasable : Allocation → Type 0
+HasReleasable a = Releasable (a .nodes)
+
+releasable-kept : Kept HasReleasable
+unfolding newAllocation afterAccessIn afterDeallocateIn afterReborrowIn
+releasable-kept =
+    record {
+      allocated = λ kind len exponent address h. no-end-releasable _ (record { root = refl; earlier = λ j z l. absurd (omega arith) }) (root len);
+      accessed = λ x a e h. visited-releasable (visitOf x a) tt (a .nodes) e h;
+      deallocated = λ p a e h. visited-releasable (writeAll p a) tt (a .nodes) e h;
+      reborrowed =
+          λ pointer protected mask freeze p a l e h.
+          let w : ReborrowSettings = reborrowSettings pointer protected mask freeze in
+          init-releasable (length (a .nodes)) (offset a p) (w .inside) (withChild w p a) e (withChild-releasable pointer protected mask freeze p a l h);
+    }
+  where
+    root : (len n b : ℕ) → endAccess (permissionAt (record { parent = 0; protected = Protected.No; permissions = replicate len (Unprot PermissionUnprot.Unique) } ∷ []) n b) ≡ none
+    root len zero b = all-getD (λ p. endAccess p ≡ none) (replicate len (Unprot PermissionUnprot.Unique)) b (Unprot PermissionUnprot.Cell) (all-replicate (λ p. endAccess p ≡ none) len (Unprot PermissionUnprot.Unique) refl) refl
+    root len (suc n) b = refl
+
+releasable-released : KeptByRelease HasReleasable
+unfolding releaseRefusalIn afterReleaseIn
+releasable-released =
+    record {
+      released =
+          λ n a e h.
+          released-releasable (a .state) n (a .nodes) (or-right (notProtected when lacksProtector (nodeAt (a .nodes) n)) (releaseVisitRefusal (a .state) n (a .nodes)) e) h;
+    }
+
+-- ---- releases, one after another: nothing is refused
+unrefused : (m : Memory) (t : Provenance) → HasReleasable (allocationAt m (t .allocation)) → HasAt m t → releaseRefusal m t ≡ 0
+unfolding releaseRefusal releaseRefusalIn
+unrefused m t f h =
+    let a : Allocation = allocationAt m (t .allocation) in
+    ap₂ _or_ (ap (λ (b : Bool). notProtected when b) h) (release-accepted (a .state) (t .node) (a .nodes) f)
+
+-- the frames have `rest e` more of each node e
+release-all : (rest : Provenance → ℕ) (es : List Provenance) (m : Memory) → ((k : ℕ) → HasReleasable (allocationAt m k)) → ((e : Provenance) → entryCount e es + rest e ≤ protectors m e)
+    → releaseAllRefusal m es ≡ 0
+unfolding releaseAllRefusal
+release-all rest [] m f h = refl
+release-all rest (t ∷ es) m f h =
+    let first : releaseRefusal m t ≡ 0 = unrefused m t (f (t .allocation)) (has-one m t (omega (arith, h t, entry-here t es))) in
+    ap₂ _or_ first
+    (release-all rest es (afterRelease m t) (λ k. release-keeps HasReleasable k releasable-released m t first (f k)) (λ e. release-first e (rest e) m t es (h e)))
+
+-- ---- what every request keeps of a state, and what makes its end calls accepted:
+pub record Sound (s : State) : Type 0 where
+  -- there are 32 frames, so that an open one has a number that a request can name
+  pub count : length (s .frames) ≡ frameCount
+  -- in each allocation's tree the end of any node's protector is accepted
+  pub releases : (k : ℕ) → Releasable (allocationAt (s .memory) k .nodes)
+  -- what the frames' entries name has its protector, and is entered once
+  pub entered : (e : Provenance) → EnteredOnce e s
+
+module _ (s : State) (sound : Sound s) (f : ℕ) where
+  abbrev es : List Provenance
+  es = entries (frameAt s f)
+
+  abbrev others : Provenance → ℕ
+  others e = enteredCount e (set (s .frames) f Closed)
+
+  all-entered : (e : Provenance) → entryCount e es + others e ≤ protectors (s .memory) e
+  unfolding sumOf
+  all-entered e = omega (arith, frame-replaced e (s .frames) f Closed, sound .entered e)
+
+  made : (e : Provenance) → 0 < entryCount e es → not (wasMade (s .memory) e) ≡ false
+  made e l =
+      let h : HasAt (s .memory) e = has-one (s .memory) e (omega (arith, all-entered e)) in
+      ap not (is-made (s .memory) e (record { allocation = has-allocation (s .memory) (e .allocation) (e .node) h; node = has-node (e .node) (allocationAt (s .memory) (e .allocation)) h }))
+
+  pub end-call-unrefused : endCallRefusal (s .memory) (entries (frameAt s f)) ≡ 0
+  unfolding endCallRefusal
+  end-call-unrefused =
+      ap₂ _or_ (ap (λ (b : Bool). neverMade when b) (none-any (λ e. not (wasMade (s .memory) e)) es (each-entry (λ e. not (wasMade (s .memory) e) ≡ false) es made)))
+      (release-all others es (s .memory) (sound .releases) all-entered)
+
+-- ---- every run
+none-entered : (e : Provenance) (k : ℕ) → enteredCount e (replicate k Closed) ≡ 0
+unfolding sumOf
+none-entered e zero = refl
+none-entered e (suc k) = omega (arith, none-entered e k)
+
+pub empty-sound : Sound empty
+empty-sound =
+    record {
+      count = refl;
+      releases = λ k. no-end-releasable [] (record { root = refl; earlier = λ j z l. absurd (omega arith) }) (λ n b. refl);
+      entered = λ e. omega (arith, none-entered e frameCount);
+    }
+
+pub step-sound : (s : State) (ws : List ℕ) → Sound s → Sound (step s ws .1)
+unfolding acceptEndCall
+step-sound s ws h =
+    record {
+      count =
+          step-keeps (λ s. Counted (s .frames)) (in-frames Counted (record { opened = λ f frames o. counted f (Open []) frames; entered = λ f frames e. counted f (Open (entries (getD frames f Closed) ++ (e ∷ []))) frames })) s ws
+          (λ k z. counted (request ws .fourth) Closed (s .frames)) (h .count);
+      releases =
+          λ k. step-keeps (InAllocation HasReleasable k) (in-allocation HasReleasable k releasable-kept) s ws (λ e. ended-allocation HasReleasable k releasable-released s (request ws .fourth)) (h .releases k);
+      entered = λ e. step-keeps (EnteredOnce e) (entered-kept e) s ws (λ k. entered-ended e s (request ws .fourth)) (h .entered e);
+    }
+  where
+    Counted : List Frame → Type 0
+    Counted frames = length frames ≡ frameCount
+
+    counted : (f : ℕ) (x : Frame) (frames : List Frame) → length frames ≡ frameCount → length (set frames f x) ≡ frameCount
+    counted f x frames h = length-set frames f x ∙ h
+
+run-sound : (s : State) (wss : List (List ℕ)) → Sound s → Sound (final s wss)
+unfolding final
+run-sound s [] h = h
+run-sound s (ws ∷ wss) h = run-sound (step s ws .1) wss (step-sound s ws h)
+
+-- ---- an end call by its words
+open-frame : (frames : List Frame) (f : ℕ) → isOpen (getD frames f Closed) ≡ true → f < length frames
+open-frame frames f o = elim (decLt f (length frames)) [ yes l ↦ l | no l ↦ absurd (false≢true (ap isOpen (sym (List·getD-eq-default frames Closed {n = f} (omega arith))) ∙ o)) ]
+
+sound-accepted : (s : State) → Sound s → EndCallsAccepted s
+unfolding step request isMiscounted followingLength isMalformed perform endCall acceptEndCall
+sound-accepted s h f o = rw (lt-ltb f 32 (omega (arith, open-frame (s .frames) f o, h .count)), o, end-call-unrefused s h f)
+
+step-blameless : (s : State) → Sound s → (ws : List ℕ) → request ws .kind ≡ EndCall → Blameless (step s ws .0)
+unfolding step perform endCall acceptEndCall
+step-blameless s h ws k = go (isMiscounted ws || isMalformed (request ws .kind) s (request ws))
+  where
+    performed : perform (request ws .kind) s (request ws) .0 ≡ accepted
+    performed = rw (k, end-call-unrefused s h (request ws .fourth))
+
+    go : (t : Bool) → Blameless ((if t then (refusedWith malformed, s) else perform (request ws .kind) s (request ws)) .0)
+    go true = inr refl
+    go false = inl performed
+
+sound-blameless : (s : State) → Sound s → (wss : List (List ℕ)) → EndCallsBlameless s wss
+unfolding answers
+sound-blameless s h [] i k = inl refl
+sound-blameless s h (ws ∷ wss) zero k = step-blameless s h ws k
+sound-blameless s h (ws ∷ wss) (suc i) k = sound-blameless (step s ws .1) (step-sound s ws h) wss i k
+
+-- ---- M-109
+pub end-calls-accepted : (wss : List (List ℕ)) → EndCallsAccepted (final empty wss)
+end-calls-accepted wss = sound-accepted (final empty wss) (run-sound empty wss empty-sound)
+
+pub end-calls-blameless : (wss : List (List ℕ)) → EndCallsBlameless empty wss
+end-calls-blameless wss = sound-blameless empty empty-sound wss

@@ -1,0 +1,279 @@
+-- A node stands among the frames' entries once at most, and only while it has its protector (`EnteredOnce`): a retag enters the node that it makes, and nothing
+-- but its own release takes a node's protector. Every request keeps this, in any state (`entered-kept`, `entered-ended`).
+use Prim.Native.Nat.{ℕ, suc, _+_, _≤_, _<_}
+use mathlib.Core.Path.{_≡_, refl, sym, ap, ap₂, _∙_}
+use mathlib.Core.Bool.{Bool, true, false, not, _&&_, _||_, false≢true}
+use mathlib.Core.List.{List, [], _∷_, _++_}
+use native.Mathlib.Decide.{decLt}
+use native.Mathlib.Omega.{arith}
+use lib.Dec.{eqb}
+use borrow.Author.Tests.{eq-eqb, eqb-true}
+use lib.ListN.{length, getD, set, List·getD-eq-default}
+use lib.Seq.{getD-append-seam}
+use Rattle.definition.specs.Notation.{if_then_else_, mapFrom, mutateAt, any, sumOf}
+use Rattle.definition.specs.Permission.{NodeRelation, Permission, Protected, SafePointer, isProtected, isYes, nextBy}
+use Rattle.definition.specs.Tree.{Node, noNode, nodeAt, parents, relation, isSpared, Visit, nodeAfter, visited}
+use Rattle.definition.specs.Layout.{FreezeMask}
+use Rattle.definition.specs.Memory.{Allocation, Liveness, Memory, noAllocation, allocationAt, offset, Provenance, ThinPointer, allocationOf, nodeOf, nodeCount, visitOf, writeAll, afterAccessIn, afterDeallocateIn, acceptAllocate, acceptAccess, acceptDeallocate}
+use Rattle.definition.specs.Memory.Liveness.{Live, Dead}
+use Rattle.definition.specs.Frame.{Frame, State, frameAt, entries, newCall, lacksProtector, unprotectNode, releaseVisit, releasedNodes, afterReleaseIn, afterRelease, afterReleaseAll, acceptEndCall}
+use Rattle.definition.specs.Frame.Frame.{Closed, Open}
+use Rattle.definition.specs.Retag.{ReborrowSettings, reborrowSettings, childNode, withChild, initVisit, afterInit, afterReborrowIn, framesAfter, acceptReborrow}
+use Rattle.definition.specs.Valid.{All}
+use Rattle.definition.proofs.Booleans.{and-left, and-right}
+use Rattle.definition.proofs.Any.{none-any, any-each}
+use Rattle.definition.proofs.Lists.{mutate-kept}
+use Rattle.definition.proofs.Counts.{sum-append, sum-set}
+use Rattle.definition.proofs.Alls.{if-holds, all-imp}
+use Rattle.definition.proofs.Places.{mutate-here, mutate-holds, append-holds}
+use Rattle.definition.proofs.Rows.{visited-node}
+use Rattle.definition.proofs.ValidTrees.{nextBy-protected, settings-agree, child-valid}
+use Rattle.definition.proofs.Changes.{Kept, KeptByRequest, KeptByEnd, InAllocation, in-allocation}
+
+-- ---- a node's protector: nothing but its own release takes it
+lacks-after : (v : Visit) (ps : List ℕ) (n : ℕ) (x : Node) → lacksProtector (nodeAfter v ps n x) ≡ lacksProtector x
+unfolding nodeAfter
+lacks-after v ps n x = ap (λ (t : Bool). not (isYes (x .protected)) || t) (go (isSpared ps (v .spared) n))
+  where
+    r : NodeRelation
+    r = relation ps n (v .accessed)
+
+    go : (t : Bool) → any (λ p. not (isProtected p)) (if t then x .permissions else mapFrom 0 (λ b p. nextBy (v .accessAt b) r p) (x .permissions)) ≡ any (λ p. not (isProtected p)) (x .permissions)
+    go true = refl
+    go false = any-each (λ p. not (isProtected p)) (λ b p. nextBy (v .accessAt b) r p) (λ b p. ap not (nextBy-protected (v .accessAt b) r p)) 0 (x .permissions)
+
+visited-lacks : (v : Visit) (nodes : List Node) (j : ℕ) → lacksProtector (nodeAt (visited v nodes) j) ≡ lacksProtector (nodeAt nodes j)
+visited-lacks v nodes j = ap lacksProtector (visited-node v nodes j) ∙ lacks-after v (parents nodes) j (nodeAt nodes j)
+
+init-lacks : (child b : ℕ) (inside : List Permission) (nodes : List Node) (j : ℕ) → lacksProtector (nodeAt (afterInit child b inside nodes) j) ≡ lacksProtector (nodeAt nodes j)
+unfolding afterInit
+init-lacks child b [] nodes j = refl
+init-lacks child b (p ∷ inside) nodes j = init-lacks child (suc b) inside (visited (initVisit child b p) nodes) j ∙ visited-lacks (initVisit child b p) nodes j
+
+released-lacks : (state : Liveness) (n : ℕ) (nodes : List Node) (j : ℕ) → (n ≡ j → ⊥) → lacksProtector (nodeAt (releasedNodes state n nodes) j) ≡ lacksProtector (nodeAt nodes j)
+released-lacks Live n nodes j d =
+    visited-lacks (releaseVisit n nodes) (mutateAt n (unprotectNode Live) nodes) j ∙ mutate-kept lacksProtector (unprotectNode Live) noNode nodes n j (λ e. absurd (d e))
+released-lacks Dead n nodes j d = mutate-kept lacksProtector (unprotectNode Dead) noNode nodes n j (λ e. absurd (d e))
+
+abbrev pub HasProtector : ℕ → Allocation → Type 0
+HasProtector n a = lacksProtector (nodeAt (a .nodes) n) ≡ false
+
+-- where no node is, no protector is: so a node that has one was made
+no-node-lacks : {A : Type 0} → lacksProtector noNode ≡ false → A
+no-node-lacks h = absurd (false≢true (sym h))
+
+pub has-node : (n : ℕ) (a : Allocation) → HasProtector n a → n < nodeCount a
+has-node n a h = elim (decLt n (nodeCount a)) [ yes l ↦ l | no l ↦ no-node-lacks (ap lacksProtector (sym (List·getD-eq-default (a .nodes) noNode {n = n} (omega arith))) ∙ h) ]
+
+pub has-allocation : (m : Memory) (k n : ℕ) → HasProtector n (allocationAt m k) → k < length m
+has-allocation m k n h =
+    elim (decLt k (length m)) [
+      | yes l ↦ l
+      | no l ↦ no-node-lacks (ap (λ (a : Allocation). lacksProtector (nodeAt (a .nodes) n)) (sym (List·getD-eq-default m noAllocation {n = k} (omega arith))) ∙ h)
+    ]
+
+protector-kept : (n : ℕ) → Kept (HasProtector n)
+unfolding afterAccessIn afterDeallocateIn afterReborrowIn withChild
+protector-kept n =
+    record {
+      allocated = λ kind len exponent address h. no-node-lacks h;
+      accessed = λ x a e h. visited-lacks (visitOf x a) (a .nodes) n ∙ h;
+      deallocated = λ p a e h. visited-lacks (writeAll p a) (a .nodes) n ∙ h;
+      reborrowed =
+          λ pointer protected mask freeze p a l e h.
+          let w : ReborrowSettings = reborrowSettings pointer protected mask freeze in
+          init-lacks (length (a .nodes)) (offset a p) (w .inside) (withChild w p a) n
+          ∙ append-holds (λ x. lacksProtector x ≡ false) noNode (a .nodes) (childNode w p a) n (λ i k. no-node-lacks k) h;
+    }
+
+-- ---- how often a node stands among entries
+abbrev isSame : Provenance → Provenance → Bool
+isSame e t = eqb (e .allocation) (t .allocation) && eqb (e .node) (t .node)
+
+same-is : (e t : Provenance) → isSame e t ≡ true → e ≡ t
+same-is e t h =
+    let first : Bool = eqb (e .allocation) (t .allocation) in
+    let second : Bool = eqb (e .node) (t .node) in
+    ap₂ {C = Provenance} (λ (i j : ℕ). record { allocation = i; node = j }) (eqb-true (e .allocation) (t .allocation) (and-left first second h)) (eqb-true (e .node) (t .node) (and-right first second h))
+
+same-itself : (t : Provenance) → isSame t t ≡ true
+same-itself t = rw (eq-eqb (t .allocation) (t .allocation) refl, eq-eqb (t .node) (t .node) refl)
+
+different-nodes : (e t : Provenance) → isSame e t ≡ false → t .allocation ≡ e .allocation → t .node ≡ e .node → ⊥
+different-nodes e t d i j = false≢true (sym d ∙ rw (eq-eqb (e .allocation) (t .allocation) (sym i), eq-eqb (e .node) (t .node) (sym j)))
+
+-- in a list, and in all frames
+abbrev pub entryCount : Provenance → List Provenance → ℕ
+entryCount e es = sumOf (λ t. if isSame e t then 1 else 0) es
+
+abbrev pub enteredCount : Provenance → List Frame → ℕ
+enteredCount e frames = sumOf (λ f. entryCount e (entries f)) frames
+
+pub entry-here : (e : Provenance) (es : List Provenance) → entryCount e (e ∷ es) ≡ suc (entryCount e es)
+unfolding sumOf
+entry-here e es = rw (same-itself e) (omega arith)
+
+entry-more : (e t : Provenance) (es : List Provenance) → entryCount e es ≤ entryCount e (t ∷ es)
+unfolding sumOf
+entry-more e t es = omega arith
+
+entry-last : (e t : Provenance) (es : List Provenance) (b : Bool) → isSame e t ≡ b → entryCount e (es ++ (t ∷ [])) ≡ entryCount e es + (if b then 1 else 0)
+unfolding sumOf
+entry-last e t es b d = sum-append (λ t. if isSame e t then 1 else 0) es (t ∷ []) ∙ rw d (omega arith)
+
+pub each-entry : (Q : Provenance → Type 0) (es : List Provenance) → ((e : Provenance) → 0 < entryCount e es → Q e) → All Q es
+each-entry Q [] h = tt
+each-entry Q (t ∷ es) h = (h t (omega (arith, entry-here t es)), each-entry Q es (λ e l. h e (omega (arith, entry-more e t es))))
+
+-- one frame replaced
+pub frame-replaced : (e : Provenance) (frames : List Frame) (f : ℕ) (x : Frame)
+    → enteredCount e (set frames f x) + entryCount e (entries (getD frames f Closed)) ≤ enteredCount e frames + entryCount e (entries x)
+unfolding sumOf
+frame-replaced e frames f x = sum-set (λ f. entryCount e (entries f)) Closed refl frames f x
+
+-- ---- the bound: as often as the node has its protector, once or not at all
+abbrev pub HasAt : Memory → Provenance → Type 0
+HasAt m e = HasProtector (e .node) (allocationAt m (e .allocation))
+
+abbrev pub protectors : Memory → Provenance → ℕ
+protectors m e = if lacksProtector (nodeAt (allocationAt m (e .allocation) .nodes) (e .node)) then 0 else 1
+
+abbrev pub EnteredOnce : Provenance → State → Type 0
+EnteredOnce e s = enteredCount e (s .frames) ≤ protectors (s .memory) e
+
+protector-le : (a b : Bool) → (a ≡ false → b ≡ false) → (if a then 0 else 1) ≤ (if b then 0 else 1)
+protector-le true b h = omega arith
+protector-le false true h = absurd (false≢true (sym (h refl)))
+protector-le false false h = omega arith
+
+protectors-le : (m m′ : Memory) (e : Provenance) → (HasAt m e → HasAt m′ e) → protectors m e ≤ protectors m′ e
+protectors-le m m′ e h =
+    protector-le (lacksProtector (nodeAt (allocationAt m (e .allocation) .nodes) (e .node))) (lacksProtector (nodeAt (allocationAt m′ (e .allocation) .nodes) (e .node))) h
+
+pub has-one : (m : Memory) (e : Provenance) → 0 < protectors m e → HasAt m e
+has-one m e l = go (lacksProtector (nodeAt (allocationAt m (e .allocation) .nodes) (e .node))) l
+  where
+    go : (a : Bool) → 0 < (if a then 0 else 1) → a ≡ false
+    go true l = absurd (omega arith)
+    go false l = refl
+
+at-most-one : (m : Memory) (e : Provenance) → protectors m e ≤ 1
+at-most-one m e = go (lacksProtector (nodeAt (allocationAt m (e .allocation) .nodes) (e .node)))
+  where
+    go : (a : Bool) → (if a then 0 else 1) ≤ 1
+    go true = omega arith
+    go false = omega arith
+
+-- ---- a release: what else is entered still has its protector
+other-kept : (m : Memory) (e t : Provenance) → isSame e t ≡ false → HasAt m e → HasAt (afterRelease m t) e
+unfolding afterRelease afterReleaseIn
+other-kept m e t d h =
+    mutate-holds (HasProtector (e .node)) noAllocation (afterReleaseIn (t .node)) m (t .allocation) (e .allocation)
+    (λ i k. released-lacks (allocationAt m (t .allocation) .state) (t .node) (allocationAt m (t .allocation) .nodes) (e .node) (different-nodes e t d i) ∙ k) h
+
+-- of the entries to release the first, where `rest` more of them stand in other frames
+pub release-first : (e : Provenance) (rest : ℕ) (m : Memory) (t : Provenance) (es : List Provenance) → entryCount e (t ∷ es) + rest ≤ protectors m e
+    → entryCount e es + rest ≤ protectors (afterRelease m t) e
+unfolding sumOf
+release-first e rest m t es h = go (isSame e t) refl h
+  where
+    go : (b : Bool) → isSame e t ≡ b → ((if b then 1 else 0) + entryCount e es) + rest ≤ protectors m e → entryCount e es + rest ≤ protectors (afterRelease m t) e
+    go true d l = omega (arith, at-most-one m e)
+    go false d l = omega (arith, protectors-le m (afterRelease m t) e (other-kept m e t d))
+
+release-all-entered : (e : Provenance) (rest : ℕ) (es : List Provenance) (m : Memory) → entryCount e es + rest ≤ protectors m e → rest ≤ protectors (afterReleaseAll m es) e
+unfolding afterReleaseAll
+release-all-entered e rest [] m h = omega arith
+release-all-entered e rest (t ∷ es) m h = release-all-entered e rest es (afterRelease m t) (release-first e rest m t es h)
+
+-- ---- a retag: the new node is entered in no frame before, and has its protector after
+module _ (pointer : SafePointer) (protected : Protected) (mask : FreezeMask) (freeze : Bool) (frame : ℕ) (p : ThinPointer) (s : State) where
+  abbrev w : ReborrowSettings
+  w = reborrowSettings pointer protected mask freeze
+
+  abbrev m : Memory
+  m = s .memory
+
+  abbrev n : ℕ
+  n = allocationOf (p .provenance)
+
+  abbrev a : Allocation
+  a = allocationAt m n
+
+  abbrev m′ : Memory
+  m′ = mutateAt n (afterReborrowIn w p) m
+
+  abbrev child : Provenance
+  child = record { allocation = n; node = length (a .nodes) }
+
+  abbrev longer : List Frame
+  longer = set (s .frames) frame (Open (entries (frameAt s frame) ++ (child ∷ [])))
+
+  none-before : protectors m child ≡ 0
+  none-before = ap (λ (x : Node). if lacksProtector x then 0 else 1) (List·getD-eq-default (a .nodes) noNode {n = length (a .nodes)} (omega arith))
+
+  child-protected : isYes protected ≡ true → lacksProtector (childNode w p a) ≡ false
+  unfolding childNode
+  child-protected y =
+      let x : Node = childNode w p a in
+      let marked : All (λ q. isProtected q ≡ isYes protected) (x .permissions) = child-valid w p a (settings-agree pointer protected mask freeze) true (suc (nodeOf (p .provenance))) (omega arith) .marked refl in
+      ap₂ _||_ (ap not y)
+      (none-any (λ q. not (isProtected q)) (x .permissions) (all-imp (λ q. isProtected q ≡ isYes protected) (λ q. not (isProtected q) ≡ false) (λ q h. ap not (h ∙ y)) (x .permissions) marked))
+
+  one-after : isYes protected ≡ true → n < length m → protectors m′ child ≡ 1
+  unfolding afterReborrowIn withChild
+  one-after y l =
+      ap (λ (b : Bool). if b then 0 else 1)
+      (ap (λ (x : Allocation). lacksProtector (nodeAt (x .nodes) (length (a .nodes)))) (mutate-here (afterReborrowIn w p) noAllocation m n l)
+      ∙ init-lacks (length (a .nodes)) (offset a p) (w .inside) (withChild w p a) (length (a .nodes))
+      ∙ ap lacksProtector (getD-append-seam (a .nodes) (childNode w p a) [] noNode) ∙ child-protected y)
+
+  module _ (e : Provenance) (made : n < length m) (k : HasAt m e → HasAt m′ e) (h : EnteredOnce e s) where
+    child-entered : isYes protected ≡ true → enteredCount e longer ≤ protectors m′ e
+    child-entered y = go (isSame e child) refl
+      where
+        es : List Provenance
+        es = entries (frameAt s frame)
+
+        at-most : enteredCount e longer + entryCount e es ≤ enteredCount e (s .frames) + entryCount e (es ++ (child ∷ []))
+        at-most = frame-replaced e (s .frames) frame (Open (es ++ (child ∷ [])))
+
+        go : (b : Bool) → isSame e child ≡ b → enteredCount e longer ≤ protectors m′ e
+        go true d =
+            let q : e ≡ child = same-is e child d in
+            omega (arith, h, at-most, entry-last e child es true d, ap (protectors m) q ∙ none-before, ap (protectors m′) q ∙ one-after y made)
+        go false d = omega (arith, h, at-most, entry-last e child es false d, protectors-le m m′ e k)
+
+    retag-entered : enteredCount e (framesAfter w frame child s) ≤ protectors m′ e
+    retag-entered =
+        if-holds (λ frames. enteredCount e frames ≤ protectors m′ e) (isYes protected) longer (s .frames) child-entered (λ y. omega (arith, h, protectors-le m m′ e k))
+
+-- ---- every request
+module _ (e : Provenance) where
+  -- a request to the memory alone
+  grown : (s : State) (m′ : Memory) → (HasAt (s .memory) e → HasAt m′ e) → EnteredOnce e s → enteredCount e (s .frames) ≤ protectors m′ e
+  grown s m′ k h = omega (arith, h, protectors-le (s .memory) m′ e k)
+
+  has-kept : KeptByRequest (InAllocation (HasProtector (e .node)) (e .allocation))
+  has-kept = in-allocation (HasProtector (e .node)) (e .allocation) (protector-kept (e .node))
+
+  pub entered-kept : KeptByRequest (EnteredOnce e)
+  unfolding acceptReborrow newCall sumOf
+  entered-kept =
+      record {
+        allocated =
+            λ kind len exponent address s h.
+            grown s (acceptAllocate kind len exponent address (s .memory) .1) (has-kept .allocated kind len exponent address s) h;
+        accessed = λ x s z h. grown s (acceptAccess x (s .memory) .1) (has-kept .accessed x s z) h;
+        deallocated = λ p kind len exponent s z h. grown s (acceptDeallocate p (s .memory) .1) (has-kept .deallocated p kind len exponent s z) h;
+        reborrowed =
+            λ pointer protected mask freeze frame p s passed parent h.
+            retag-entered pointer protected mask freeze frame p s e (parent .allocation)
+            (has-kept .reborrowed pointer protected mask freeze frame p s passed parent) h;
+        opened = λ f s o h. omega (arith, h, frame-replaced e (s .frames) f (Open []));
+      }
+
+  pub entered-ended : (s : State) (f : ℕ) → KeptByEnd (EnteredOnce e) s f
+  unfolding acceptEndCall sumOf
+  entered-ended s f z h =
+      release-all-entered e (enteredCount e (set (s .frames) f Closed)) (entries (frameAt s f)) (s .memory) (omega (arith, h, frame-replaced e (s .frames) f Closed))
