@@ -30,7 +30,7 @@ use Rattle.definition.proofs.Alls.{all-getD, all-replicate}
 use Rattle.definition.proofs.Rows.{permissionAt}
 use Rattle.definition.proofs.Releases.{Releasable, visited-releasable, release-accepted, released-releasable, withChild-releasable, init-releasable, no-end-releasable}
 use Rattle.definition.proofs.ValidMemory.{is-made}
-use Rattle.definition.proofs.Changes.{Kept, KeptByRelease, InAllocation, in-allocation, ended-allocation, release-keeps, in-frames, step-keeps}
+use Rattle.definition.proofs.Changes.{Kept, KeptByRelease, KeptFrames, InAllocation, in-allocation, ended-allocation, release-keeps, in-frames, step-keeps}
 use Rattle.definition.proofs.Entries.{has-node, has-allocation, entryCount, enteredCount, protectors, HasAt, has-one, entry-here, each-entry, frame-replaced, EnteredOnce, release-first, entered-kept, entered-ended}
 
 -- ---- every allocation's tree: requests keep that the end of any protector in it is accepted
@@ -80,7 +80,7 @@ release-all rest (t ∷ es) m f h =
     ap₂ _or_ first
     (release-all rest es (afterRelease m t) (λ k. release-keeps HasReleasable k releasable-released m t first (f k)) (λ e. release-first e (rest e) m t es (h e)))
 
--- ---- what every request keeps of a state, and what makes its end calls accepted:
+-- ---- what every request keeps of a state, and what makes its end calls accepted
 pub record Sound (s : State) : Type 0 where
   -- there are 32 frames, so that an open one has a number that a request can name
   pub count : length (s .frames) ≡ frameCount
@@ -125,23 +125,31 @@ empty-sound =
       entered = λ e. omega (arith, none-entered e frameCount);
     }
 
+abbrev Counted : List Frame → Type 0
+Counted frames = length frames ≡ frameCount
+
+set-counted : (f : ℕ) (x : Frame) (frames : List Frame) → Counted frames → Counted (set frames f x)
+set-counted f x frames h = length-set frames f x ∙ h
+
+counted-kept : KeptFrames Counted
+counted-kept =
+    record {
+      opened = λ f frames o. set-counted f (Open []) frames;
+      entered = λ f frames e. set-counted f (Open (entries (getD frames f Closed) ++ (e ∷ []))) frames;
+    }
+
 pub step-sound : (s : State) (ws : List ℕ) → Sound s → Sound (step s ws .1)
 unfolding acceptEndCall
 step-sound s ws h =
+    let f : ℕ = request ws .fourth in
     record {
-      count =
-          step-keeps (λ s. Counted (s .frames)) (in-frames Counted (record { opened = λ f frames o. counted f (Open []) frames; entered = λ f frames e. counted f (Open (entries (getD frames f Closed) ++ (e ∷ []))) frames })) s ws
-          (λ k z. counted (request ws .fourth) Closed (s .frames)) (h .count);
+      count = step-keeps (λ s. Counted (s .frames)) (in-frames Counted counted-kept) s ws (λ end e. set-counted f Closed (s .frames)) (h .count);
       releases =
-          λ k. step-keeps (InAllocation HasReleasable k) (in-allocation HasReleasable k releasable-kept) s ws (λ e. ended-allocation HasReleasable k releasable-released s (request ws .fourth)) (h .releases k);
-      entered = λ e. step-keeps (EnteredOnce e) (entered-kept e) s ws (λ k. entered-ended e s (request ws .fourth)) (h .entered e);
+          λ k.
+          step-keeps (InAllocation HasReleasable k) (in-allocation HasReleasable k releasable-kept) s ws (λ end. ended-allocation HasReleasable k releasable-released s f)
+          (h .releases k);
+      entered = λ e. step-keeps (EnteredOnce e) (entered-kept e) s ws (λ end. entered-ended e s f) (h .entered e);
     }
-  where
-    Counted : List Frame → Type 0
-    Counted frames = length frames ≡ frameCount
-
-    counted : (f : ℕ) (x : Frame) (frames : List Frame) → length frames ≡ frameCount → length (set frames f x) ≡ frameCount
-    counted f x frames h = length-set frames f x ∙ h
 
 run-sound : (s : State) (wss : List (List ℕ)) → Sound s → Sound (final s wss)
 unfolding final
