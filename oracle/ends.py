@@ -3,9 +3,9 @@
 
     oracle/ends.py [--seed S] [--count N] [--places P] [--starts]
 
-That is M-109's claim, which is proved of the definition; here it is tried on the Rust itself. Draws N lists of requests from the empty memory, and takes of
-each the first requests, in up to P lengths spread over it. Behind these it puts an end call for each of the 32 frames. Every end call, those of the list
-among them, has to be accepted or answered with 2, as for a frame that is not open, and in the end no frame may be open.
+That is the claim of docs/landings/M-109.md, which is proved of the definition; here it is tried on the Rust itself. Draws N lists of requests from the
+empty memory, and takes of each the first requests, in up to P lengths spread over it. Behind these it puts an end call for each of the 32 frames. Every end
+call, those of the list among them, has to be accepted or answered with 2, as for a frame that is not open, and in the end no frame may be open.
 
 With --starts the lists start from a memory and frames drawn by chance, which no requests have made. The claim does not hold there, and refusals are found.
 
