@@ -21,7 +21,7 @@ use Rattle.definition.specs.Frame.{Frame, State, frameCount, frameAt, is
 use Rattle.definition.specs.Frame.Frame.{Closed, Open}
 use Rattle.definition.specs.Retag.{ReborrowSettings, reborrowSettings, withChild, afterReborrowIn}
 use Rattle.definition.specs.Request.{request, followingLength, isMiscounted, isMalformed}
-use Rattle.definition.specs.Request.Kind.{EndCall}
+use Rattle.definition.specs.Request.Kind.{Allocate, EndCall}
 use Rattle.definition.specs.Run.{perform, step, answers, final}
 use Rattle.definition.specs.EndCalls.{EndCallsAccepted, Blameless, EndCallsBlameless}
 use Rattle.definition.proofs.Booleans.{or-right}
@@ -175,9 +175,17 @@ step-blameless s h ws k = go (isMiscounted ws || isMalformed (request ws .kind) 
     go true = inr refl
     go false = inl performed
 
+-- no words are no end call
+no-words : request [] .kind ≡ EndCall → ⊥
+unfolding request
+no-words k =
+    let wrong : Allocate ≡ EndCall = k in
+    let z : _≡_ {A = ℕ} 0 1 = cc in
+    omega arith
+
 sound-blameless : (s : State) → Sound s → (wss : List (List ℕ)) → EndCallsBlameless s wss
 unfolding answers
-sound-blameless s h [] i k = inl refl
+sound-blameless s h [] i k = absurd (no-words k)
 sound-blameless s h (ws ∷ wss) zero k = step-blameless s h ws k
 sound-blameless s h (ws ∷ wss) (suc i) k = sound-blameless (step s ws .1) (step-sound s ws h) wss i k
 

@@ -8,7 +8,7 @@ use mathlib.Core.Bool.{true}
 use mathlib.Core.Logic.{_⊎_}
 use mathlib.Core.List.{List, [], _∷_}
 use lib.ListN.{getD}
-use Rattle.definition.specs.Refusal.{malformed}
+use Rattle.definition.specs.Refusal.{malformed, notProtected}
 use Rattle.definition.specs.Memory.{Answer, refusedWith, accepted}
 use Rattle.definition.specs.Frame.{State, frameAt, isOpen}
 use Rattle.definition.specs.Request.{request}
@@ -27,6 +27,7 @@ EndCallsAccepted s = (f : ℕ) → isOpen (frameAt s f) ≡ true → step s (end
 abbrev pub Blameless : Answer → Type 0
 Blameless a = (a ≡ accepted) ⊎ (a ≡ refusedWith malformed)
 
--- of a list: whatever words ask for the end of a call, so they are answered. No verdict is a refusal there for another reason
+-- of a list: whatever words ask for the end of a call, so they are answered. No verdict is a refusal there for another reason.
+-- In place of an answer that is missing stands a 16, which is not blameless
 abbrev pub EndCallsBlameless : State → List (List ℕ) → Type 0
-EndCallsBlameless s wss = (i : ℕ) → request (getD wss i []) .kind ≡ EndCall → Blameless (getD (answers s wss) i accepted)
+EndCallsBlameless s wss = (i : ℕ) → request (getD wss i []) .kind ≡ EndCall → Blameless (getD (answers s wss) i (refusedWith notProtected))
