@@ -50,19 +50,29 @@ Fits t = length (t .bytes) ≤ t .len
 abbrev outcome : ℕ → MemoryAccess → Memory → Answer × Memory
 outcome r x m = unlessRefused r m (acceptAccess x m)
 
--- an access of some length that passes the bounds test starts inside
-inside : (a : Allocation) (p : ThinPointer) (n : ℕ) → (n ≡ 0 → ⊥) → checkPtr a p 0 n ≡ 0 → a .address ≤ p .address
+-- some bytes that pass the bounds test lie inside a live allocation
+pub record InBounds (a : Allocation) (p : ThinPointer) (n : ℕ) : Type 0 where
+  pub live : isLive (a .state) ≡ true
+  pub start : a .address ≤ p .address
+  pub end : p .address + n ≤ a .address + size a
+
+pub in-bounds : (a : Allocation) (p : ThinPointer) (n : ℕ) → (n ≡ 0 → ⊥) → checkPtr a p 0 n ≡ 0 → InBounds a p n
 unfolding checkPtr
-inside a p n z e =
-    let h : (missingProvenance when hasNone (p .provenance) or deadAllocation when not (isLive (a .state)) or outOfBounds when isOutside a p 0 n) ≡ 0 = rw (ne-eqb (0 + n) 0 (λ q. z (omega arith))) at e in
-    let h9 : (outOfBounds when isOutside a p 0 n) ≡ 0 =
-    or-right (deadAllocation when not (isLive (a .state))) (outOfBounds when isOutside a p 0 n) (or-right (missingProvenance when hasNone (p .provenance)) (deadAllocation when not (isLive (a .state)) or outOfBounds when isOutside a p 0 n) h)
-    in
-    let o : isOutside a p 0 n ≡ false = when-none 8 (isOutside a p 0 n) h9 in
-    let l : a .address + 0 ≤ p .address =
-    leb-true (a .address + 0) (p .address) (and-left (leb (a .address + 0) (p .address)) (leb (p .address + n) (a .address + size a)) (not-false _ o))
-    in
-    omega arith
+in-bounds a p n z e =
+    let r7 : ℕ = missingProvenance when hasNone (p .provenance) in
+    let r8 : ℕ = deadAllocation when not (isLive (a .state)) in
+    let r9 : ℕ = outOfBounds when isOutside a p 0 n in
+    let h : (r7 or r8 or r9) ≡ 0 = rw (ne-eqb (0 + n) 0 (λ q. z (omega arith))) at e in
+    let h8 : (r8 or r9) ≡ 0 = or-right r7 (r8 or r9) h in
+    let start : Bool = leb (a .address + 0) (p .address) in
+    let end : Bool = leb (p .address + n) (a .address + size a) in
+    let o : start && end ≡ true = not-false (start && end) (when-none 8 (isOutside a p 0 n) (or-right r8 r9 h8)) in
+    let l : a .address + 0 ≤ p .address = leb-true (a .address + 0) (p .address) (and-left start end o) in
+    record {
+      live = not-false (isLive (a .state)) (when-none 7 (not (isLive (a .state))) (or-left r8 r9 h8));
+      start = omega arith;
+      end = leb-true (p .address + n) (a .address + size a) (and-right start end o);
+    }
 
 -- ---- one byte
 inRange-true : (f n b : ℕ) → inRange f n b ≡ true → (f ≤ b) × (b < f + n)
@@ -128,7 +138,7 @@ module _ (t u : MemoryAccess) (a : Allocation) where
         | no z ↦
             rw (ne-eqb (u .len) 0 z)
             (visit-refused (visitOf t a) (visitOf u a)
-            (calm-visits t u a it (inside a (u .pointer) (u .len) z e) (ind z)) (a .nodes))
+            (calm-visits t u a it (in-bounds a (u .pointer) (u .len) z e .start) (ind z)) (a .nodes))
       ]
 
   pub refusal-kept : a .address ≤ from t → ((Empty u → ⊥) → Aside t u) → accessRefusalIn u (afterAccessIn t a) ≡ accessRefusalIn u a
@@ -185,10 +195,10 @@ module _ (t : MemoryAccess) (m : Memory) where
       let a = target m (t .pointer) in
       let p = checkPtr a (t .pointer) 0 (t .len) in
       let rest = if eqb (t .len) 0 then 0 else visitRefusal (visitOf t a) (a .nodes) in
-      inside a (t .pointer) (t .len) z
+      in-bounds a (t .pointer) (t .len) z
       (or-left p rest
       (or-right (misaligned when isMisaligned (from t) (t .exponent)) (p or rest)
-      (or-right (neverMade when namesNeverMade m (t .pointer .provenance)) (misaligned when isMisaligned (from t) (t .exponent) or p or rest) e)))
+      (or-right (neverMade when namesNeverMade m (t .pointer .provenance)) (misaligned when isMisaligned (from t) (t .exponent) or p or rest) e))) .start
 
   -- an accepted access leaves the memory, or changes one allocation
   pub after-none : Empty t → afterAccess t m ≡ m

@@ -19,6 +19,11 @@ pub outcome-holds : {S : Type 0} (P : S → Type 0) (r : ℕ) (before : S) (outc
 outcome-holds P zero before outcome p h = h refl
 outcome-holds P (suc r) before outcome p h = p
 
+-- what is accepted was not refused
+pub not-refused : {S : Type 0} (r : ℕ) (before : S) (outcome : Answer × S) → unlessRefused r before outcome .0 .refusal ≡ 0 → r ≡ 0
+not-refused zero before outcome e = refl
+not-refused (suc r) before outcome e = e
+
 -- ---- each element
 module _ {A : Type 0} (P : A → Type 0) where
   pub all-imp : (Q : A → Type 0) → ((x : A) → P x → Q x) → (l : List A) → All P l → All Q l

@@ -1,5 +1,5 @@
 -- What requests do to a state, for laws that go request by request. An accepted one allocates, accesses, deallocates, reborrows, opens a call or ends one; any
--- other leaves the state as it was. So what each of these changes keeps, every request keeps (`step-keeps`).
+-- other leaves the state as it was. So what each of these changes keeps, every request keeps (`step-keeps`), and every list of them (`run-keeps`).
 --     KeptByRequest, KeptByEnd    a law of states that they keep
 --     Kept, KeptByRelease         a law of one allocation, which is one of states (`in-allocation`, `ended-allocation`)
 --     KeptFrames                  a law of the frames, which is one of states (`in-frames`)
@@ -14,6 +14,7 @@ use lib.ListN.{length, getD, set}
 use Rattle.definition.specs.Notation.{if_then_else_, _when_, _or_, mutateAt, any}
 use Rattle.definition.specs.Refusal.{malformed, neverMade, misaligned, missingProvenance, deadAllocation, awayFromStart, anotherKind, anotherSize, anotherAlignment, strongProtector}
 use Rattle.definition.specs.Permission.{Protected, isYes, SafePointer}
+use Rattle.definition.specs.Permission.AccessKind.{Read, Write}
 use Rattle.definition.specs.Tree.{visitRefusal, visited}
 use Rattle.definition.specs.Layout.{FreezeMask, freezeMask}
 use Rattle.definition.specs.Memory.{Allocation, AllocationKind, size, Memory, noAllocation, allocationAt, target, offset, Provenance, ThinPointer, hasNone, allocationOf, nodeOf, isLive, Answer, refusedWith, givesPointer, unlessRefused, kindNumber, namesNeverMade, wasMade, checkPtr, nodeCount, MemoryAccess, visitOf, isMisaligned, accessRefusalIn, accessRefusal, afterAccessIn, afterAccess, acceptAccess, performAccess, newAllocation, allocateRefusal, acceptAllocate, allocate, nodePreventsDeallocation, writeAll, deallocateRefusal, afterDeallocateIn, acceptDeallocate, deallocate, dereferenceable, leakCheck}
@@ -22,12 +23,17 @@ use Rattle.definition.specs.Frame.Frame.{Closed, Open}
 use Rattle.definition.specs.Retag.{ReborrowSettings, reborrowSettings, withChild, initRefusal, afterReborrowIn, reborrowRefusal, acceptReborrow, reborrow, retagWithoutNode, retag}
 use Rattle.definition.specs.Request.{Kind, Request, request, pointer, allocationKind, frameNumber, safePointer, protectorOf, freeze, addsNoNode, loadOf, storeOf, isMiscounted, isMalformed, badCall, isOpenFrame}
 use Rattle.definition.specs.Request.Kind.{Allocate, Deallocate, Load, Store, Retag, NewCall, EndCall, Dereferenceable, SignedDereferenceable, LeakCheck, Unused}
-use Rattle.definition.specs.Run.{retagWithMask, performRetag, perform, step}
+use Rattle.definition.specs.Run.{retagWithMask, performRetag, perform, step, final}
 use Rattle.definition.proofs.Booleans.{or-neither, or-left, or-right}
 use Rattle.definition.proofs.Alls.{if-holds, outcome-holds}
 use Rattle.definition.proofs.Places.{mutate-holds, append-holds}
 use Rattle.definition.proofs.ValidMemory.{Made}
 use Rattle.definition.proofs.ValidFrames.{Passed, passed, named-made, has-provenance}
+
+-- a load has no bytes to store, a store as many as its length
+pub data IsAccess (x : MemoryAccess) : Type 0 where
+  load : x .kind ≡ Read → x .bytes ≡ [] → IsAccess x
+  store : x .kind ≡ Write → x .len ≡ length (x .bytes) → IsAccess x
 
 -- ---- laws of a state
 -- the node that a retag's pointer names, the new node's parent
@@ -36,7 +42,7 @@ parentOf p = record { allocation = allocationOf (p .provenance); node = nodeOf (
 
 pub record KeptByRequest (P : State → Type 0) : Type 0 where
   pub allocated : (kind : AllocationKind) (len exponent address : ℕ) (s : State) → P s → P (inMemory s (acceptAllocate kind len exponent address (s .memory)) .1)
-  pub accessed : (x : MemoryAccess) (s : State) → accessRefusal x (s .memory) ≡ 0 → P s → P (inMemory s (acceptAccess x (s .memory)) .1)
+  pub accessed : (x : MemoryAccess) → IsAccess x → (s : State) → accessRefusal x (s .memory) ≡ 0 → P s → P (inMemory s (acceptAccess x (s .memory)) .1)
   pub deallocated : (p : ThinPointer) (kind : AllocationKind) (len exponent : ℕ) (s : State) → deallocateRefusal (s .memory) p kind len exponent ≡ 0
       → P s → P (inMemory s (acceptDeallocate p (s .memory)) .1)
   pub reborrowed : (pointer : SafePointer) (protected : Protected) (mask : FreezeMask) (freeze : Bool) (frame : ℕ) (p : ThinPointer) (s : State)
@@ -53,9 +59,9 @@ module _ (P : State → Type 0) (kept : KeptByRequest P) where
   in-memory-keeps : (s : State) (r : ℕ) (outcome : Answer × Memory) → (r ≡ 0 → P s → P (inMemory s outcome .1)) → P s → P (inMemory s (unlessRefused r (s .memory) outcome) .1)
   in-memory-keeps s r outcome accept h = outcome-holds (λ (m : Memory). P (record { memory = m; frames = s .frames })) r (s .memory) outcome h (λ e. accept e h)
 
-  access-keeps : (x : MemoryAccess) (s : State) → P s → P (inMemory s (performAccess x (s .memory)) .1)
+  access-keeps : (x : MemoryAccess) → IsAccess x → (s : State) → P s → P (inMemory s (performAccess x (s .memory)) .1)
   unfolding performAccess
-  access-keeps x s h = in-memory-keeps s (accessRefusal x (s .memory)) (acceptAccess x (s .memory)) (kept .accessed x s) h
+  access-keeps x i s h = in-memory-keeps s (accessRefusal x (s .memory)) (acceptAccess x (s .memory)) (kept .accessed x i s) h
 
   without-node-keeps : (p : ThinPointer) (s : State) → P s → P (retagWithoutNode p s .1)
   unfolding retagWithoutNode
@@ -95,8 +101,8 @@ module _ (P : State → Type 0) (kept : KeptByRequest P) where
       unfold deallocate in
       in-memory-keeps s (deallocateRefusal (s .memory) (pointer q) (allocationKind q) (q .fourth) (q .exponent)) (acceptDeallocate (pointer q) (s .memory))
       (kept .deallocated (pointer q) (allocationKind q) (q .fourth) (q .exponent) s) h
-  perform-keeps Load s q fine ended h = access-keeps (loadOf q) s h
-  perform-keeps Store s q fine ended h = access-keeps (storeOf q) s h
+  perform-keeps Load s q fine ended h = access-keeps (loadOf q) (load refl refl) s h
+  perform-keeps Store s q fine ended h = access-keeps (storeOf q) (store refl refl) s h
   perform-keeps Retag s q fine ended h =
       unfold performRetag in
       if-holds (λ (o : Answer × State). P (o .1)) (addsNoNode q) (retagWithoutNode (pointer q) s) (retagWithMask (freezeMask (q .following)) s q)
@@ -110,18 +116,29 @@ module _ (P : State → Type 0) (kept : KeptByRequest P) where
   perform-keeps LeakCheck s q fine ended h = unfold leakCheck in h
   perform-keeps Unused s q fine ended h = h
 
-  pub step-keeps : (s : State) (ws : List ℕ) → (request ws .kind ≡ EndCall → KeptByEnd P s (request ws .fourth)) → P s → P (step s ws .1)
-  unfolding step
+  -- the end of a call has to keep it where the request comes to one
+  pub step-keeps : (s : State) (ws : List ℕ) → (request ws .kind ≡ EndCall → step s ws ≡ endCall (request ws .fourth) s → KeptByEnd P s (request ws .fourth))
+      → P s → P (step s ws .1)
+  unfolding step perform
   step-keeps s ws ended h =
       let q : Request = request ws in
-      if-holds (λ (o : Answer × State). P (o .1)) (isMiscounted ws || isMalformed (q .kind) s q) (refusedWith malformed, s) (perform (q .kind) s q)
-      (λ e. h) (λ e. perform-keeps (q .kind) s q (or-neither (isMiscounted ws) (isMalformed (q .kind) s q) e .1) ended h)
+      let refused : Answer × State = (refusedWith malformed, s) in
+      let performed : Kind → Answer × State = λ kind. perform kind s q in
+      if-holds (λ (o : Answer × State). P (o .1)) (isMiscounted ws || isMalformed (q .kind) s q) refused (performed (q .kind)) (λ e. h)
+      (λ e.
+      perform-keeps (q .kind) s q (or-neither (isMiscounted ws) (isMalformed (q .kind) s q) e .1)
+      (λ end. ended end (ap (λ (t : Bool). if t then refused else performed (q .kind)) e ∙ ap performed end)) h)
+
+  pub run-keeps : ((s : State) (f : ℕ) → KeptByEnd P s f) → (s : State) (wss : List (List ℕ)) → P s → P (final s wss)
+  unfolding final
+  run-keeps ended s [] h = h
+  run-keeps ended s (ws ∷ wss) h = run-keeps ended (step s ws .1) wss (step-keeps s ws (λ end performed. ended s (request ws .fourth)) h)
 
 -- ---- laws of an allocation
 -- by all changes but a release. Where no allocation is, `noAllocation` stands, so that a new one comes in its place
 pub record Kept (P : Allocation → Type 0) : Type 0 where
   pub allocated : (kind : AllocationKind) (len exponent address : ℕ) → P noAllocation → P (newAllocation kind len exponent address)
-  pub accessed : (x : MemoryAccess) (a : Allocation) → visitRefusal (visitOf x a) (a .nodes) ≡ 0 → P a → P (afterAccessIn x a)
+  pub accessed : (x : MemoryAccess) → IsAccess x → (a : Allocation) → visitRefusal (visitOf x a) (a .nodes) ≡ 0 → P a → P (afterAccessIn x a)
   pub deallocated : (p : ThinPointer) (a : Allocation) → visitRefusal (writeAll p a) (a .nodes) ≡ 0 → P a → P (afterDeallocateIn p a)
   pub reborrowed : (pointer : SafePointer) (protected : Protected) (mask : FreezeMask) (freeze : Bool) (p : ThinPointer) (a : Allocation)
       → (let w : ReborrowSettings = reborrowSettings pointer protected mask freeze in
@@ -180,11 +197,11 @@ module _ (P : Allocation → Type 0) (k : ℕ) where
             λ kind len exponent address s h.
             append-holds P noAllocation (s .memory) (newAllocation kind len exponent address) k (λ i. kept .allocated kind len exponent address) h;
         accessed =
-            λ x s e h.
+            λ x access s e h.
             let m : Memory = s .memory in
             let n : ℕ = allocationOf (x .pointer .provenance) in
             if-holds (λ (after : Memory). P (allocationAt after k)) (eqb (x .len) 0) m (mutateAt n (afterAccessIn x) m) (λ z. h)
-            (λ z. mutate-holds P noAllocation (afterAccessIn x) m n k (λ i. kept .accessed x (allocationAt m n) (access-visit x m z e)) h);
+            (λ z. mutate-holds P noAllocation (afterAccessIn x) m n k (λ i. kept .accessed x access (allocationAt m n) (access-visit x m z e)) h);
         deallocated =
             λ p kind len exponent s e h.
             let m : Memory = s .memory in
@@ -229,7 +246,7 @@ unfolding acceptReborrow newCall
 in-frames P kept =
     record {
       allocated = λ kind len exponent address s h. h;
-      accessed = λ x s e h. h;
+      accessed = λ x access s e h. h;
       deallocated = λ p kind len exponent s e h. h;
       reborrowed =
           λ pointer protected mask freeze frame p s passed parent h.

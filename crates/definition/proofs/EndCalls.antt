@@ -31,7 +31,8 @@ use Rattle.definition.proofs.Rows.{permissionAt}
 use Rattle.definition.proofs.Releases.{Releasable, visited-releasable, release-accepted, released-releasable, withChild-releasable, init-releasable, no-end-releasable}
 use Rattle.definition.proofs.ValidMemory.{is-made}
 use Rattle.definition.proofs.Changes.{Kept, KeptByRelease, KeptFrames, InAllocation, in-allocation, ended-allocation, release-keeps, in-frames, step-keeps}
-use Rattle.definition.proofs.Entries.{has-node, has-allocation, entryCount, enteredCount, protectors, HasAt, has-one, entry-here, each-entry, frame-replaced, EnteredOnce, release-first, entered-kept, entered-ended}
+use Rattle.definition.proofs.Protectors.{has-node, has-allocation}
+use Rattle.definition.proofs.Entries.{entryCount, enteredCount, protectors, HasAt, has-one, entry-here, each-entry, frame-replaced, EnteredOnce, release-first, entered-kept, entered-ended}
 
 -- ---- every allocation's tree: requests keep that the end of any protector in it is accepted
 abbrev HasReleasable : Allocation → Type 0
@@ -42,7 +43,7 @@ unfolding newAllocation afterAccessIn afterDeallocateIn afterReborrowIn
 releasable-kept =
     record {
       allocated = λ kind len exponent address h. no-end-releasable _ (record { root = refl; earlier = λ j z l. absurd (omega arith) }) (root len);
-      accessed = λ x a e h. visited-releasable (visitOf x a) tt (a .nodes) e h;
+      accessed = λ x access a e h. visited-releasable (visitOf x a) tt (a .nodes) e h;
       deallocated = λ p a e h. visited-releasable (writeAll p a) tt (a .nodes) e h;
       reborrowed =
           λ pointer protected mask freeze p a l e h.
@@ -143,21 +144,22 @@ unfolding acceptEndCall
 step-sound s ws h =
     let f : ℕ = request ws .fourth in
     record {
-      count = step-keeps (λ s. Counted (s .frames)) (in-frames Counted counted-kept) s ws (λ end e. set-counted f Closed (s .frames)) (h .count);
+      count = step-keeps (λ s. Counted (s .frames)) (in-frames Counted counted-kept) s ws (λ end performed e. set-counted f Closed (s .frames)) (h .count);
       releases =
           λ k.
-          step-keeps (InAllocation HasReleasable k) (in-allocation HasReleasable k releasable-kept) s ws (λ end. ended-allocation HasReleasable k releasable-released s f)
+          step-keeps (InAllocation HasReleasable k) (in-allocation HasReleasable k releasable-kept) s ws
+          (λ end performed. ended-allocation HasReleasable k releasable-released s f)
           (h .releases k);
-      entered = λ e. step-keeps (EnteredOnce e) (entered-kept e) s ws (λ end. entered-ended e s f) (h .entered e);
+      entered = λ e. step-keeps (EnteredOnce e) (entered-kept e) s ws (λ end performed. entered-ended e s f) (h .entered e);
     }
 
-run-sound : (s : State) (wss : List (List ℕ)) → Sound s → Sound (final s wss)
+pub run-sound : (s : State) (wss : List (List ℕ)) → Sound s → Sound (final s wss)
 unfolding final
 run-sound s [] h = h
 run-sound s (ws ∷ wss) h = run-sound (step s ws .1) wss (step-sound s ws h)
 
 -- ---- an end call by its words
-open-frame : (frames : List Frame) (f : ℕ) → isOpen (getD frames f Closed) ≡ true → f < length frames
+pub open-frame : (frames : List Frame) (f : ℕ) → isOpen (getD frames f Closed) ≡ true → f < length frames
 open-frame frames f o = elim (decLt f (length frames)) [ yes l ↦ l | no l ↦ absurd (false≢true (ap isOpen (sym (List·getD-eq-default frames Closed {n = f} (omega arith))) ∙ o)) ]
 
 sound-accepted : (s : State) → Sound s → EndCallsAccepted s

@@ -1,102 +1,44 @@
 -- A node stands among the frames' entries once at most, and only while it has its protector (`EnteredOnce`): a retag enters the node that it makes, and nothing
 -- but its own release takes a node's protector. Every request keeps this, in any state (`entered-kept`, `entered-ended`).
+-- And an entry of a frame stays until the frame's call is ended (`run-lists`).
 use Prim.Native.Nat.{ℕ, suc, _+_, _≤_, _<_}
 use mathlib.Core.Path.{_≡_, refl, sym, ap, ap₂, _∙_}
-use mathlib.Core.Bool.{Bool, true, false, not, _&&_, _||_, false≢true}
+use mathlib.Core.Bool.{Bool, true, false, not, _||_, false≢true}
 use mathlib.Core.List.{List, [], _∷_, _++_}
-use native.Mathlib.Decide.{decLt}
 use native.Mathlib.Omega.{arith}
 use lib.Dec.{eqb}
 use borrow.Author.Tests.{eq-eqb, eqb-true}
 use lib.ListN.{length, getD, set, List·getD-eq-default}
 use lib.Seq.{getD-append-seam}
-use Rattle.definition.specs.Notation.{if_then_else_, mapFrom, mutateAt, any, sumOf}
-use Rattle.definition.specs.Permission.{NodeRelation, Permission, Protected, SafePointer, isProtected, isYes, nextBy}
-use Rattle.definition.specs.Tree.{Node, noNode, nodeAt, parents, relation, isSpared, Visit, nodeAfter, visited}
+use Rattle.definition.specs.Notation.{if_then_else_, mutateAt, any, sumOf}
+use Rattle.definition.specs.Permission.{Protected, SafePointer, isProtected, isYes}
+use Rattle.definition.specs.Tree.{Node, noNode, nodeAt}
 use Rattle.definition.specs.Layout.{FreezeMask}
-use Rattle.definition.specs.Memory.{Allocation, Liveness, Memory, noAllocation, allocationAt, offset, Provenance, ThinPointer, allocationOf, nodeOf, nodeCount, visitOf, writeAll, afterAccessIn, afterDeallocateIn, acceptAllocate, acceptAccess, acceptDeallocate}
-use Rattle.definition.specs.Memory.Liveness.{Live, Dead}
-use Rattle.definition.specs.Frame.{Frame, State, frameAt, entries, newCall, lacksProtector, unprotectNode, releaseVisit, releasedNodes, afterReleaseIn, afterRelease, afterReleaseAll, acceptEndCall}
+use Rattle.definition.specs.Memory.{Allocation, Memory, noAllocation, allocationAt, offset, Provenance, ThinPointer, allocationOf, nodeOf, Answer, accepted, unlessRefused, wasMade, acceptAllocate, acceptAccess, acceptDeallocate}
+use Rattle.definition.specs.Frame.{Frame, State, frameAt, isOpen, entries, newCall, lacksProtector, afterReleaseIn, afterRelease, afterReleaseAll, acceptEndCall, endCall}
 use Rattle.definition.specs.Frame.Frame.{Closed, Open}
-use Rattle.definition.specs.Retag.{ReborrowSettings, reborrowSettings, childNode, withChild, initVisit, afterInit, afterReborrowIn, framesAfter, acceptReborrow}
-use Rattle.definition.specs.Valid.{All}
+use Rattle.definition.specs.Retag.{ReborrowSettings, reborrowSettings, childNode, withChild, afterReborrowIn, framesAfter, acceptReborrow}
+use Rattle.definition.specs.Request.{request}
+use Rattle.definition.specs.Run.{step, answers, final}
+use Rattle.definition.specs.Valid.{All, ValidFrame}
+use Rattle.definition.specs.SharedArguments.{isSame, IsEntered, AsksToEnd, NeverEnds}
 use Rattle.definition.proofs.Booleans.{and-left, and-right}
-use Rattle.definition.proofs.Any.{none-any, any-each}
-use Rattle.definition.proofs.Lists.{mutate-kept}
+use Rattle.definition.proofs.Any.{none-any, any-more}
 use Rattle.definition.proofs.Counts.{sum-append, sum-set}
 use Rattle.definition.proofs.Alls.{if-holds, all-imp}
-use Rattle.definition.proofs.Places.{mutate-here, mutate-holds, append-holds}
-use Rattle.definition.proofs.Rows.{visited-node}
-use Rattle.definition.proofs.ValidTrees.{nextBy-protected, settings-agree, child-valid}
-use Rattle.definition.proofs.Changes.{Kept, KeptByRequest, KeptByEnd, InAllocation, in-allocation}
-
--- ---- a node's protector: nothing but its own release takes it
-lacks-after : (v : Visit) (ps : List ℕ) (n : ℕ) (x : Node) → lacksProtector (nodeAfter v ps n x) ≡ lacksProtector x
-unfolding nodeAfter
-lacks-after v ps n x = ap (λ (t : Bool). not (isYes (x .protected)) || t) (go (isSpared ps (v .spared) n))
-  where
-    r : NodeRelation
-    r = relation ps n (v .accessed)
-
-    go : (t : Bool) → any (λ p. not (isProtected p)) (if t then x .permissions else mapFrom 0 (λ b p. nextBy (v .accessAt b) r p) (x .permissions)) ≡ any (λ p. not (isProtected p)) (x .permissions)
-    go true = refl
-    go false = any-each (λ p. not (isProtected p)) (λ b p. nextBy (v .accessAt b) r p) (λ b p. ap not (nextBy-protected (v .accessAt b) r p)) 0 (x .permissions)
-
-visited-lacks : (v : Visit) (nodes : List Node) (j : ℕ) → lacksProtector (nodeAt (visited v nodes) j) ≡ lacksProtector (nodeAt nodes j)
-visited-lacks v nodes j = ap lacksProtector (visited-node v nodes j) ∙ lacks-after v (parents nodes) j (nodeAt nodes j)
-
-init-lacks : (child b : ℕ) (inside : List Permission) (nodes : List Node) (j : ℕ) → lacksProtector (nodeAt (afterInit child b inside nodes) j) ≡ lacksProtector (nodeAt nodes j)
-unfolding afterInit
-init-lacks child b [] nodes j = refl
-init-lacks child b (p ∷ inside) nodes j = init-lacks child (suc b) inside (visited (initVisit child b p) nodes) j ∙ visited-lacks (initVisit child b p) nodes j
-
-released-lacks : (state : Liveness) (n : ℕ) (nodes : List Node) (j : ℕ) → (n ≡ j → ⊥) → lacksProtector (nodeAt (releasedNodes state n nodes) j) ≡ lacksProtector (nodeAt nodes j)
-released-lacks Live n nodes j d =
-    visited-lacks (releaseVisit n nodes) (mutateAt n (unprotectNode Live) nodes) j ∙ mutate-kept lacksProtector (unprotectNode Live) noNode nodes n j (λ e. absurd (d e))
-released-lacks Dead n nodes j d = mutate-kept lacksProtector (unprotectNode Dead) noNode nodes n j (λ e. absurd (d e))
-
-abbrev pub HasProtector : ℕ → Allocation → Type 0
-HasProtector n a = lacksProtector (nodeAt (a .nodes) n) ≡ false
-
--- where no node is, no protector is: so a node that has one was made
-no-node-lacks : {A : Type 0} → lacksProtector noNode ≡ false → A
-no-node-lacks h = absurd (false≢true (sym h))
-
-pub has-node : (n : ℕ) (a : Allocation) → HasProtector n a → n < nodeCount a
-has-node n a h = elim (decLt n (nodeCount a)) [ yes l ↦ l | no l ↦ no-node-lacks (ap lacksProtector (sym (List·getD-eq-default (a .nodes) noNode {n = n} (omega arith))) ∙ h) ]
-
-pub has-allocation : (m : Memory) (k n : ℕ) → HasProtector n (allocationAt m k) → k < length m
-has-allocation m k n h =
-    elim (decLt k (length m)) [
-      | yes l ↦ l
-      | no l ↦ no-node-lacks (ap (λ (a : Allocation). lacksProtector (nodeAt (a .nodes) n)) (sym (List·getD-eq-default m noAllocation {n = k} (omega arith))) ∙ h)
-    ]
-
-protector-kept : (n : ℕ) → Kept (HasProtector n)
-unfolding afterAccessIn afterDeallocateIn afterReborrowIn withChild
-protector-kept n =
-    record {
-      allocated = λ kind len exponent address h. no-node-lacks h;
-      accessed = λ x a e h. visited-lacks (visitOf x a) (a .nodes) n ∙ h;
-      deallocated = λ p a e h. visited-lacks (writeAll p a) (a .nodes) n ∙ h;
-      reborrowed =
-          λ pointer protected mask freeze p a l e h.
-          let w : ReborrowSettings = reborrowSettings pointer protected mask freeze in
-          init-lacks (length (a .nodes)) (offset a p) (w .inside) (withChild w p a) n
-          ∙ append-holds (λ x. lacksProtector x ≡ false) noNode (a .nodes) (childNode w p a) n (λ i k. no-node-lacks k) h;
-    }
+use Rattle.definition.proofs.Places.{mutate-here, mutate-holds, set-holds}
+use Rattle.definition.proofs.ValidTrees.{settings-agree, child-valid}
+use Rattle.definition.proofs.Changes.{KeptByRequest, KeptByEnd, InAllocation, KeptFrames, in-allocation, in-frames, step-keeps}
+use Rattle.definition.proofs.Protectors.{HasProtector, init-lacks, released-lacks, protector-kept}
 
 -- ---- how often a node stands among entries
-abbrev isSame : Provenance → Provenance → Bool
-isSame e t = eqb (e .allocation) (t .allocation) && eqb (e .node) (t .node)
-
 same-is : (e t : Provenance) → isSame e t ≡ true → e ≡ t
 same-is e t h =
     let first : Bool = eqb (e .allocation) (t .allocation) in
     let second : Bool = eqb (e .node) (t .node) in
     ap₂ {C = Provenance} (λ (i j : ℕ). record { allocation = i; node = j }) (eqb-true (e .allocation) (t .allocation) (and-left first second h)) (eqb-true (e .node) (t .node) (and-right first second h))
 
-same-itself : (t : Provenance) → isSame t t ≡ true
+pub same-itself : (t : Provenance) → isSame t t ≡ true
 same-itself t = rw (eq-eqb (t .allocation) (t .allocation) refl, eq-eqb (t .node) (t .node) refl)
 
 different-nodes : (e t : Provenance) → isSame e t ≡ false → t .allocation ≡ e .allocation → t .node ≡ e .node → ⊥
@@ -264,7 +206,7 @@ module _ (e : Provenance) where
         allocated =
             λ kind len exponent address s h.
             grown s (acceptAllocate kind len exponent address (s .memory) .1) (has-kept .allocated kind len exponent address s) h;
-        accessed = λ x s z h. grown s (acceptAccess x (s .memory) .1) (has-kept .accessed x s z) h;
+        accessed = λ x access s z h. grown s (acceptAccess x (s .memory) .1) (has-kept .accessed x access s z) h;
         deallocated = λ p kind len exponent s z h. grown s (acceptDeallocate p (s .memory) .1) (has-kept .deallocated p kind len exponent s z) h;
         reborrowed =
             λ pointer protected mask freeze frame p s passed parent h.
@@ -277,3 +219,78 @@ module _ (e : Provenance) where
   unfolding acceptEndCall sumOf
   entered-ended s f z h =
       release-all-entered e (enteredCount e (set (s .frames) f Closed)) (entries (frameAt s f)) (s .memory) (omega (arith, h, frame-replaced e (s .frames) f Closed))
+
+-- what is entered has its protector
+counted : (e : Provenance) (es : List Provenance) → any (isSame e) es ≡ true → 0 < entryCount e es
+unfolding any sumOf
+counted e [] h = absurd (false≢true h)
+counted e (t ∷ es) h = go (isSame e t) h (counted e es)
+  where
+    go : (b : Bool) → (if b then true else any (isSame e) es) ≡ true → (any (isSame e) es ≡ true → 0 < entryCount e es) → 0 < (if b then 1 else 0) + entryCount e es
+    go true h k = omega arith
+    go false h k = omega (arith, k h)
+
+pub entered-protected : (e : Provenance) (s : State) → EnteredOnce e s → IsEntered e s → HasProtector (e .node) (allocationAt (s .memory) (e .allocation))
+unfolding sumOf
+entered-protected e s h i =
+    has-one (s .memory) e (omega (arith, h, frame-replaced e (s .frames) (i .frame) Closed, counted e (entries (frameAt s (i .frame))) (i .entered)))
+
+-- ---- an entry of frame f stays there until an end call of f is accepted
+module _ (e : Provenance) (f : ℕ) where
+  abbrev Lists : Frame → Type 0
+  Lists x = any (isSame e) (entries x) ≡ true
+
+  closed-lists-none : (x : Frame) → isOpen x ≡ false → Lists x → ⊥
+  unfolding any
+  closed-lists-none Closed o h = absurd (false≢true h)
+  closed-lists-none (Open es) o h = absurd (false≢true (sym o))
+
+  lists-more : (es : List Provenance) (t : Provenance) → Lists (Open es) → Lists (Open (es ++ (t ∷ [])))
+  lists-more es t h = any-more (isSame e) es t ∙ go (isSame e t)
+    where
+      go : (b : Bool) → (if b then true else any (isSame e) es) ≡ true
+      go true = refl
+      go false = h
+
+  lists-kept : KeptFrames (λ frames. Lists (getD frames f Closed))
+  lists-kept =
+      record {
+        opened = λ k frames o. set-holds Lists Closed frames k (Open []) f (λ i h. absurd (closed-lists-none (getD frames k Closed) o h));
+        entered =
+            λ k frames t.
+            let es : List Provenance = entries (getD frames k Closed) in
+            set-holds Lists Closed frames k (Open (es ++ (t ∷ []))) f (λ i h. lists-more es t h);
+      }
+
+  step-lists : (s : State) (ws : List ℕ) → (AsksToEnd f ws → step s ws .0 ≡ accepted → ⊥) → Lists (frameAt s f) → Lists (frameAt (step s ws .1) f)
+  unfolding endCall acceptEndCall
+  step-lists s ws never =
+      let g : ℕ = request ws .fourth in
+      step-keeps (λ s. Lists (frameAt s f)) (in-frames (λ frames. Lists (getD frames f Closed)) lists-kept) s ws
+      (λ end performed unrefused.
+      let answer : step s ws .0 ≡ accepted =
+      ap (λ (o : Answer × State). o .0) performed ∙ ap (λ (r : ℕ). unlessRefused r s (acceptEndCall g s) .0) unrefused
+      in
+      set-holds Lists Closed (s .frames) g Closed f (λ i h. absurd (never (record { kind = end; frame = i }) answer)))
+
+  pub run-lists : (s : State) (wss : List (List ℕ)) → NeverEnds f s wss → any (isSame e) (entries (frameAt s f)) ≡ true
+      → any (isSame e) (entries (frameAt (final s wss) f)) ≡ true
+  unfolding answers final
+  run-lists s [] never h = h
+  run-lists s (ws ∷ wss) never h = run-lists (step s ws .1) wss (λ i. never (suc i)) (step-lists s ws (never 0) h)
+
+-- ---- a node that is not made yet is in no frame of a well-formed state
+module _ (m : Memory) (e : Provenance) (unmade : wasMade m e ≡ false) where
+  no-entry : (es : List Provenance) → All (λ t. wasMade m t ≡ true) es → entryCount e es ≡ 0
+  unfolding sumOf
+  no-entry [] h = refl
+  no-entry (t ∷ es) h = go (isSame e t) refl (no-entry es (h .1))
+    where
+      go : (b : Bool) → isSame e t ≡ b → entryCount e es ≡ 0 → (if b then 1 else 0) + entryCount e es ≡ 0
+      go true d z = absurd (false≢true (sym unmade ∙ ap (wasMade m) (same-is e t d) ∙ h .0))
+      go false d z = omega arith
+
+  pub in-no-frame : (frames : List Frame) → All (ValidFrame m) frames → enteredCount e frames ≡ 0
+  unfolding sumOf
+  in-no-frame [] h = refl
+  in-no-frame (f ∷ frames) h = omega (arith, no-entry (entries f) (h .0 .made), in-no-frame frames (h .1))

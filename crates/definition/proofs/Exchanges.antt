@@ -3,7 +3,7 @@
 -- A load or store is either refused with 2 whatever the state, or an access; accesses that are independent commute (Accesses).
 use Prim.Native.Nat.{ℕ, zero, suc, _+_, _≤_, _<_}
 use mathlib.Core.Path.{_≡_, refl, sym, ap, ap₂, _∙_}
-use mathlib.Core.Bool.{Bool, true, false, not, _&&_, _||_, false≢true}
+use mathlib.Core.Bool.{Bool, true, false, _&&_, _||_, false≢true}
 use mathlib.Core.Logic.{_⊎_, inl, inr, ⊎-elim}
 use mathlib.Core.List.{List, [], _∷_}
 use native.Mathlib.Decide.{decLt}
@@ -14,7 +14,7 @@ use lib.ListN.{length, getD, drop, length-drop}
 use Rattle.definition.specs.Notation.{if_then_else_}
 use Rattle.definition.specs.Refusal.{malformed}
 use Rattle.definition.specs.Permission.AccessKind.{Read}
-use Rattle.definition.specs.Memory.{Memory, Answer, refusedWith, unlessRefused, MemoryAccess, accessRefusal, acceptAccess, performAccess}
+use Rattle.definition.specs.Memory.{Memory, Answer, refusedWith, MemoryAccess, accessRefusal, acceptAccess, performAccess}
 use Rattle.definition.specs.Frame.{State, empty, inMemory}
 use Rattle.definition.specs.Request.{Kind, request, followingLength, isMiscounted, isMalformed, loadOf, storeOf}
 use Rattle.definition.specs.Request.Kind.{Allocate, Deallocate, Load, Store, Retag, NewCall, EndCall, Dereferenceable, SignedDereferenceable, LeakCheck, Unused}
@@ -22,6 +22,7 @@ use Rattle.definition.specs.Run.{perform, step, answers, final}
 use Rattle.definition.specs.Exchange.{kindOf, IsLoadOrStore, Independent, MayExchange, exchange, exchangeAll, Exchanged, twice, allAccepted, OrderIsFree}
 use Rattle.definition.specs.Exchange.Independent.{both-loads, no-common-address}
 use Rattle.definition.proofs.Booleans.{or-neither}
+use Rattle.definition.proofs.Alls.{not-refused}
 use Rattle.definition.proofs.Accesses.{from, Empty, Fits, Aside, answer-same, memory-same, again, again-answer}
 use Rattle.definition.proofs.Accesses.Aside.{reads, before, behind}
 
@@ -209,13 +210,9 @@ all-end [] l s h = refl
 all-end (n ∷ ns) l s h = all-end ns (exchange n l) s (h .1) ∙ one-end n l s (h .0)
 
 -- ---- a load again
-accepted-none : (r : ℕ) (t : MemoryAccess) (m : Memory) → unlessRefused r m (acceptAccess t m) .0 .refusal ≡ 0 → r ≡ 0
-accepted-none zero t m e = refl
-accepted-none (suc r) t m e = e
-
 was-accepted : (t : MemoryAccess) (m : Memory) → performAccess t m .0 .refusal ≡ 0 → accessRefusal t m ≡ 0
 unfolding performAccess
-was-accepted t m e = accepted-none (accessRefusal t m) t m e
+was-accepted t m e = not-refused (accessRefusal t m) m (acceptAccess t m) e
 
 play-again : (b : Bool) (t : MemoryAccess) → t .kind ≡ Read → t .bytes ≡ [] → Fits t → (s : State) → play b t s .0 .refusal ≡ 0
     → (play b t (play b t s .1) .0 ≡ play b t s .0) × (play b t (play b t s .1) .1 ≡ play b t s .1)

@@ -3,7 +3,7 @@
 --     refusal-leaf     the first refusal is that through the parent, where nothing is refused at the leaf itself
 --     visited-leaf     the others are left as the visit through the parent leaves them
 use Prim.Native.Nat.{ℕ, suc, _+_, _<_}
-use mathlib.Core.Path.{_≡_, refl, sym, ap, ap₂, _∙_}
+use mathlib.Core.Path.{_≡_, refl, sym, ap, ap₂, subst, _∙_}
 use mathlib.Core.Bool.{Bool, true, false}
 use mathlib.Core.Option.{Option, none}
 use mathlib.Core.List.{List, [], _∷_, _++_}
@@ -98,6 +98,10 @@ withRow x row = record { parent = x .parent; protected = x .protected; permissio
 pub parents-append : (nodes : List Node) (x : Node) → parents (nodes ++ (x ∷ [])) ≡ parents nodes ++ (x .parent ∷ [])
 parents-append [] x = refl
 parents-append (y ∷ nodes) x = ap {B = List ℕ} (λ l. y .parent ∷ l) (parents-append nodes x)
+
+pub appended-tree : (nodes : List Node) (x : Node) → x .parent < length nodes → Parents (parents nodes) → Parents (parents (nodes ++ (x ∷ [])))
+appended-tree nodes x l tree =
+    subst Parents (sym (parents-append nodes x)) (grown-tree (parents nodes) tree (x .parent) (omega (arith, length-map nodes (λ x. x .parent))))
 
 module _ (nodes : List Node) (tree : Parents (parents nodes)) (child : Node) (l : child .parent < length nodes) (f : ℕ → Option AccessKind) where
   abbrev ps : List ℕ

@@ -32,5 +32,9 @@ pub mod ValidMemory
 pub mod ValidFrames
 pub mod ValidRuns
 pub mod Changes
+pub mod Protectors
 pub mod Entries
 pub mod EndCalls
+pub mod Held
+pub mod SharedArguments
+mod ExampleCall

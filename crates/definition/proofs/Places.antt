@@ -1,10 +1,10 @@
 -- What stands at a place of a list.
 use Prim.Native.Nat.{ℕ, zero, suc, _+_, _<_}
 use mathlib.Core.Path.{_≡_, refl, sym, ap, subst, _∙_}
-use mathlib.Core.List.{List, [], _∷_, _++_}
+use mathlib.Core.List.{List, [], _∷_, _++_, map}
 use native.Mathlib.Nat.{zero-add, add-zero}
 use native.Mathlib.Omega.{arith}
-use lib.ListN.{length, getD}
+use lib.ListN.{length, getD, set}
 use Rattle.definition.specs.Notation.{mapFrom, mutateAt}
 use Rattle.definition.specs.Memory.{Memory, noAllocation, allocationAt}
 use Rattle.definition.specs.Valid.{All, AllFrom, ValidAllocation, Valid}
@@ -46,6 +46,11 @@ module _ {A : Type 0} where
   mutate-same f g d (x ∷ xs) zero e = ap (λ (y : A). y ∷ xs) e
   mutate-same f g d (x ∷ xs) (suc n) e = ap (λ (l : List A). x ∷ l) (mutate-same f g d xs n e)
 
+pub map-at : {A B : Type 0} (f : A → B) (d : A) (e : B) (l : List A) (i : ℕ) → i < length l → getD (map f l) i e ≡ f (getD l i d)
+map-at f d e [] i h = absurd (omega arith)
+map-at f d e (x ∷ l) zero h = refl
+map-at f d e (x ∷ l) (suc i) h = map-at f d e l i (omega arith)
+
 module _ {A : Type 0} (P : A → Type 0) (d : A) where
   -- what holds of the element at place k still does after a change at place n, if the change keeps it
   pub mutate-holds : (f : A → A) (l : List A) (n k : ℕ) → (n ≡ k → P (getD l n d) → P (f (getD l n d))) → P (getD l k d) → P (getD (mutateAt n f l) k d)
@@ -55,6 +60,14 @@ module _ {A : Type 0} (P : A → Type 0) (d : A) where
   mutate-holds f (x ∷ xs) zero (suc k) h p = p
   mutate-holds f (x ∷ xs) (suc n) zero h p = p
   mutate-holds f (x ∷ xs) (suc n) (suc k) h p = mutate-holds f xs n k (λ e. h (ap suc e)) p
+
+  -- and after another is set at place n, if that one has it
+  pub set-holds : (l : List A) (n : ℕ) (x : A) (k : ℕ) → (n ≡ k → P (getD l n d) → P x) → P (getD l k d) → P (getD (set l n x) k d)
+  set-holds [] n x k h p = p
+  set-holds (y ∷ l) zero x zero h p = h refl p
+  set-holds (y ∷ l) zero x (suc k) h p = p
+  set-holds (y ∷ l) (suc n) x zero h p = p
+  set-holds (y ∷ l) (suc n) x (suc k) h p = set-holds l n x k (λ e. h (ap suc e)) p
 
   -- and after one more element, if that one has it where nothing stood
   pub append-holds : (l : List A) (x : A) (k : ℕ) → (k ≡ length l → P d → P x) → P (getD l k d) → P (getD (l ++ (x ∷ [])) k d)

@@ -236,7 +236,7 @@ unprotected-at state n nodes j b =
     (λ e h.
     inr (List·getD-map unprotected (nodeAt nodes n .permissions) b (Unprot PermissionUnprot.Cell) ∙ ap (λ (i : ℕ). unprotected (permissionAt nodes i b)) e)) (inl refl)
 
-unprotected-parents : (state : Liveness) (n : ℕ) (nodes : List Node) → parents (mutateAt n (unprotectNode state) nodes) ≡ parents nodes
+pub unprotected-parents : (state : Liveness) (n : ℕ) (nodes : List Node) → parents (mutateAt n (unprotectNode state) nodes) ≡ parents nodes
 unprotected-parents state n nodes = mutate-map (λ x. x .parent) (unprotectNode state) (λ x. refl) n nodes
 
 unprotected-releasable : (state : Liveness) (n : ℕ) (nodes : List Node) → Releasable nodes → Releasable (mutateAt n (unprotectNode state) nodes)

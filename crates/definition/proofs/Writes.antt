@@ -1,11 +1,14 @@
 -- Laws of `writeAt`.
 use Prim.Native.Nat.{ℕ, zero, suc, _+_, _≤_, _<_}
 use mathlib.Core.Path.{_≡_, refl, sym, ap, _∙_}
+use mathlib.Core.Bool.{false, false≢true}
 use mathlib.Core.List.{List, [], _∷_, _++_, map}
 use native.Mathlib.Nat.{zero-add, suc-add}
+use native.Mathlib.Decide.{decLt}
 use native.Mathlib.Omega.{arith}
+use borrow.Author.Tests.{le-leb, lt-ltb}
 use lib.ListN.{length, getD, take, drop, set}
-use Rattle.definition.specs.Notation.{writeAt}
+use Rattle.definition.specs.Notation.{writeAt, inRange}
 
 module _ {A : Type 0} where
   pub write-none : (n : ℕ) (xs : List A) → writeAt n [] xs ≡ xs
@@ -104,6 +107,17 @@ module _ {A : Type 0} where
   behind-write zero (y ∷ ys) (x ∷ xs) (suc b) d h = behind-write zero ys xs b d (omega arith)
   behind-write (suc n) ys (x ∷ xs) zero d h = absurd (omega arith)
   behind-write (suc n) ys (x ∷ xs) (suc b) d h = behind-write n ys xs b d (omega arith)
+
+  pub outside-write : (n : ℕ) (ys xs : List A) (b : ℕ) (d : A) → inRange n (length ys) b ≡ false → getD (writeAt n ys xs) b d ≡ getD xs b d
+  outside-write n ys xs b d h =
+      elim (decLt b n) [
+        | yes i ↦ before-write n ys xs b d i
+        | no i ↦
+            elim (decLt b (n + length ys)) [
+              | yes j ↦ absurd (false≢true (sym h ∙ rw (le-leb n b (omega arith), lt-ltb b (n + length ys) j)))
+              | no j ↦ behind-write n ys xs b d (omega arith)
+            ]
+      ]
 
   -- a part that ends before what is written, and one that starts behind it
   pub part-before : (o l n : ℕ) (ys xs : List A) → o + l ≤ n → take l (drop o (writeAt n ys xs)) ≡ take l (drop o xs)

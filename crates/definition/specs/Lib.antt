@@ -13,3 +13,4 @@ pub mod Valid
 pub mod Exchange
 pub mod Output
 pub mod EndCalls
+pub mod SharedArguments

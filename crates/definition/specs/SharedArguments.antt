@@ -1,0 +1,71 @@
+-- "A shared argument stays put." (M-113): "take an accepted retag at function entry of a shared reference, and a freeze byte inside it. In any accepted
+-- continuation .., up to the release of that node, the byte keeps its contents and the allocation stays live." It is "the promise that compilers use": while a
+-- call lasts, the bytes behind its argument `&T`, outside of cells, are there and hold what they held at its start.
+-- Proved (proofs/SharedArguments) in every state that a list of requests leaves of the empty memory, and in every well-formed one, whatever requests follow.
+-- Refused ones may stand anywhere, as they change nothing.
+use Prim.Native.Nat.{ℕ, _+_, _<_}
+use mathlib.Core.Path.{_≡_}
+use mathlib.Core.Bool.{Bool, true, false, _&&_}
+use mathlib.Core.Option.{some}
+use mathlib.Core.List.{List, [], _∷_}
+use lib.Dec.{eqb}
+use lib.ListN.{length, getD}
+use Rattle.definition.specs.Notation.{any}
+use Rattle.definition.specs.Permission.{SafePointer}
+use Rattle.definition.specs.Layout.{FreezeMask, freezeMask}
+use Rattle.definition.specs.Memory.{Provenance, isLive, size, allocationAt, target, offset, accepted, givesPointer}
+use Rattle.definition.specs.Frame.{State, frameAt, entries}
+use Rattle.definition.specs.Request.{request, pointer, functionEntry, frameNumber, safePointer}
+use Rattle.definition.specs.Request.Kind.{Retag, EndCall}
+use Rattle.definition.specs.Run.{step, answers, final}
+
+-- ---- "an accepted retag at function entry of a shared reference, and a freeze byte inside it": in state s, by the words ws
+pub record SharedArgument (s : State) (ws : List ℕ) : Type 0 where
+  pub retag : request ws .kind ≡ Retag
+  pub shared : safePointer (request ws) ≡ SafePointer.SharedRef
+  pub atEntry : functionEntry (request ws) ≡ true
+  -- the node that it makes
+  pub made : Provenance
+  pub accept : step s ws .0 ≡ givesPointer (some made)
+  -- the freeze mask has a place for each byte inside
+  pub mask : FreezeMask
+  pub masked : freezeMask (request ws .following) ≡ some mask
+  pub place : ℕ
+  pub inside : place < length mask
+  pub freeze : getD mask place false ≡ true
+
+-- where that byte lies in its allocation
+abbrev pub byteOf : {s : State} {ws : List ℕ} → SharedArgument s ws → ℕ
+byteOf {s} {ws} x = offset (target (s .memory) (pointer (request ws))) (pointer (request ws)) + x .place
+
+-- ---- "the byte keeps its contents and the allocation stays live": byte b of allocation n, after and before
+pub record StaysPut (n b : ℕ) (before after : State) : Type 0 where
+  pub live : isLive (allocationAt (after .memory) n .state) ≡ true
+  pub within : b < size (allocationAt (after .memory) n)
+  pub contents : getD (allocationAt (after .memory) n .words) b 0 ≡ getD (allocationAt (before .memory) n .words) b 0
+
+-- ---- "up to the release of that node": until then it is an entry of a frame
+abbrev pub isSame : Provenance → Provenance → Bool
+isSame e t = eqb (e .allocation) (t .allocation) && eqb (e .node) (t .node)
+
+pub record IsEntered (e : Provenance) (s : State) : Type 0 where
+  pub frame : ℕ
+  pub entered : any (isSame e) (entries (frameAt s frame)) ≡ true
+
+-- the words ask for the end of frame f's call
+pub record AsksToEnd (f : ℕ) (ws : List ℕ) : Type 0 where
+  pub kind : request ws .kind ≡ EndCall
+  pub frame : request ws .fourth ≡ f
+
+-- of the requests wss from state s on none does so and is accepted. Behind the last stand no words, which ask for nothing
+abbrev pub NeverEnds : ℕ → State → List (List ℕ) → Type 0
+NeverEnds f s wss = (i : ℕ) → AsksToEnd f (getD wss i []) → getD (answers s wss) i accepted ≡ accepted → ⊥
+
+-- ---- the claim: of the words ws in state s, and the requests wss that follow
+pub record SharedArgumentStays (s : State) (ws : List ℕ) (wss : List (List ℕ)) : Type 0 where
+  -- as long as its node is entered in a frame
+  pub whileEntered : (x : SharedArgument s ws) → IsEntered (x .made) (final s (ws ∷ wss))
+      → StaysPut (x .made .allocation) (byteOf x) s (final s (ws ∷ wss))
+  -- so in the whole call
+  pub duringCall : (x : SharedArgument s ws) → NeverEnds (frameNumber (request ws)) (step s ws .1) wss
+      → StaysPut (x .made .allocation) (byteOf x) s (final s (ws ∷ wss))
