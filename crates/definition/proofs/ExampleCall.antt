@@ -3,7 +3,8 @@
 -- reference, behind one that is no argument, after the call's end.
 use Prim.Native.Nat.{ℕ, zero, suc}
 use mathlib.Core.Path.{_≡_, refl, ap, subst}
-use mathlib.Core.Bool.{true}
+use mathlib.Core.Bool.{true, false}
+use mathlib.Core.Option.{some}
 use mathlib.Core.List.{List, [], _∷_}
 use native.Mathlib.Omega.{arith}
 use lib.ListN.{getD}
@@ -17,6 +18,7 @@ use Rattle.definition.specs.Retag.{childNode, withChild, initRefusal, af
 use Rattle.definition.specs.Request.{request, followingLength, isMiscounted, badByte, badSettings, badMetadata, badRetag, isMalformed}
 use Rattle.definition.specs.Request.Kind.{Allocate, NewCall, EndCall}
 use Rattle.definition.specs.Run.{retagWithMask, performRetag, perform, step, answers, final}
+use Rattle.definition.specs.Exchange.{allAccepted}
 use Rattle.definition.specs.EndCalls.{endCallWords}
 use Rattle.definition.specs.SharedArguments.{SharedArgument, StaysPut, AsksToEnd, NeverEnds}
 use Rattle.definition.proofs.SharedArguments.{shared-argument-stays}
@@ -64,19 +66,25 @@ overwriteThrough = 0x30000300 ∷ 0 ∷ 17 ∷ 1 ∷ 0x80000009 ∷ []
 abbrev secondByte : List (List ℕ) → ℕ
 secondByte wss = getD (allocationAt (final start wss .memory) 0 .words) 1 0
 
+-- every request is accepted, the retag among them, and the 9 is there
+record Writes (wss : List (List ℕ)) : Type 0 where
+  accepts : allAccepted (answers start wss) ≡ true
+  writes : secondByte wss ≡ 0x80000009
+
 -- ---- what they come to, by computation
 record Run : Type 0 where
   shared : SharedArgument start argument
   answered : answers (step start argument .1) during ≡ during-answers
   kept : secondByte (argument ∷ during) ≡ 0x80000006
   freed : answers (step start argument .1) (endCallWords 0 ∷ free ∷ []) ≡ accepted ∷ accepted ∷ []
-  writtenInCell : secondByte (inCell ∷ overwrite ∷ []) ≡ 0x80000009
-  writtenMutably : secondByte (mutable ∷ overwriteThrough ∷ []) ≡ 0x80000009
-  writtenUnprotected : secondByte (noArgument ∷ overwrite ∷ []) ≡ 0x80000009
-  writtenAfterwards : secondByte (argument ∷ endCallWords 0 ∷ overwrite ∷ []) ≡ 0x80000009
+  cellMask : freezeMask (request inCell .following) ≡ some (true ∷ false ∷ [])
+  writtenInCell : Writes (inCell ∷ overwrite ∷ [])
+  writtenMutably : Writes (mutable ∷ overwriteThrough ∷ [])
+  writtenUnprotected : Writes (noArgument ∷ overwrite ∷ [])
+  writtenAfterwards : Writes (argument ∷ endCallWords 0 ∷ overwrite ∷ [])
 
 run : Run
-unfolding firstRefusal tableFrom mapFrom mutateAt writeAt filter any sumOf refusal next isAboveWithin relation descendants preorder visitingOrder rowRefusal nodeRefusal visitRefusal nodeAfter visited cellsFit isFreeze nestedMask freezeMask checkPtr accessRefusalIn accessRefusal afterAccessIn afterAccess loadedWords acceptAccess performAccess isPickable exceedsBounds newAllocation allocateRefusal acceptAllocate allocate deallocateRefusal afterDeallocateIn acceptDeallocate deallocate newCall releaseRefusalIn releaseRefusal afterReleaseIn afterRelease releaseAllRefusal afterReleaseAll endCallRefusal acceptEndCall endCall childNode withChild initRefusal afterInit reborrowRefusal afterReborrowIn acceptReborrow reborrow retag request followingLength isMiscounted badByte badSettings badMetadata badRetag isMalformed retagWithMask performRetag perform step answers final
+unfolding firstRefusal tableFrom mapFrom mutateAt writeAt filter any sumOf refusal next isAboveWithin relation descendants preorder visitingOrder rowRefusal nodeRefusal visitRefusal nodeAfter visited cellsFit isFreeze nestedMask freezeMask checkPtr accessRefusalIn accessRefusal afterAccessIn afterAccess loadedWords acceptAccess performAccess isPickable exceedsBounds newAllocation allocateRefusal acceptAllocate allocate deallocateRefusal afterDeallocateIn acceptDeallocate deallocate newCall releaseRefusalIn releaseRefusal afterReleaseIn afterRelease releaseAllRefusal afterReleaseAll endCallRefusal acceptEndCall endCall childNode withChild initRefusal afterInit reborrowRefusal afterReborrowIn acceptReborrow reborrow retag request followingLength isMiscounted badByte badSettings badMetadata badRetag isMalformed retagWithMask performRetag perform step answers final allAccepted
 run =
     record {
       shared =
@@ -95,10 +103,11 @@ run =
       answered = refl;
       kept = refl;
       freed = refl;
-      writtenInCell = refl;
-      writtenMutably = refl;
-      writtenUnprotected = refl;
-      writtenAfterwards = refl;
+      cellMask = refl;
+      writtenInCell = record { accepts = refl; writes = refl };
+      writtenMutably = record { accepts = refl; writes = refl };
+      writtenUnprotected = record { accepts = refl; writes = refl };
+      writtenAfterwards = record { accepts = refl; writes = refl };
     }
 
 -- ---- the claim at it
