@@ -15,7 +15,7 @@ const RUNS: usize = 1_000;
 static LOCAL_READ: [u8; 256] = {
     let mut table = [0; 256];
     table[5] = 17;
-    table[14] = 17;
+    table[14] = 26;
     table
 };
 

@@ -33,16 +33,17 @@ EACH_FILE = 50
 MOST_WORDS = 4096
 KINDS = {"stack": "Stack", "heap": "Heap", "global": "Global", "function": "Function", "vtable": "VTable"}
 MARKS = {"no": "No", "weak": "Weak", "strong": "Strong"}
-# The answers that each kind of request can get. An end call's 4 and 16 to 23 need a memory and frames that no run makes.
+# The answers that each kind of request can get. An end call's 4, 16 to 23 and 26 to 28 need a memory and frames that no run
+# makes.
 ACCESS = [0, 2, 4, 6, 7, 8, 9]
 ANSWERS = {
     "allocate": [0, 2, 5, 15],
-    "deallocate": [0, 2, 4, 7, 8, 10, 11, 12, 13, 18, 19, 20, 22, 23, 24],
-    "load": ACCESS + [17, 21],
-    "store": ACCESS + [18, 19, 20, 22, 23],
-    "retag": [0, 2, 3, 4, 7, 8, 9, 14, 15, 17, 21],
+    "deallocate": [0, 2, 4, 7, 8, 10, 11, 12, 13, 18, 19, 20, 22, 23, 24, 27, 28],
+    "load": ACCESS + [17, 21, 26],
+    "store": ACCESS + [18, 19, 20, 22, 23, 27, 28],
+    "retag": [0, 2, 3, 4, 7, 8, 9, 14, 15, 17, 21, 26],
     "new call": [0, 2],
-    "end call": [0, 2, 4, 16, 17, 18, 19, 20, 21, 22, 23],
+    "end call": [0, 2, 4, 16, 17, 18, 19, 20, 21, 22, 23, 26, 27, 28],
     "dereferenceable": [0, 2, 4, 7, 8, 9],
     "signed dereferenceable": [0, 2, 4, 7, 8, 9],
     "leak check": [0, 2, 25],

@@ -27,7 +27,7 @@ VERDICT = os.environ.get("VERDICT", HERE.parent / "target" / "bin" / "verdict")
 ORACLE = HERE / "target" / "release" / "oracle"
 NAME = r"[A-Z]\d+[a-z]?"
 KINDS = "allocate,deallocate,load,store,retag,new call,end call,dereferenceable,signed dereferenceable,leak check".split(",")
-# The messages that have a number of document 01.
+# The messages of each number; 23 has the one of 21.
 MESSAGES = {
     6: ["load from a misaligned pointer", "store to a misaligned pointer"],
     7: ["deallocating invalid pointer", "dereferencing pointer without provenance"],
@@ -37,24 +37,27 @@ MESSAGES = {
     11: [r"deallocating \w+ memory with \w+ deallocation operation"],
     12: ["deallocating with incorrect size information"],
     13: ["deallocating with incorrect alignment information"],
-    17: ["Tree Borrows: local read of (protected )?Disabled reference"],
-    18: ["Tree Borrows: local write (of|to protected) Frozen reference"],
-    19: ["Tree Borrows: local write (of|to protected) Disabled reference"],
+    17: ["Tree Borrows: local read of Disabled reference"],
+    18: ["Tree Borrows: local write of Frozen reference"],
+    19: ["Tree Borrows: local write of Disabled reference"],
     20: ["Tree Borrows: local write to protected Reserved reference that had a foreign read"],
     21: ["Tree Borrows: foreign read of protected Unique reference"],
     22: ["Tree Borrows: foreign write of protected (Frozen|Reserved) reference which had a local read"],
     23: ["Tree Borrows: foreign read of protected Unique reference"],
     24: ["Tree Borrows: deallocating strongly protected allocation"],
+    26: ["Tree Borrows: local read of protected Disabled reference"],
+    27: ["Tree Borrows: local write to protected Frozen reference"],
+    28: ["Tree Borrows: local write to protected Disabled reference"],
 }
-TREE = [17, 18, 19, 20, 21, 22, 23, 24]
+TREE = [17, 18, 19, 20, 21, 22, 23, 24, 26, 27, 28]
 # Section 1: a refusal here, and what the Rust may say instead: its words, or the number of its message.
 NAMED = {
     2: ["no call", "accepted", "this address is not picked", 6, 7, 8, 9, 10, 11, 12, 13],
-    3: ["no call", "accepted", "panic", 7, 8, 9, 17, 21],
+    3: ["no call", "accepted", "panic", 7, 8, 9, 17, 21, 26],
     4: ["accepted", "panic", 6, 8, 9, 10, 11, 12, 13, *TREE],
     5: ["this address is not picked"],
     14: ["panic"],
-    15: ["accepted", 17, 21],
+    15: ["accepted", 17, 21, 26],
     25: ["a memory leak"],
 }
 

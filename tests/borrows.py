@@ -1,5 +1,5 @@
 """Runs by seed in which permissions decide: every request is well formed and inside one small allocation, through one of
-many references. Most runs end in a refusal from 17 to 24."""
+many references. Most runs end in a refusal by a permission."""
 
 import random
 

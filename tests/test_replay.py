@@ -188,10 +188,10 @@ def access_of(request):
 
 # The protected codes of bytes that were used locally.
 PREVENTING = "8abd"
-# Document 01's rules, by access and relation: the refusal of each code that is refused.
+# The rules by access and relation: the refusal of each code that is refused.
 REFUSALS = {
-    (READ, LOCAL): {"5": 17, "e": 17},
-    (WRITE, LOCAL): {"4": 18, "c": 18, "d": 18, "5": 19, "e": 19, "9": 20, "a": 20},
+    (READ, LOCAL): {"5": 17, "e": 26},
+    (WRITE, LOCAL): {"4": 18, "c": 27, "d": 27, "5": 19, "e": 28, "9": 20, "a": 20},
     (READ, FOREIGN): {"b": 21},
     (WRITE, FOREIGN): {"8": 22, "a": 22, "d": 22, "b": 23},
 }

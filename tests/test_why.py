@@ -14,7 +14,7 @@ from hiedukson import card, refusals, reports, rules, sources
 from hiedukson import words as w
 
 ALIASING = os.path.join(EXAMPLES, "aliasing-write.hex")
-PERMISSIONS = range(17, 25)
+PERMISSIONS = {*range(17, 25), *range(26, 29)}
 GENERATED = 20
 FACTS = 600
 # The refusals that the request and the memory tell more of.
@@ -186,7 +186,7 @@ class Said(TestCase):
 
 class Refusals(TestCase):
     def test_every_refusal(self):
-        """Each run in examples/refusals is explained, with a rule and an advice; 17 to 24 by what was met."""
+        """Each run in examples/refusals is explained, with a rule and an advice; 17 to 24 and 26 to 28 by what was met."""
         folder = os.path.join(EXAMPLES, "refusals")
         seen = set()
         for name in sorted(name for name in os.listdir(folder) if name.endswith(".hex")):
@@ -201,7 +201,7 @@ class Refusals(TestCase):
             self.assertIn("  rule: ", said)
             self.assertIn("  advice: ", said)
             self.assertNotIn("{", said)
-        self.assertEqual(seen, {*range(2, 16), *range(17, 26)})
+        self.assertEqual(seen, {*range(2, 16), *range(17, 29)})
 
     def test_every_refusal_has_a_rule(self):
         self.assertEqual(set(rules.RULES), set(refusals.NAMES))
@@ -225,6 +225,9 @@ class Refusals(TestCase):
             "end 3\n": "  frame 3 is not open\n",
             "x = heap 4096 at 0x10\ny = heap 1 at 0x2000\n": "  before the request the memory holds 1 of 128 allocations, 4,096 of 4,096 bytes,",
             "x = heap 2 at 0x10\ny = & x\nstore y 01\n": "  advice: y is a shared reference: it writes its cells alone.",
+            "x = heap 2 at 0x10\ncall 0\ny = & x in 0\nstore y 01\n": "  advice: Take y as a mutable reference, or as a raw pointer,",
+            "x = heap 2 at 0x10\ncall 0\ny = &mut x 1 in 0\nstore x+1 01\nload y+1 1\n": "  advice: Stay inside the bytes that y points to, or read",
+            "x = heap 2 at 0x10\ncall 0\ny = box x 1 in 0\nstore x+1 01\nstore y+1 02\n": "  advice: Stay inside the bytes that y points to, or write",
         }
         for lines, fact in cases.items():
             status, output, error = command("why", data=lines.encode())

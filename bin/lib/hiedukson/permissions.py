@@ -42,18 +42,21 @@ class Met(NamedTuple):
     strong: bool = False
 
 
-# Document 01's sentences of 17 to 24; a refusal that is added and is by a permission has a row here. A
+# The sentences of 17 to 24 and 26 to 28; a refusal that is added and is by a permission has a row here. A
 # deallocation under a strong protector writes before it is refused, so that it meets what a write makes
 # protected Unique: 7, 8 and b.
 MET = {
-    17: Met(LOCAL, DISABLED + PROTECTED_DISABLED),
-    18: Met(LOCAL, FROZEN + PROTECTED_FROZEN + FROZEN_LOCAL),
-    19: Met(LOCAL, DISABLED + PROTECTED_DISABLED),
+    17: Met(LOCAL, DISABLED),
+    18: Met(LOCAL, FROZEN),
+    19: Met(LOCAL, DISABLED),
     20: Met(LOCAL, RESERVED_FOREIGN + RESERVED_BOTH),
     21: Met(FOREIGN, PROTECTED_UNIQUE),
     22: Met(FOREIGN, RESERVED_LOCAL + RESERVED_BOTH + FROZEN_LOCAL),
     23: Met(FOREIGN, PROTECTED_UNIQUE),
     24: Met(LOCAL, PROTECTED_RESERVED + RESERVED_LOCAL + PROTECTED_UNIQUE, strong=True),
+    26: Met(LOCAL, PROTECTED_DISABLED),
+    27: Met(LOCAL, PROTECTED_FROZEN + FROZEN_LOCAL),
+    28: Met(LOCAL, PROTECTED_DISABLED),
 }
 
 RELEASED = {

@@ -1,4 +1,4 @@
-"""The refusals by their numbers, in checking order."""
+"""The refusals by their numbers, which rise in checking order; 26 to 28 are tested where 17 to 19 are."""
 
 NAMES = {
     1: "memory not well formed",
@@ -26,6 +26,9 @@ NAMES = {
     23: "foreign write of protected Unique",
     24: "deallocation under a strong protector",
     25: "memory leak",
+    26: "local read of protected Disabled",
+    27: "local write of protected Frozen",
+    28: "local write of protected Disabled",
 }
 
 MALFORMED = 2

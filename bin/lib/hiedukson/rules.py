@@ -131,6 +131,25 @@ RULES = {
         "At a leak check no heap allocation is live.",
         "Deallocate it before, or leave the leak check out where the leak is meant.",
     ),
+    26: Rule(
+        "A read needs every reference on its pointer's path not to be Disabled at the byte. While a call lasts,"
+        " its argument is disabled where another pointer writes a byte that the argument does not point to and"
+        " that was not used through it before.",
+        "Stay inside the bytes that {met} points to, or read through the pointer that wrote; or take a raw"
+        " pointer as the argument.",
+    ),
+    27: Rule(
+        "While a call lasts, nothing is written through a shared reference among its arguments, or what is"
+        " borrowed from it, outside its cells: a compiler may read again.",
+        "Take {met} as a mutable reference, or as a raw pointer, or let the bytes lie in an UnsafeCell.",
+    ),
+    28: Rule(
+        "A write needs every reference on its pointer's path not to be Disabled at the byte. While a call"
+        " lasts, its argument is disabled where another pointer writes a byte that the argument does not point"
+        " to and that was not used through it before.",
+        "Stay inside the bytes that {met} points to, or write through the pointer that wrote; or take a raw"
+        " pointer as the argument.",
+    ),
 }
 
 BORN = {

@@ -1,4 +1,4 @@
--- Worked runs, by computation: every refusal from 2 to 25, and the slips that document 01 shuts out.
+-- Worked runs, by computation: every refusal from 2 to 28, and the slips that document 01 shuts out.
 use Prim.Native.Nat.{ℕ, zero, suc, _+_, _*_, _^_}
 use mathlib.Core.Path.{_≡_, refl}
 use mathlib.Core.Bool.{true, false}
@@ -6,15 +6,16 @@ use mathlib.Core.Option.{none, some}
 use mathlib.Core.List.{List, [], _∷_, _++_, map}
 use lib.ListN.{length, replicate, getD}
 use Rattle.definition.specs.Notation.{firstRefusal, tableFrom, mapFrom, mutateAt, writeAt, filter, any, sumOf}
-use Rattle.definition.specs.Permission.{Protected, code, refusal, next}
+use Rattle.definition.specs.Permission.{Protected, code, permission, refusal, next}
 use Rattle.definition.specs.Tree.{Node, isAboveWithin, relation, descendants, preorder, visitingOrder, rowRefusal, nodeRefusal, visitRefusal, nodeAfter, visited}
 use Rattle.definition.specs.Layout.{cellsFit, isFreeze, nestedMask, freezeMask}
-use Rattle.definition.specs.Memory.{newAllocation, wrappingOffset, checkPtr, accessRefusalIn, accessRefusal, afterAccessIn, afterAccess, loadedWords, acceptAccess, performAccess, isPickable, exceedsBounds, allocateRefusal, acceptAllocate, allocate, deallocateRefusal, afterDeallocateIn, acceptDeallocate, deallocate, dereferenceable, leakCheck}
+use Rattle.definition.specs.Memory.{Memory, changed, newAllocation, wrappingOffset, checkPtr, accessRefusalIn, accessRefusal, afterAccessIn, afterAccess, loadedWords, acceptAccess, performAccess, isPickable, exceedsBounds, allocateRefusal, acceptAllocate, allocate, deallocateRefusal, afterDeallocateIn, acceptDeallocate, deallocate, dereferenceable, leakCheck}
 use Rattle.definition.specs.Frame.{empty, frameAt, entries, newCall, releaseRefusalIn, releaseRefusal, afterReleaseIn, afterRelease, releaseAllRefusal, afterReleaseAll, endCallRefusal, acceptEndCall, endCall}
 use Rattle.definition.specs.Retag.{childNode, withChild, initRefusal, afterInit, reborrowRefusal, afterReborrowIn, acceptReborrow, reborrow, retagWithoutNode, retag}
 use Rattle.definition.specs.Request.{request, followingLength, isMiscounted, badByte, badSettings, badMetadata, badRetag, isMalformed}
 use Rattle.definition.specs.Run.{retagWithMask, performRetag, perform, step, answers, final, wordsOf, cutRequests, requestsOf, performedCount, program}
-use Rattle.definition.specs.Permission.Protected.{No, Weak}
+use Rattle.definition.specs.Permission.Protected.{No, Weak, Strong}
+use Rattle.definition.specs.Memory.Liveness.{Live}
 use Rattle.definition.specs.Memory.AllocationKind.{Stack}
 use Rattle.definition.proofs.Stars.{bytesOfWords, bytesOf}
 
@@ -140,6 +141,25 @@ siblingsRun =
     ∷ borrow 1 0 0 16 []
     ∷ []
 
+-- writes through a shared argument for byte 0 of two, and a deallocation
+abbrev sharedRun : List (List ℕ)
+sharedRun =
+    allocateAt 1 16 2 ∷ call 0 ∷ argument 0 0 0 0 16 (sized 1) ∷ store 0 1 16 (byte 1 ∷ []) ∷ store 0 1 17 (byte 1 ∷ []) ∷ freeHeap 0 1 16 2 ∷ []
+
+-- an argument for byte 0 of two, which a write through the root disables at byte 1; then it is used there, and freed
+abbrev disabledRun : ℕ → List (List ℕ)
+disabledRun pointer =
+    allocateAt 1 16 2 ∷ call 0 ∷ argument 0 pointer 0 0 16 (sized 1) ∷ store 0 0 17 (byte 1 ∷ [])
+    ∷ load 0 1 17 1
+    ∷ store 0 1 17 (byte 1 ∷ [])
+    ∷ borrow 0 0 1 17 (sized 1)
+    ∷ freeHeap 0 1 16 2
+    ∷ []
+
+-- a write through the second of two retags
+abbrev nestedRun : List ℕ → List ℕ → List (List ℕ)
+nestedRun upper lower = allocateAt 1 16 1 ∷ call 0 ∷ upper ∷ lower ∷ store 0 2 16 (byte 1 ∷ []) ∷ []
+
 -- zero-length retags below the start and past the end; allocations up to the bound
 abbrev emptiesRun : List (List ℕ)
 emptiesRun =
@@ -168,6 +188,17 @@ abbrev chainRun : ℕ → List (List ℕ)
 chainRun zero = allocateAt 1 16 1 ∷ []
 chainRun (suc n) = chainRun n ++ (borrow 1 0 n 16 (sized 1) ∷ [])
 
+-- a byte that node 1 and node 2 below it hold under protectors, with these codes
+abbrev lent : ℕ → ℕ → Memory
+lent upper lower =
+    changed (newAllocation Stack 1 0 16) Live (0 ∷ []) (
+    record { parent = 0; protected = No; permissions = permission 3 ∷ [] }
+    ∷ record { parent = 0; protected = Strong; permissions = permission upper ∷ [] }
+    ∷ record { parent = 1; protected = Strong; permissions = permission lower ∷ [] }
+    ∷ []
+    )
+    ∷ []
+
 -- of 4,097 bytes
 abbrev longStore : List ℕ
 longStore = store 0 0 16 (replicate 4097 0)
@@ -192,6 +223,19 @@ pub record Cases : Type 0 where
   pub unused-refusals : refusals unusedRun ≡ 0 ∷ 0 ∷ 0 ∷ 24 ∷ 0 ∷ []
   -- 17, 19, 11, 13, 6, 9, 7; a name without provenance is 2; 5; kinds from 10 on are 2; a layout of no words is 3. 18 is in Stars
   pub siblings-refusals : refusals siblingsRun ≡ 0 ∷ 0 ∷ 0 ∷ 0 ∷ 17 ∷ 19 ∷ 11 ∷ 13 ∷ 6 ∷ 9 ∷ 7 ∷ 0 ∷ 2 ∷ 5 ∷ 2 ∷ 3 ∷ []
+  -- M-100: 27 for what was read and for what was not, by a store and by a deallocation
+  pub shared-refusals : refusals sharedRun ≡ 0 ∷ 0 ∷ 0 ∷ 27 ∷ 27 ∷ 27 ∷ []
+  -- 26 by a load and by a retag; 28 by a store and by a deallocation, before 24; a weak protector alike. A shared argument's 27 is met before 28
+  pub disabled-refusals : refusals (disabledRun 1) ≡ 0 ∷ 0 ∷ 0 ∷ 0 ∷ 26 ∷ 28 ∷ 26 ∷ 28 ∷ []
+  pub disabled-box : refusals (disabledRun 2) ≡ 0 ∷ 0 ∷ 0 ∷ 0 ∷ 26 ∷ 28 ∷ 26 ∷ 28 ∷ []
+  pub disabled-shared : refusals (disabledRun 0) ≡ 0 ∷ 0 ∷ 0 ∷ 0 ∷ 26 ∷ 28 ∷ 26 ∷ 27 ∷ []
+  -- "met in the same visiting order": of 27 and 18, the upper node's
+  pub upper-protected : refusals (nestedRun (argument 0 0 0 0 16 (sized 1)) (borrow 0 0 1 16 (sized 1))) ≡ 0 ∷ 0 ∷ 0 ∷ 0 ∷ 27 ∷ []
+  pub lower-protected : refusals (nestedRun (borrow 0 0 0 16 (sized 1)) (argument 0 0 0 1 16 (sized 1))) ≡ 0 ∷ 0 ∷ 0 ∷ 0 ∷ 18 ∷ []
+  -- by an end call, which no run reaches: node 2's read meets e at node 1, its write d and e
+  pub end-call-26 : endCallRefusal (lent 14 13) (record { allocation = 0; node = 2 } ∷ []) ≡ 26
+  pub end-call-27 : endCallRefusal (lent 13 11) (record { allocation = 0; node = 2 } ∷ []) ≡ 27
+  pub end-call-28 : endCallRefusal (lent 14 11) (record { allocation = 0; node = 2 } ∷ []) ≡ 28
   -- 14, and 15
   pub empties-refusals : refusals emptiesRun ≡ 0 ∷ 14 ∷ 0 ∷ 15 ∷ 0 ∷ []
   -- 16, which no run reaches: the root is not protected
@@ -250,6 +294,15 @@ cases =
       weak-rows = refl;
       unused-refusals = refl;
       siblings-refusals = refl;
+      shared-refusals = refl;
+      disabled-refusals = refl;
+      disabled-box = refl;
+      disabled-shared = refl;
+      upper-protected = refl;
+      lower-protected = refl;
+      end-call-26 = refl;
+      end-call-27 = refl;
+      end-call-28 = refl;
       empties-refusals = refl;
       unprotected-entry = refl;
       large-refusals = refl;

@@ -1,7 +1,7 @@
 -- "Ending a call is never undefined." (M-109): "in an accepted run from the empty memory, where only its requests change memory, names and frames, an open
 -- frame's end call .. is accepted". For whoever writes a library: returning from a function cannot itself be the fault.
 -- Proved (proofs/EndCalls) of every list of requests from the empty memory. Refused ones may stand in it, as they change nothing; an accepted run is one such
--- list. "Frames written by a caller stay under 16 to 23 ..": these are lent to the library, and no list of requests leaves them.
+-- list. "Frames written by a caller stay under 16 to 23 and 26 to 28.": these are lent to the library, and no list of requests leaves them.
 use Prim.Native.Nat.{ℕ, _*_, _^_}
 use mathlib.Core.Path.{_≡_}
 use mathlib.Core.Bool.{true}

@@ -84,7 +84,7 @@ abbrev pub releasedNodes : Liveness → ℕ → List Node → List Node
 releasedNodes Live n nodes = visited (releaseVisit n nodes) (mutateAt n (unprotectNode Live) nodes)
 releasedNodes Dead n nodes = mutateAt n (unprotectNode Dead) nodes
 
--- 16 to 23
+-- 16 to 23, 26 to 28
 unfoldable pub releaseRefusalIn : ℕ → Allocation → ℕ
 releaseRefusalIn n a =
     notProtected when lacksProtector (nodeAt (a .nodes) n) or releaseVisitRefusal (a .state) n (a .nodes)
@@ -98,7 +98,7 @@ afterReleaseIn n a = changed a (a .state) (a .words) (releasedNodes (a .state) n
 unfoldable pub afterRelease : Memory → Provenance → Memory
 afterRelease m e = mutateAt (e .allocation) (afterReleaseIn (e .node)) m
 
--- ---- end call: "An end call checks 4 for all entries, then 16 to 23 entry by entry."
+-- ---- end call: "An end call checks 4 for all entries, then 16 to 23 entry by entry.", and 26 to 28 in place of 17 to 19 there too (M-100)
 -- "Release, in list order", each on what the ones before it left
 unfoldable pub releaseAllRefusal : Memory → List Provenance → ℕ
 releaseAllRefusal m [] = 0

@@ -164,7 +164,7 @@ visitOf x a = accessVisit (x .kind) (nodeOf (x .pointer .provenance)) (offset a 
 abbrev pub isMisaligned : ℕ → ℕ → Bool
 isMisaligned address exponent = not (eqb (address % 2 ^ exponent) 0)
 
--- 6 to 9, and then 17 to 23, at its allocation
+-- 6 to 9, and then 17 to 23 and 26 to 28, at its allocation
 unfoldable pub accessRefusalIn : MemoryAccess → Allocation → ℕ
 accessRefusalIn x a =
     misaligned when isMisaligned (x .pointer .address) (x .exponent)

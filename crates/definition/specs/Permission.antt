@@ -16,7 +16,7 @@ use mathlib.Core.Bool.{Bool, true, false}
 use mathlib.Core.Option.{Option, none, some}
 use mathlib.Core.List.{List, [], _∷_}
 use lib.ListN.{getD}
-use Rattle.definition.specs.Refusal.{localReadOfDisabled, localWriteOfFrozen, localWriteOfDisabled, localWriteOfReserved, foreignReadOfUnique, foreignWriteOfRead, foreignWriteOfUnique}
+use Rattle.definition.specs.Refusal.{localReadOfDisabled, localWriteOfFrozen, localWriteOfDisabled, localReadOfProtectedDisabled, localWriteOfProtectedFrozen, localWriteOfProtectedDisabled, localWriteOfReserved, foreignReadOfUnique, foreignWriteOfRead, foreignWriteOfUnique}
 
 pub data AccessKind : Type 0 where
   Read Write : AccessKind
@@ -97,26 +97,27 @@ foreignWrite Unique = becomes Disabled
 foreignWrite Frozen = becomes Disabled
 foreignWrite Disabled = becomes Disabled
 
--- ---- the rules under a protector: "Protected ones as 000." The paper: while a call lasts, its reference arguments may be relied on. So where a byte has
--- been accessed through the node, a foreign access that would take its permission away is undefined behaviour; where it has not, it may still become
--- Disabled, and a foreign read makes Reserved conflicted. There is no ReservedIm: a protector overrides interior mutability
--- The paper, local read: the byte is accessed now; undefined behaviour for Disabled. "8 with local read", "d with local read"
+-- ---- the rules under a protector: "Protected ones as 000.", with numbers of their own for what 17 to 19 are without one (M-100). The paper: while a call
+-- lasts, its reference arguments may be relied on. So where a byte has been accessed through the node, a foreign access that would take its permission
+-- away is undefined behaviour; where it has not, it may still become Disabled, and a foreign read makes Reserved conflicted. There is no ReservedIm: a
+-- protector overrides interior mutability
+-- The paper, local read: the byte is accessed now; undefined behaviour for Disabled, 26 "in place of 17". "8 with local read", "d with local read"
 abbrev pub localReadProt : PermissionProt → Outcome PermissionProt
 localReadProt Cell = becomes Cell
 localReadProt (Reserved l f) = becomes (Reserved hadLocalRead f)
 localReadProt Unique = becomes Unique
 localReadProt (Frozen l) = becomes (Frozen hadLocalRead)
-localReadProt Disabled = refused localReadOfDisabled
+localReadProt Disabled = refused localReadOfProtectedDisabled
 
--- "Local write of protected Reserved that had a foreign read." is refused, and so are Frozen and Disabled.
+-- "Local write of protected Reserved that had a foreign read." is refused, and so are Frozen and Disabled, 27 and 28 "in place of .. 18 and 19".
 -- The paper, local write: Reserved is activated to Unique, unless it is conflicted, for others have read what this call was to have for itself
 abbrev pub localWriteProt : PermissionProt → Outcome PermissionProt
 localWriteProt Cell = becomes Cell
 localWriteProt (Reserved l noForeignRead) = becomes Unique
 localWriteProt (Reserved l hadForeignRead) = refused localWriteOfReserved
 localWriteProt Unique = becomes Unique
-localWriteProt (Frozen l) = refused localWriteOfFrozen
-localWriteProt Disabled = refused localWriteOfDisabled
+localWriteProt (Frozen l) = refused localWriteOfProtectedFrozen
+localWriteProt Disabled = refused localWriteOfProtectedDisabled
 
 -- "Foreign read of protected Unique." is refused. "9 with foreign read".
 -- The paper, foreign read: Reserved becomes conflicted; undefined behaviour for Unique, which would have to become Frozen

@@ -1,4 +1,4 @@
--- Why a request is turned down: document 01's numbers, each with its sentence, in checking order. 0 is no refusal.
+-- Why a request is turned down: the numbers of document 01 and of the change requests, each with its sentence, in checking order. 0 is no refusal.
 use Prim.Native.Nat.{ℕ}
 
 -- "The lent memory is not well formed, or a lent buffer has another length than stated below."
@@ -66,6 +66,8 @@ sizeExceeded = 15
 abbrev pub notProtected : ℕ
 notProtected = 16
 
+-- 17 to 19 are of a node without a protector, 26 to 28 of one under a protector. M-100: "Every request answers 26, 27 and 28 in place of 17, 18 and 19
+-- when the node is protected, met in the same visiting order."
 -- "Local read of Disabled."
 abbrev pub localReadOfDisabled : ℕ
 localReadOfDisabled = 17
@@ -77,6 +79,18 @@ localWriteOfFrozen = 18
 -- "Local write of Disabled."
 abbrev pub localWriteOfDisabled : ℕ
 localWriteOfDisabled = 19
+
+-- in place of 17
+abbrev pub localReadOfProtectedDisabled : ℕ
+localReadOfProtectedDisabled = 26
+
+-- in place of 18
+abbrev pub localWriteOfProtectedFrozen : ℕ
+localWriteOfProtectedFrozen = 27
+
+-- in place of 19
+abbrev pub localWriteOfProtectedDisabled : ℕ
+localWriteOfProtectedDisabled = 28
 
 -- "Local write of protected Reserved that had a foreign read."
 abbrev pub localWriteOfReserved : ℕ

@@ -86,7 +86,7 @@ rowRefusal accessAt r b (p ∷ row) = refusalBy (accessAt b) r p or rowRefusal a
 unfoldable pub nodeRefusal : Visit → List Node → ℕ → ℕ
 nodeRefusal v nodes n = rowRefusal (v .accessAt) (relation (parents nodes) n (v .accessed)) 0 (nodeAt nodes n .permissions)
 
--- "17 to 23: the first met in visiting order."
+-- "17 to 23: the first met in visiting order.", and 26 to 28 "met in the same visiting order" (M-100)
 unfoldable pub visitRefusal : Visit → List Node → ℕ
 visitRefusal v nodes = firstRefusal (nodeRefusal v nodes) (visitingOrder (parents nodes) (v .spared))
 

@@ -42,7 +42,7 @@ fn release_live(
     tree::release(parents, protectors, codes, &mut row, width, node)
 }
 
-// The first refusal, 16 to 23, with marks and codes as they were; or 0, with the entry's node released.
+// The first refusal, 16 to 23 or 26 to 28, with marks and codes as they were; or 0, with the entry's node released.
 fn release_entry(
     allocs: &[u64],
     parents: &[u16],
@@ -304,7 +304,7 @@ pub fn end_call_in_run(
     answer::refused_with(refused)
 }
 
-// "An end call checks 4 for all entries, then 16 to 23 entry by entry."
+// "An end call checks 4 for all entries, then 16 to 23 entry by entry.", and 26 to 28 with them.
 fn end_call_refusal(
     allocs: &[u64],
     parents: &[u16],

@@ -35,12 +35,13 @@ fn local_read(code: u8) -> Outcome
 {
     match code {
         0..=4 => Outcome::Stays,
-        5 | 14 => Outcome::Refused(17),
+        5 => Outcome::Refused(17),
         6 | 8 | 13 => Outcome::Stays,
         7 => Outcome::Becomes(8),
         9 => Outcome::Becomes(10),
         10..=11 => Outcome::Stays,
         12 => Outcome::Becomes(13),
+        14 => Outcome::Refused(26),
         _ => Outcome::Stays,
     }
 }
@@ -52,10 +53,11 @@ fn local_write(code: u8) -> Outcome
         0 | 3 | 6 | 11 => Outcome::Stays,
         1..=2 => Outcome::Becomes(3),
         4 => Outcome::Refused(18),
-        5 | 14 => Outcome::Refused(19),
+        5 => Outcome::Refused(19),
         7..=8 => Outcome::Becomes(11),
         9..=10 => Outcome::Refused(20),
-        12..=13 => Outcome::Refused(18),
+        12..=13 => Outcome::Refused(27),
+        14 => Outcome::Refused(28),
         _ => Outcome::Stays,
     }
 }

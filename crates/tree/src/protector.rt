@@ -119,8 +119,8 @@ fn end_protector(parents: &[u16], codes: &mut [u8], lent: &[u8], width: usize, n
     }
 }
 
-// The release of a node of a live allocation: the first refusal, 16 to 23, with marks and codes as they were; or 0, with the node unprotected and the
-// accesses of its protector's end made, which reach every node but it and its descendants. The lent row is for work.
+// The release of a node of a live allocation: the first refusal, 16 to 23 or 26 to 28, with marks and codes as they were; or 0, with the node
+// unprotected and the accesses of its protector's end made, which reach every node but it and its descendants. The lent row is for work.
 pub fn release(
     parents: &[u16],
     protectors: &mut [u8],

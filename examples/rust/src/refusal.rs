@@ -2,7 +2,8 @@
 
 use std::fmt;
 
-/// The refusals by their numbers, in checking order. docs/FORMAT.md says what to look for first at each.
+/// The refusals by their numbers, which rise in checking order; the last three are tested where 17 to 19 are.
+/// docs/FORMAT.md says what to look for first at each.
 #[derive(Clone, Copy, Debug, PartialEq, Eq, PartialOrd, Ord, Hash)]
 #[repr(u8)]
 pub enum Refusal {
@@ -31,12 +32,15 @@ pub enum Refusal {
     ForeignWriteOfUnique,
     StrongProtector,
     MemoryLeak,
+    LocalReadOfProtectedDisabled,
+    LocalWriteOfProtectedFrozen,
+    LocalWriteOfProtectedDisabled,
 }
 
 use Refusal::*;
 
 /// Each with its name in words.
-const ALL: [(Refusal, &str); 25] = [
+const ALL: [(Refusal, &str); 28] = [
     (NotWellFormed, "memory not well formed"),
     (Malformed, "malformed request"),
     (WithoutMask, "layout without a mask"),
@@ -62,6 +66,9 @@ const ALL: [(Refusal, &str); 25] = [
     (ForeignWriteOfUnique, "foreign write of protected Unique"),
     (StrongProtector, "deallocation under a strong protector"),
     (MemoryLeak, "memory leak"),
+    (LocalReadOfProtectedDisabled, "local read of protected Disabled"),
+    (LocalWriteOfProtectedFrozen, "local write of protected Frozen"),
+    (LocalWriteOfProtectedDisabled, "local write of protected Disabled"),
 ];
 
 impl Refusal {

@@ -74,7 +74,7 @@ impl Coverage {
     /// Refusals that a run can reach and these didn't: 1 is the library's, 16 no run reaches.
     pub fn missing_refusals(&self) -> Vec<u8> {
         let reached = self.refusals();
-        (2..=25).filter(|&n| n != 16 && !reached.contains_key(&n)).collect()
+        (2..=28).filter(|&n| n != 16 && !reached.contains_key(&n)).collect()
     }
 
     pub fn report(&self) -> String {

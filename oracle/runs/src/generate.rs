@@ -101,7 +101,7 @@ fn short_run(r: &mut Random) -> Vec<Words> {
 /// A request with a refusal drawn beforehand, or else one that is refused, if one is found. The tree's refusals
 /// come from accesses that are right in all else.
 fn hunt(r: &mut Random, m: &Reference, mut style: Style) -> Option<Words> {
-    let wanted = r.range(3, 25) as u8;
+    let wanted = r.range(3, 28) as u8;
     style.wild = 3;
     if wanted >= 17 {
         style.wild = 1000;

@@ -13,11 +13,11 @@ use Rattle.permission.proofs.local_read.Tie as tie
 
 -- the arms of single numbers, the last first
 abbrev singles : List (List ℕ)
-singles = (12 ∷ []) ∷ (9 ∷ []) ∷ (7 ∷ []) ∷ (6 ∷ 8 ∷ 13 ∷ []) ∷ (5 ∷ 14 ∷ []) ∷ []
+singles = (14 ∷ []) ∷ (12 ∷ []) ∷ (9 ∷ []) ∷ (7 ∷ []) ∷ (6 ∷ 8 ∷ 13 ∷ []) ∷ (5 ∷ []) ∷ []
 
 returns : tie.Need-returns
 unfolding transitionCode
-returns c = keys sameOutcome same-outcome (λ k. Refused 17) (transitionCode Read Local) (5 ∷ 14 ∷ []) tt (c .before .args .code) (c .match .keys1)
+returns c = keys sameOutcome same-outcome (λ k. Refused 17) (transitionCode Read Local) (5 ∷ []) tt (c .before .args .code) (c .match .keys1)
 
 returns-2 : tie.Need-returns-2
 unfolding transitionCode
@@ -37,15 +37,19 @@ returns-5 c = keys sameOutcome same-outcome (λ k. Becomes 13) (transitionCode R
 
 returns-6 : tie.Need-returns-6
 unfolding transitionCode
-returns-6 c = arm sameOutcome same-outcome (λ k. Stays) (transitionCode Read Local) singles 0 5 tt (c .before .before .args .code) (c .before .match .rest) (omega arith) (omega arith)
+returns-6 c = keys sameOutcome same-outcome (λ k. Refused 26) (transitionCode Read Local) (14 ∷ []) tt (c .before .args .code) (c .match .keys6)
 
 returns-7 : tie.Need-returns-7
 unfolding transitionCode
-returns-7 c = arm sameOutcome same-outcome (λ k. Stays) (transitionCode Read Local) singles 5 7 tt (c .before .before .before .args .code) (c .before .before .match .rest) (omega arith) (omega arith)
+returns-7 c = arm sameOutcome same-outcome (λ k. Stays) (transitionCode Read Local) singles 0 5 tt (c .before .before .args .code) (c .before .match .rest) (omega arith) (omega arith)
 
 returns-8 : tie.Need-returns-8
 unfolding transitionCode
-returns-8 c = rest sameOutcome same-outcome (λ k. Stays) (transitionCode Read Local) (transition-past Read Local) singles 12 3 tt (omega arith) (c .before .before .before .args .code) (c .before .before .match .rest) (omega arith)
+returns-8 c = arm sameOutcome same-outcome (λ k. Stays) (transitionCode Read Local) singles 5 7 tt (c .before .before .before .args .code) (c .before .before .match .rest) (omega arith) (omega arith)
+
+returns-9 : tie.Need-returns-9
+unfolding transitionCode
+returns-9 c = rest sameOutcome same-outcome (λ k. Stays) (transitionCode Read Local) (transition-past Read Local) singles 12 3 tt (omega arith) (c .before .before .before .args .code) (c .before .before .match .rest) (omega arith)
 
 pub local-read-spec : {M : Type 1} → statement M
-local-read-spec = tie.close (tie.spec returns returns-2 returns-3 returns-4 returns-5 returns-6 returns-7 returns-8)
+local-read-spec = tie.close (tie.spec returns returns-2 returns-3 returns-4 returns-5 returns-6 returns-7 returns-8 returns-9)

@@ -1,4 +1,4 @@
-//! The Rust's messages as document 01's numbers.
+//! The Rust's messages as the numbers of document 01 and of M-100.
 
 use super::request::Refusal;
 use super::state::Value;
@@ -57,14 +57,17 @@ pub fn failure(info: TerminationInfo, access: AccessKind) -> Failure {
 
 fn tree_refusal(text: &str, access: AccessKind) -> Refusal {
     match text.strip_prefix("Tree Borrows: ").unwrap_or("") {
-        "local read of Disabled reference" | "local read of protected Disabled reference" => 17,
-        "local write of Frozen reference" | "local write to protected Frozen reference" => 18,
-        "local write of Disabled reference" | "local write to protected Disabled reference" => 19,
+        "local read of Disabled reference" => 17,
+        "local write of Frozen reference" => 18,
+        "local write of Disabled reference" => 19,
         "local write to protected Reserved reference that had a foreign read" => 20,
         "foreign read of protected Unique reference" if access == AccessKind::Read => 21,
         "foreign read of protected Unique reference" => 23,
         "foreign write of protected Frozen reference which had a local read"
         | "foreign write of protected Reserved reference which had a local read" => 22,
+        "local read of protected Disabled reference" => 26,
+        "local write to protected Frozen reference" => 27,
+        "local write to protected Disabled reference" => 28,
         _ => 0,
     }
 }
