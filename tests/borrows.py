@@ -50,6 +50,7 @@ class Generator:
 
     def retag(self):
         address, length = self.stretch()
+        length = self.random.randint(0, length)
         cells = (layouts.Cell(0, self.random.randint(0, length)),) if self.random.random() < 0.3 else ()
         header = layouts.Header("sized", length, cells)
         following = layouts.join(layouts.Layout(layouts.Metadata(0, 0), (header,), ()))
