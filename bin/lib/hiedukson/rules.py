@@ -140,7 +140,7 @@ RULES = {
     ),
     27: Rule(
         "While a call lasts, nothing is written through a shared reference among its arguments, or what is"
-        " borrowed from it, outside its cells: a compiler may read again.",
+        " borrowed from it, outside its cells: a compiler may keep what it has read.",
         "Take {met} as a mutable reference, or as a raw pointer, or let the bytes lie in an UnsafeCell.",
     ),
     28: Rule(

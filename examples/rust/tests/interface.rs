@@ -162,6 +162,25 @@ fn a_call_protects_until_it_ends() {
     assert_eq!(memory.leak(), None);
 }
 
+/// While its call lasts, an argument refuses with 26 to 28; afterwards, with 17 to 19.
+#[test]
+fn an_argument_has_numbers_of_its_own() {
+    let mut memory = Memory::new();
+    let root = memory.allocate(MemoryKind::Heap, 2, Align::ONE, 16).unwrap();
+    let mut call = memory.new_call();
+    let shared =
+        memory.retag_argument(&mut call, root, PointerKind::SharedReference, &Pointee::of::<u8>()).unwrap();
+    let beside = Pointer { address: 17, ..shared };
+    memory.store(Pointer { address: 17, ..root }, &[byte(1)], Align::ONE).unwrap();
+    assert_eq!(memory.load(beside, 1, Align::ONE), Err(Refusal::LocalReadOfProtectedDisabled));
+    assert_eq!(memory.store(shared, &[byte(2)], Align::ONE), Err(Refusal::LocalWriteOfProtectedFrozen));
+    assert_eq!(memory.store(beside, &[byte(2)], Align::ONE), Err(Refusal::LocalWriteOfProtectedDisabled));
+    memory.end_call(&mut call).unwrap();
+    assert_eq!(memory.load(beside, 1, Align::ONE), Err(Refusal::LocalReadOfDisabled));
+    assert_eq!(memory.store(shared, &[byte(2)], Align::ONE), Err(Refusal::LocalWriteOfFrozen));
+    assert_eq!(memory.store(beside, &[byte(2)], Align::ONE), Err(Refusal::LocalWriteOfDisabled));
+}
+
 /// A frame that a list leaves open is gone on with in its memory.
 #[test]
 fn a_frame_outlives_its_list() {
