@@ -52,7 +52,7 @@ MESSAGES = {
 TREE = [17, 18, 19, 20, 21, 22, 23, 24, 26, 27, 28]
 # Section 1: a refusal here, and what the Rust may say instead: its words, or the number of its message.
 NAMED = {
-    2: ["no call", "accepted", "this address is not picked", 6, 7, 8, 9, 10, 11, 12, 13],
+    2: ["no call", "accepted", "panic", "this address is not picked", 6, 7, 8, 9, 10, 11, 12, 13],
     3: ["no call", "accepted", "panic", 7, 8, 9, 17, 21, 26],
     4: ["accepted", "panic", 6, 8, 9, 10, 11, 12, 13, *TREE],
     5: ["this address is not picked"],
@@ -203,7 +203,7 @@ def search(seed, count):
         refusal = int(answers[-1][1])
         agrees = len(said) == len(answers) and (said[-1].startswith("accepted") if refusal == 0 else is_same(refusal, said[-1]))
         if agrees:
-            found["the same"] += 1
+            found[f"the same: {f'{refusal}, {said[-1]}' if refusal else 'accepted'}"] += 1
             continue
         kind = int(requests[-1][0], 16)
         sort = re.sub(r"^(accepted|panic|no call).*", r"\1", said[-1])
@@ -212,7 +212,8 @@ def search(seed, count):
         found[f"{KINDS[kind] if kind < 10 else 'kinds 10 to 15'}: {refusal} here, the Rust: {sort}{'' if named else ', which the page does not name: ' + '; '.join(requests)}"] += 1
     for sort, times in sorted(found.items()):
         print(f"{times:7} {sort}")
-    print(f"seed {seed}: {count} runs, {unnamed} differences that the page does not name")
+    same = sum(times for sort, times in found.items() if sort.startswith("the same"))
+    print(f"seed {seed}: {count} runs, {same} the same, {unnamed} differences that the page does not name")
     return unnamed
 
 
