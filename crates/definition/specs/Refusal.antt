@@ -66,8 +66,6 @@ sizeExceeded = 15
 abbrev pub notProtected : ℕ
 notProtected = 16
 
--- 17 to 19 are of a node without a protector, 26 to 28 of one under a protector. M-100: "Every request answers 26, 27 and 28 in place of 17, 18 and 19
--- when the node is protected, met in the same visiting order."
 -- "Local read of Disabled."
 abbrev pub localReadOfDisabled : ℕ
 localReadOfDisabled = 17
@@ -80,15 +78,17 @@ localWriteOfFrozen = 18
 abbrev pub localWriteOfDisabled : ℕ
 localWriteOfDisabled = 19
 
--- in place of 17
+-- M-100: "Every request answers 26, 27 and 28 in place of 17, 18 and 19 when the node is protected, met in the same visiting order." So 17 to 19 are of
+-- nodes without a protector.
+-- in place of 17: local read of protected Disabled
 abbrev pub localReadOfProtectedDisabled : ℕ
 localReadOfProtectedDisabled = 26
 
--- in place of 18
+-- in place of 18: local write of protected Frozen
 abbrev pub localWriteOfProtectedFrozen : ℕ
 localWriteOfProtectedFrozen = 27
 
--- in place of 19
+-- in place of 19: local write of protected Disabled
 abbrev pub localWriteOfProtectedDisabled : ℕ
 localWriteOfProtectedDisabled = 28
 
