@@ -85,7 +85,7 @@ enum {
     TREE_BORROWS_POINTER = 1, /* first is its allocation, second its node */
     TREE_BORROWS_LOADED = 2,  /* first is where the loaded words start in `words`, second how many there are; at length
                                  0 both are 0 */
-    TREE_BORROWS_LEAK = 3     /* first is the allocation that leaks */
+    TREE_BORROWS_LEAK = 3     /* first is the allocation that leaks, the lowest if there are several; second is 0 */
 };
 
 /* a reply's refusal */
@@ -249,7 +249,7 @@ tree_borrows_reply tree_borrows_signed_dereferenceable(
     const uint8_t *protectors, size_t protectors_length, const uint32_t *words, size_t words_length,
     const uint8_t *codes, size_t codes_length, tree_borrows_pointer pointer, int64_t length);
 
-/* Is no heap allocation live? 25 gives one that is. Changes nothing. */
+/* Is no heap allocation live? 25 gives the one with the lowest number. Changes nothing. */
 tree_borrows_reply tree_borrows_leak_check(
     const uint64_t *allocs, size_t allocs_length, const uint16_t *parents, size_t parents_length,
     const uint8_t *protectors, size_t protectors_length, const uint32_t *words, size_t words_length,
@@ -258,9 +258,9 @@ tree_borrows_reply tree_borrows_leak_check(
 /* ---- a list of requests, by their words, from the empty memory with no frame open: what the six buffers held is
    overwritten. It goes on after a refusal. `requests` are the words of all requests, one behind the other, and `ends`
    has for each request where its words end, so that request i is the words from ends[i - 1], or 0, up to ends[i].
-   The answers go to `answers`, one behind the other: five words each (refusal or 0; 1 if a pointer with
-   provenance is given, else 0; its allocation; its node; the number of loaded words), and the loaded words. So
-   five words for each request and one for each loaded byte are room enough. */
+   The answers go to `answers`, one behind the other: five words each (refusal or 0; TREE_BORROWS_NOTHING, _POINTER or
+   _LEAK; first and second for that, as in a reply; the number of loaded words), and the loaded words. So five words
+   for each request and one for each loaded byte are room enough. */
 tree_borrows_list_reply tree_borrows_run_list(
     uint64_t *allocs, size_t allocs_length, uint16_t *parents, size_t parents_length,
     uint8_t *protectors, size_t protectors_length, uint32_t *words, size_t words_length,

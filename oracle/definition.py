@@ -65,6 +65,8 @@ def provenance(text):
 def answer(line):
     """A line of the output: the request's number, its refusal or 0, and what it gives."""
     _, refusal, *given = line.split(" ")
+    if refusal == "25":
+        return f"leakAnswer (some {given[0]})"
     if refusal != "0" or given == ["-"]:
         return f"refusedWith {refusal}"
     if "." in given[0]:
@@ -161,7 +163,7 @@ def unfolded():
 
 
 def header(names):
-    extra = {"Permission": ["permission"], "Memory": ["refusedWith", "givesPointer", "givesWords"], "Frame": ["State", "empty"], "Run": ["restRequest", "run"]}
+    extra = {"Permission": ["permission"], "Memory": ["refusedWith", "givesPointer", "givesWords", "leakAnswer"], "Frame": ["State", "empty"], "Run": ["restRequest", "run"]}
     lines = [
         "use Prim.Native.Nat.{ℕ}",
         "use mathlib.Core.Path.{_≡_, refl}",

@@ -111,9 +111,12 @@ class Refusals(TestCase):
         self.assertIn("standard input:20: request 4", error)
         self.assertEqual(words[19], "30000300")
 
-    def test_leak_names_the_allocation(self):
-        path = self.write("leak.card", "x = stack 1 at 16\ny = heap 1 at 32\nleaks\n")
-        self.assertIn("25: memory leak: allocation 1 is live", command("verdict", path)[2])
+    def test_leak_names_the_lowest(self):
+        """Past one of the stack and one that is dead."""
+        made = "x = stack 1 at 16\ny = heap 1 at 32\nz = heap 1 at 48\nw = heap 1 at 64\n"
+        for freed, allocation in (("", 1), ("free y\n", 2), ("free z\n", 1), ("free y\nfree z\n", 3)):
+            path = self.write("leak.card", made + freed + "leaks\n")
+            self.assertIn(f"25: memory leak: allocation {allocation} is live", command("verdict", path)[2])
 
     def test_each_test_of_2(self):
         one = w.join(w.ALLOCATE, extra=1, address=16, fourth=8)

@@ -219,6 +219,8 @@ class Refusals(TestCase):
             "x = heap 2 at 0x10\nfree x\nload x 1\n": "  x is dead since #1, free x\n",
             "x = heap 2 at 0x10\nload x+1 2\n": "  x: allocation 0, live heap, 2 bytes at 0x10, alignment 1\n",
             "x = heap 2 at 0x10\nleaks\n": "  the answer names x: allocation 0, live heap, 2 bytes at 0x10, alignment 1\n  it was made at #0, x = heap 2 at 0x10\n",
+            "x = heap 1 at 0x10\ny = stack 1 at 0x20\nz = heap 1 at 0x30\nleaks\n": "  it was made at #0, x = heap 1 at 0x10\n  it has the lowest number of 2 heap allocations that are live\n",
+            "x = heap 1 at 0x10\nz = heap 1 at 0x30\nfree x\nleaks\n": "  it was made at #1, z = heap 1 at 0x30\n  rule:",
             "x = heap 2 at 0x10\nraw 60000000 00000000 00000000 00000003\n": "#1  line 2  end call, frame 3\n",
             "load 0.0@0x10 1\n": "  allocation 0 is named, and 0 allocations made\n",
             "x = heap 2 at 0x10\nload 0.1@0x10 1\n": "  node 1 of x is named, and 1 node made\n",

@@ -86,23 +86,26 @@ static void as_one_list(void) {
         0x30000100, 0, 0x10, 1, 0x80000002,          /* store through 0.0: refused */
         0x60000000, 0, 0, 0,                         /* end call */
         0x20000300, 0, 0x10, 1,                      /* load through 0.1 */
+        0x90000000, 0, 0, 0,                         /* leak check: refused, and names allocation 0 */
     };
-    const uint32_t ends[] = {4, 8, 14, 19, 24, 28, 32};
-    const uint32_t refusals[] = {0, 0, 0, 0, TREE_BORROWS_FOREIGN_WRITE_OF_UNIQUE, 0, 0};
+    const uint32_t ends[] = {4, 8, 14, 19, 24, 28, 32, 36};
+    const uint32_t refusals[] = {0, 0, 0, 0, TREE_BORROWS_FOREIGN_WRITE_OF_UNIQUE, 0, 0, TREE_BORROWS_MEMORY_LEAK};
     static uint32_t frames[TREE_BORROWS_FRAMES];
-    uint32_t answers[7 * 5 + 1];
+    uint32_t answers[8 * 5 + 1];
     const uint32_t *answer = answers;
     tree_borrows_list_reply list;
     size_t i;
 
-    list = tree_borrows_run_list(TREE_BORROWS_LENT(&memory), frames, TREE_BORROWS_FRAMES, requests, 32, ends, 7, answers,
-                                 7 * 5 + 1);
-    if (list.refusal != TREE_BORROWS_ACCEPTED || !list.whole || list.at != 7 * 5 + 1)
+    list = tree_borrows_run_list(TREE_BORROWS_LENT(&memory), frames, TREE_BORROWS_FRAMES, requests, 36, ends, 8, answers,
+                                 8 * 5 + 1);
+    if (list.refusal != TREE_BORROWS_ACCEPTED || !list.whole || list.at != 8 * 5 + 1)
         exit(1);
     printf("list:");
-    for (i = 0; i < 7; i++) {
+    for (i = 0; i < 8; i++) {
         printf(" %" PRIu32, answer[0]);
         if (answer[0] != refusals[i])
+            exit(1);
+        if (answer[0] == TREE_BORROWS_MEMORY_LEAK && (answer[1] != TREE_BORROWS_LEAK || answer[2] != 0))
             exit(1);
         answer += 5 + answer[4];
     }

@@ -202,6 +202,9 @@ def _leaked(case):
     for earlier in case.earlier:
         if earlier.made == allocation.root and earlier.request.kind is words.ALLOCATE:
             yield f"it was made at #{earlier.request.index}, {case.say(earlier)}"
+    leaking = sum(other.state != memories.DEAD and other.kind == allocation.kind for other in case.memory.allocations)
+    if leaking > 1:
+        yield f"it has the lowest number of {leaking} heap allocations that are live"
 
 
 _ABOUT = {

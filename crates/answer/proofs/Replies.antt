@@ -2,7 +2,8 @@
 use Prim.Native.Nat.{ℕ, zero, suc}
 use mathlib.Core.Path.{_≡_, refl}
 use mathlib.Core.List.{List}
-use Rattle.definition.specs.Memory.{refusedWith}
+use mathlib.Core.Option.{Option, none, some}
+use Rattle.definition.specs.Memory.{refusedWith, leakAnswer}
 use Rattle.pointer.specs.Pointer.{provenanceOf}
 use Rattle.pointer.specs.declared.Provenance.{Provenance}
 use Rattle.pointer.specs.declared.Provenance.the-variants.{None, Of}
@@ -23,3 +24,8 @@ provenance-back (Of allocation node) = refl
 pub plain-answers : (n : ℕ) (words : List ℕ) → answerOf (replyTo Nothing (refusedWith n)) words ≡ refusedWith n
 plain-answers zero words = refl
 plain-answers (suc n) words = refl
+
+-- of a leak check
+pub leak-answers : (leak : Option ℕ) (words : List ℕ) → answerOf (replyTo Nothing (leakAnswer leak)) words ≡ leakAnswer leak
+leak-answers none words = refl
+leak-answers (some n) words = refl

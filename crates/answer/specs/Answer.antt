@@ -1,11 +1,10 @@
--- The definition's answer, for every case of the code's; the loaded words are a part of the lent data. A leak's name is no part of it (decision 56).
+-- The definition's answer, for every case of the code's; the loaded words are a part of the lent data.
 use Prim.Native.Nat.{ℕ, zero, suc, _+_, _*_, min}
 use mathlib.Core.Path.{_≡_}
 use mathlib.Core.Option.{Option, none, some}
 use mathlib.Core.List.{List}
 use denote.Ref.{RefT, ptr, now}
 use lib.ListN.{length, take, drop}
-use Rattle.definition.specs.Refusal.{memoryLeak}
 use Rattle.definition.specs.Memory as definition
 use Rattle.pointer.specs.Pointer.{provenanceOf}
 use Rattle.pointer.specs.declared.Provenance.{Provenance}
@@ -15,7 +14,7 @@ use Rattle.answer.specs.declared.Answer.the-variants.{Refused, Leak, Acc
 
 abbrev pub answerOf : Answer → List ℕ → definition.Answer
 answerOf (Refused n) words = definition.refusedWith n
-answerOf (Leak a) words = definition.refusedWith memoryLeak
+answerOf (Leak a) words = definition.leakAnswer (some a)
 answerOf Accepted words = definition.accepted
 answerOf (Pointer p) words = definition.givesPointer (provenanceOf p)
 answerOf (Words start len) words = definition.givesWords (take len (drop start words))
@@ -51,16 +50,21 @@ provenanceFrom (some t) = Of (t .allocation) (t .node)
 
 abbrev pub given : Gives → definition.Answer → Answer
 given Nothing a = Accepted
-given ThePointer a = Pointer (provenanceFrom (a .pointer))
+given ThePointer a = Pointer (provenanceFrom (definition.namedPointer (a .names)))
 given (TheWords start len) a = Words start len
 
-abbrev pub refusedOr : ℕ → Answer → Answer
-refusedOr zero accepted = accepted
-refusedOr (suc n) accepted = Refused (suc n)
+-- a refusal with its number, or with the leak that it names
+abbrev pub refusedAs : ℕ → definition.Named → Answer
+refusedAs n (definition.Named.Pointer p) = Refused n
+refusedAs n (definition.Named.Leak a) = Leak a
 
--- the one answer of a request that is no leak check; for that, `leakReply` of bounds names the allocation
+abbrev pub refusedOr : ℕ → definition.Named → Answer → Answer
+refusedOr zero names accepted = accepted
+refusedOr (suc n) names accepted = refusedAs (suc n) names
+
+-- the one answer of a request
 abbrev pub replyTo : Gives → definition.Answer → Answer
-replyTo gives a = refusedOr (a .refusal) (given gives a)
+replyTo gives a = refusedOr (a .refusal) (a .names) (given gives a)
 
 -- an outcome of the definition with the code's answer
 unfoldable pub replied : {X : Type 0} → Gives → definition.Answer × X → Answer × X

@@ -13,7 +13,7 @@ pub enum Answer {
     // with document 01's number
     Refused(u8),
     // 25, with the allocation that it names
-    Leak(usize),
+    Leak(u32),
     Accepted,
     // what an allocation or a retag gives
     Pointer(Provenance),

@@ -1,14 +1,12 @@
--- Which record is looked up, what the tests ask of it, and what a leak check answers.
-use Prim.Native.Nat.{ℕ, suc}
+-- Which record is looked up, and what the tests ask of it.
+use Prim.Native.Nat.{ℕ}
 use mathlib.Core.Path.{_≡_}
 use mathlib.Core.Bool.{false}
 use mathlib.Core.Option.{Option}
-use mathlib.Core.List.{List, [], _∷_}
+use mathlib.Core.List.{List}
 use lib.Dec.{ltb}
-use Rattle.definition.specs.Notation.{if_then_else_, any}
-use Rattle.definition.specs.Memory.{Memory, Provenance, allocationOf, namesNeverMade, isLiveHeap}
-use Rattle.answer.specs.declared.Answer.{Answer}
-use Rattle.answer.specs.declared.Answer.the-variants.{Leak, Accepted}
+use Rattle.definition.specs.Notation.{if_then_else_}
+use Rattle.definition.specs.Memory.{Memory, Provenance, allocationOf, namesNeverMade}
 use Rattle.tables.specs.declared.Allocation as record-of
 use Rattle.tables.specs.Held.{Records}
 use Rattle.tables.proofs.Lookup.{recordAt}
@@ -25,12 +23,3 @@ targetIn A p = recordAt A (placeOf p)
 pub record Points (m : Memory) (A : List ℕ) (p : Option Provenance) : Type 0 where
   pub records : Records m A
   pub made : namesNeverMade m p ≡ false
-
--- the lowest live heap allocation, where there is one
-unfoldable pub firstLeak : Memory → ℕ
-firstLeak [] = 0
-firstLeak (a ∷ m) = if isLiveHeap a then 0 else suc (firstLeak m)
-
--- the one answer of a leak check. "25's choice" is the lowest; proofs/Leak.antt: it is the definition's answer, and names a leak
-abbrev pub leakReply : Memory → Answer
-leakReply m = if any isLiveHeap m then Leak (firstLeak m) else Accepted

@@ -1,2 +1,2 @@
--- Which record is looked up, what the tests ask of it, and what a leak check answers.
+-- Which record is looked up, and what the tests ask of it.
 pub mod Bounds

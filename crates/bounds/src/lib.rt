@@ -18,7 +18,7 @@ ghost use Rattle.pointer.specs.Pointer.{provenanceOf, thinPointerOf, back, ahea
 ghost use Rattle.answer.specs.Answer.{replyTo};
 ghost use Rattle.answer.specs.Answer.Gives.{Nothing};
 ghost use Rattle.tables.specs.Held.{Records};
-ghost use Rattle.bounds.specs.Bounds.{placeOf, targetIn, Points, leakReply};
+ghost use Rattle.bounds.specs.Bounds.{placeOf, targetIn, Points};
 
 // ---- one look-up
 // Which record is looked up for a provenance.
@@ -190,13 +190,13 @@ fn is_live_heap(allocs: &[u64], i: usize) -> bool
 // Check if there are any memory leaks; the answer names the lowest.
 pub fn leak_check(allocs: &[u64]) -> Answer
     requires { ⌜ ((m : Memory) × Records m (now allocs)) ⌝ }
-    ensures { λ r. ⌜ ((m : Memory) → Records m (now (allocs .entry)) → r ≡ leakReply m) ⌝ }
+    ensures { λ r. ⌜ ((m : Memory) → Records m (now (allocs .entry)) → r ≡ replyTo Nothing (definition.leakCheck m .0)) ⌝ }
 {
     let count = tables::made_count(allocs);
     let mut i: usize = 0;
     while i < count {
         if is_live_heap(allocs, i) {
-            return Answer::Leak(i);
+            return Answer::Leak(i as u32);
         }
         i += 1;
     }

@@ -18,7 +18,7 @@ use Rattle.definition.specs.Refusal.{neverMade, misaligned, missingProve
 use Rattle.definition.specs.Permission.{AccessKind}
 use Rattle.definition.specs.Permission.AccessKind.{Read, Write}
 use Rattle.definition.specs.Tree.{Node, visitRefusal}
-use Rattle.definition.specs.Memory.{Memory, Allocation, noAllocation, size, Provenance, ThinPointer, Answer, unlessRefused, wasMade, namesNeverMade, hasNone, isLive, isMisaligned, allocationOf, target, offset, isOutside, checkPtr, MemoryAccess, visitOf, accessRefusalIn, accessRefusal, afterAccessIn, afterAccess, loadedWords, acceptAccess, performAccess}
+use Rattle.definition.specs.Memory.{Memory, Allocation, noAllocation, size, Provenance, ThinPointer, Answer, givesWords, unlessRefused, wasMade, namesNeverMade, hasNone, isLive, isMisaligned, allocationOf, target, offset, isOutside, checkPtr, MemoryAccess, visitOf, accessRefusalIn, accessRefusal, afterAccessIn, afterAccess, loadedWords, acceptAccess, performAccess}
 use Rattle.definition.proofs.Booleans.{and-left, and-right, or-later, or-left, or-right, when-none}
 use Rattle.definition.proofs.Permissions.{Calm}
 use Rattle.definition.proofs.Lists.{mutate-length, mutate-kept, mutate-commute, mutate-again}
@@ -278,7 +278,7 @@ module _ (t u : MemoryAccess) (ind : (Empty t → ⊥) → (Empty u → ⊥) →
 
   by-answer : (r : ℕ) → accessRefusal u m ≡ r → outcome r u (performAccess t m .1) .0 ≡ outcome r u m .0
   unfolding acceptAccess
-  by-answer zero e = ap {B = Answer} (λ (l : List ℕ). record { refusal = 0; pointer = none; words = l }) (loaded-same e)
+  by-answer zero e = ap givesWords (loaded-same e)
   by-answer (suc r) e = refl
 
   pub answer-same : performAccess u (performAccess t m .1) .0 ≡ performAccess u m .0

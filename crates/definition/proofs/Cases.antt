@@ -4,19 +4,21 @@ use mathlib.Core.Path.{_≡_, refl}
 use mathlib.Core.Bool.{true, false}
 use mathlib.Core.Option.{none, some}
 use mathlib.Core.List.{List, [], _∷_, _++_, map}
-use lib.ListN.{length, replicate, getD}
+use lib.ListN.{length, replicate, getD, drop}
 use Rattle.definition.specs.Notation.{firstRefusal, tableFrom, mapFrom, mutateAt, writeAt, filter, any, sumOf}
 use Rattle.definition.specs.Permission.{Protected, code, permission, refusal, next}
 use Rattle.definition.specs.Tree.{Node, isAboveWithin, relation, descendants, preorder, visitingOrder, rowRefusal, nodeRefusal, visitRefusal, nodeAfter, visited}
 use Rattle.definition.specs.Layout.{cellsFit, isFreeze, nestedMask, freezeMask}
-use Rattle.definition.specs.Memory.{Memory, changed, newAllocation, wrappingOffset, checkPtr, accessRefusalIn, accessRefusal, afterAccessIn, afterAccess, loadedWords, acceptAccess, performAccess, isPickable, exceedsBounds, allocateRefusal, acceptAllocate, allocate, deallocateRefusal, afterDeallocateIn, acceptDeallocate, deallocate, dereferenceable, leakCheck}
+use Rattle.definition.specs.Memory.{Memory, Named, nothing, refusedWith, changed, newAllocation, wrappingOffset, checkPtr, accessRefusalIn, accessRefusal, afterAccessIn, afterAccess, loadedWords, acceptAccess, performAccess, isPickable, exceedsBounds, allocateRefusal, acceptAllocate, allocate, deallocateRefusal, afterDeallocateIn, acceptDeallocate, deallocate, dereferenceable, firstLeak, leakCheck}
 use Rattle.definition.specs.Frame.{empty, frameAt, entries, newCall, releaseRefusalIn, releaseRefusal, afterReleaseIn, afterRelease, releaseAllRefusal, afterReleaseAll, endCallRefusal, acceptEndCall, endCall}
 use Rattle.definition.specs.Retag.{childNode, withChild, initRefusal, afterInit, reborrowRefusal, afterReborrowIn, acceptReborrow, reborrow, retagWithoutNode, retag}
 use Rattle.definition.specs.Request.{request, followingLength, isMiscounted, badByte, badSettings, badMetadata, badRetag, isMalformed}
 use Rattle.definition.specs.Run.{retagWithMask, performRetag, perform, step, answers, final, wordsOf, cutRequests, requestsOf, performedCount, program}
+use Rattle.definition.specs.Output.{ascii, digit, decimalWithin, decimal, ended, given, answerLine, answerLines}
 use Rattle.definition.specs.Permission.Protected.{No, Weak, Strong}
 use Rattle.definition.specs.Memory.Liveness.{Live}
 use Rattle.definition.specs.Memory.AllocationKind.{Stack}
+use Rattle.definition.specs.Memory.Named.{Pointer, Leak}
 use Rattle.definition.proofs.Stars.{bytesOfWords, bytesOf}
 
 -- ---- requests, by their words
@@ -71,6 +73,13 @@ cellFirst len = 0 ∷ (0x400000 + len) ∷ 0x00000001 ∷ []
 -- ---- what a list of requests comes to
 abbrev refusals : List (List ℕ) → List ℕ
 refusals wss = map (λ x. x .refusal) (answers empty wss)
+
+abbrev names : List (List ℕ) → List Named
+names wss = map (λ x. x .names) (answers empty wss)
+
+-- the pointer that an allocation gives
+abbrev root : ℕ → Named
+root allocation = Pointer (some (record { allocation = allocation; node = 0 }))
 
 -- as the program answers them
 abbrev printedRefusals : List (List ℕ) → List ℕ
@@ -183,6 +192,17 @@ abbrev noNodeRun : List (List ℕ)
 noNodeRun =
     allocateAt 1 16 2 ∷ through 4 0 0 0 3 16 0 [] ∷ through 4 0 0 0 1 16 0 [] ∷ (firstWord 4 0 0 0 0 0 ∷ 0 ∷ 16 ∷ 2 ∷ sized 0) ∷ []
 
+-- a heap allocation that is freed, one of the stack, and two more of the heap; these are freed in turn, with a leak check before each and at the end
+abbrev leakingRun : List (List ℕ)
+leakingRun =
+    allocateAt 1 16 1 ∷ freeHeap 0 0 16 1 ∷ allocateAt 0 16 1 ∷ allocateAt 1 32 1 ∷ allocateAt 1 48 1
+    ∷ leakCheckNow
+    ∷ freeHeap 2 0 32 1
+    ∷ leakCheckNow
+    ∷ freeHeap 3 0 48 1
+    ∷ leakCheckNow
+    ∷ []
+
 -- so many nodes below each other
 abbrev chainRun : ℕ → List (List ℕ)
 chainRun zero = allocateAt 1 16 1 ∷ []
@@ -258,7 +278,11 @@ pub record Cases : Type 0 where
   pub released-rows : rows (celledRun ++ (return 0 ∷ [])) ≡ (3 ∷ 3 ∷ []) ∷ (1 ∷ 1 ∷ []) ∷ (0 ∷ 4 ∷ []) ∷ []
   pub released-frame : frameAt (final empty (celledRun ++ (return 0 ∷ []))) 0 ≡ frameAt empty 0
   -- the same pointer
-  pub no-node : map (λ x. x .pointer) (answers empty noNodeRun) ≡ some (record { allocation = 0; node = 0 }) ∷ some (record { allocation = 0; node = 0 }) ∷ some (record { allocation = 0; node = 0 }) ∷ none ∷ []
+  pub no-node : names noNodeRun ≡ root 0 ∷ root 0 ∷ root 0 ∷ nothing ∷ []
+  -- M-104: 25 names the lowest that is live and of the heap, not a dead one or one of the stack; and so the program prints it
+  pub leaks-refusals : refusals leakingRun ≡ 0 ∷ 0 ∷ 0 ∷ 0 ∷ 0 ∷ 25 ∷ 0 ∷ 25 ∷ 0 ∷ 0 ∷ []
+  pub leaks-names : names leakingRun ≡ root 0 ∷ nothing ∷ root 1 ∷ root 2 ∷ root 3 ∷ Leak 2 ∷ nothing ∷ Leak 3 ∷ nothing ∷ nothing ∷ []
+  pub leak-line : answerLines 5 (drop 5 (program (bytesOf leakingRun) .0)) ≡ ascii "5 25 2\n"
   -- masks: three elements with a cell in each; a tuple with a slice; a count of 2^30 - 1 at size 0, and at size 1; eight tuples, and nine; empty cells, and cells that go back
   pub slice-mask : freezeMask (0x40000003 ∷ 0x40400002 ∷ 0x00010001 ∷ []) ≡ some (true ∷ false ∷ true ∷ false ∷ true ∷ false ∷ [])
   pub tuple-mask : freezeMask (0x40000002 ∷ 0xc0000003 ∷ 0x40400001 ∷ 0x00000001 ∷ []) ≡ some (true ∷ true ∷ true ∷ false ∷ false ∷ [])
@@ -273,13 +297,13 @@ pub record Cases : Type 0 where
   pub cut-short : requestsOf (replicate 12 0 ++ (1 ∷ 2 ∷ [])) ≡ (0 ∷ 0 ∷ 0 ∷ []) ∷ []
   pub cut-refusals : refusals ((0x30000000 ∷ 0 ∷ 0 ∷ 2 ∷ 7 ∷ []) ∷ [] ∷ leakCheckNow ∷ []) ≡ 2 ∷ 2 ∷ 0 ∷ []
   -- the program stops after the first refusal: nothing but the refused allocation at address 0 is answered
-  pub stops : program (replicate 40 0) .0 ≡ record { refusal = 5; pointer = none; words = [] } ∷ []
+  pub stops : program (replicate 40 0) .0 ≡ refusedWith 5 ∷ []
   -- forty-one nodes below each other; 4,096 bytes read at once
   pub chain-length : length (rows (chainRun 40)) ≡ 41
   pub whole-load : refusals (allocateAt 1 4096 4096 ∷ load 0 0 4096 4096 ∷ []) ≡ 0 ∷ 0 ∷ []
 
 pub cases : Cases
-unfolding firstRefusal tableFrom mapFrom mutateAt writeAt filter any sumOf refusal next isAboveWithin relation descendants preorder visitingOrder rowRefusal nodeRefusal visitRefusal nodeAfter visited cellsFit isFreeze nestedMask freezeMask wrappingOffset checkPtr accessRefusalIn accessRefusal afterAccessIn afterAccess loadedWords acceptAccess performAccess isPickable exceedsBounds newAllocation allocateRefusal acceptAllocate allocate deallocateRefusal afterDeallocateIn acceptDeallocate deallocate dereferenceable leakCheck newCall releaseRefusalIn releaseRefusal afterReleaseIn afterRelease releaseAllRefusal afterReleaseAll endCallRefusal acceptEndCall endCall childNode withChild initRefusal afterInit reborrowRefusal afterReborrowIn acceptReborrow reborrow retagWithoutNode retag request followingLength isMiscounted badByte badSettings badMetadata badRetag isMalformed retagWithMask performRetag perform step answers final wordsOf cutRequests requestsOf performedCount program bytesOfWords bytesOf
+unfolding firstRefusal tableFrom mapFrom mutateAt writeAt filter any sumOf refusal next isAboveWithin relation descendants preorder visitingOrder rowRefusal nodeRefusal visitRefusal nodeAfter visited cellsFit isFreeze nestedMask freezeMask wrappingOffset checkPtr accessRefusalIn accessRefusal afterAccessIn afterAccess loadedWords acceptAccess performAccess isPickable exceedsBounds newAllocation allocateRefusal acceptAllocate allocate deallocateRefusal afterDeallocateIn acceptDeallocate deallocate dereferenceable firstLeak leakCheck newCall releaseRefusalIn releaseRefusal afterReleaseIn afterRelease releaseAllRefusal afterReleaseAll endCallRefusal acceptEndCall endCall childNode withChild initRefusal afterInit reborrowRefusal afterReborrowIn acceptReborrow reborrow retagWithoutNode retag request followingLength isMiscounted badByte badSettings badMetadata badRetag isMalformed retagWithMask performRetag perform step answers final wordsOf cutRequests requestsOf performedCount program digit decimalWithin decimal ended given answerLine answerLines bytesOfWords bytesOf
 cases =
     record {
       protected-refusals = refl;
@@ -317,6 +341,9 @@ cases =
       released-rows = refl;
       released-frame = refl;
       no-node = refl;
+      leaks-refusals = refl;
+      leaks-names = refl;
+      leak-line = refl;
       slice-mask = refl;
       tuple-mask = refl;
       empty-elements = refl;

@@ -22,7 +22,7 @@ use Rattle.definition.specs.Permission.Protected.{No}
 use Rattle.definition.specs.Permission.SafePointer.{SharedRef, MutableRef, Box}
 use Rattle.definition.specs.Tree.{Node, noNode, parents, relation}
 use Rattle.definition.specs.Layout.{FreezeMask, freezeMask}
-use Rattle.definition.specs.Memory.{Allocation, size, Memory, noAllocation, allocationAt, target, offset, Provenance, ThinPointer, hasNone, allocationOf, Answer, refusedWith, unlessRefused, wasMade}
+use Rattle.definition.specs.Memory.{Allocation, size, Memory, noAllocation, allocationAt, target, offset, Provenance, ThinPointer, hasNone, allocationOf, Answer, namedPointer, refusedWith, unlessRefused, wasMade}
 use Rattle.definition.specs.Frame.{Frame, State, frameAt, isOpen, entries, empty}
 use Rattle.definition.specs.Frame.Frame.{Closed, Open}
 use Rattle.definition.specs.Retag.{ReborrowSettings, startPerm, childNode, withChild, reborrowRefusal, afterReborrowIn, acceptReborrow, reborrow, retagWithoutNode, retag}
@@ -146,7 +146,7 @@ module _ (s : State) (ws : List ℕ) (arg : SharedArgument s ws) where
   made-is : child ≡ arg .made
   unfolding acceptReborrow
   made-is =
-      let e : some child ≡ some (arg .made) = ap (λ (o : Answer × State). o .0 .pointer) (sym is-accepted) ∙ ap (λ (x : Answer). x .pointer) (arg .accept) in
+      let e : some child ≡ some (arg .made) = ap (λ (o : Answer × State). namedPointer (o .0 .names)) (sym is-accepted) ∙ ap (λ (x : Answer). namedPointer (x .names)) (arg .accept) in
       cc
 
   tests : Passed w f p s

@@ -8,7 +8,7 @@ use Rattle.definition.specs.Notation.{firstRefusal, tableFrom, mapFrom, 
 use Rattle.definition.specs.Permission.{refusal, next, endAccess, permission}
 use Rattle.definition.specs.Tree.{isAboveWithin, relation, descendants, preorder, visitingOrder, rowRefusal, nodeRefusal, visitRefusal, nodeAfter, visited}
 use Rattle.definition.specs.Layout.{cellsFit, isFreeze, nestedMask, freezeMask}
-use Rattle.definition.specs.Memory.{wrappingOffset, checkPtr, accessRefusalIn, accessRefusal, afterAccessIn, afterAccess, loadedWords, acceptAccess, performAccess, isPickable, exceedsBounds, newAllocation, allocateRefusal, acceptAllocate, allocate, deallocateRefusal, afterDeallocateIn, acceptDeallocate, deallocate, dereferenceable, leakCheck, Answer, refusedWith, accepted, givesPointer, givesWords}
+use Rattle.definition.specs.Memory.{wrappingOffset, checkPtr, accessRefusalIn, accessRefusal, afterAccessIn, afterAccess, loadedWords, acceptAccess, performAccess, isPickable, exceedsBounds, newAllocation, allocateRefusal, acceptAllocate, allocate, deallocateRefusal, afterDeallocateIn, acceptDeallocate, deallocate, dereferenceable, firstLeak, leakCheck, Answer, refusedWith, accepted, givesPointer, givesWords}
 use Rattle.definition.specs.Frame.{newCall, releaseRefusalIn, releaseRefusal, afterReleaseIn, afterRelease, releaseAllRefusal, afterReleaseAll, endCallRefusal, acceptEndCall, endCall, State, empty}
 use Rattle.definition.specs.Retag.{childNode, withChild, initRefusal, afterInit, reborrowRefusal, afterReborrowIn, acceptReborrow, reborrow, retagWithoutNode, retag}
 use Rattle.definition.specs.Request.{request, followingLength, isMiscounted, badByte, badSettings, badMetadata, badRetag, isMalformed}
@@ -89,13 +89,12 @@ abbrev beside : State
 beside = final empty (heapAt 0 16 2 ∷ [])
 
 pub record Stars : Type 0 where
-  -- "★the run above": its answers and all that it leaves, as a list, and as the program reads it; and the text that the program prints of it, byte for
-  -- byte, whichever allocation 25 would name
+  -- "★the run above": its answers and all that it leaves, as a list, and as the program reads it; and the text that the program prints of it
   pub run-answers : answers empty theRun ≡ itsAnswers
   pub run-state : final empty theRun ≡ itsState
   pub run-requests : requestsOf (bytesOf theRun) ≡ theRun
   pub run-program : program (bytesOf theRun) ≡ (itsAnswers, itsState)
-  pub run-output : (leak : ℕ) → output leak (bytesOf theRun) ≡ itsText
+  pub run-output : output (bytesOf theRun) ≡ itsText
   -- "size 1 at 2^64 − 2 ★accepted, size 2 ★5"
   pub size-1 : step empty (heapAt 0xffffffff 0xfffffffe 1) .0 ≡ pointerTo 0 0
   pub size-2 : step empty (heapAt 0xffffffff 0xfffffffe 2) .0 ≡ refusedWith 5
@@ -113,14 +112,14 @@ pub record Stars : Type 0 where
   pub signed : step beside (0x80000100 ∷ 0 ∷ 16 ∷ 0xffffffff ∷ []) .0 ≡ refusedWith 9
 
 pub stars : Stars
-unfolding firstRefusal tableFrom mapFrom mutateAt writeAt filter any sumOf refusal next isAboveWithin relation descendants preorder visitingOrder rowRefusal nodeRefusal visitRefusal nodeAfter visited cellsFit isFreeze nestedMask freezeMask wrappingOffset checkPtr accessRefusalIn accessRefusal afterAccessIn afterAccess loadedWords acceptAccess performAccess isPickable exceedsBounds newAllocation allocateRefusal acceptAllocate allocate deallocateRefusal afterDeallocateIn acceptDeallocate deallocate dereferenceable leakCheck newCall releaseRefusalIn releaseRefusal afterReleaseIn afterRelease releaseAllRefusal afterReleaseAll endCallRefusal acceptEndCall endCall childNode withChild initRefusal afterInit reborrowRefusal afterReborrowIn acceptReborrow reborrow retagWithoutNode retag request followingLength isMiscounted badByte badSettings badMetadata badRetag isMalformed retagWithMask performRetag perform step answers final wordsOf cutRequests requestsOf performedCount program bytesOfWords bytesOf digit decimalWithin decimal hexadecimal ended pointed given answerLine livenessName kindName allocationLine dataLine protectorName parentName codes nodeLine nodeLines allocationLines memoryLines answerLines output
+unfolding firstRefusal tableFrom mapFrom mutateAt writeAt filter any sumOf refusal next isAboveWithin relation descendants preorder visitingOrder rowRefusal nodeRefusal visitRefusal nodeAfter visited cellsFit isFreeze nestedMask freezeMask wrappingOffset checkPtr accessRefusalIn accessRefusal afterAccessIn afterAccess loadedWords acceptAccess performAccess isPickable exceedsBounds newAllocation allocateRefusal acceptAllocate allocate deallocateRefusal afterDeallocateIn acceptDeallocate deallocate dereferenceable firstLeak leakCheck newCall releaseRefusalIn releaseRefusal afterReleaseIn afterRelease releaseAllRefusal afterReleaseAll endCallRefusal acceptEndCall endCall childNode withChild initRefusal afterInit reborrowRefusal afterReborrowIn acceptReborrow reborrow retagWithoutNode retag request followingLength isMiscounted badByte badSettings badMetadata badRetag isMalformed retagWithMask performRetag perform step answers final wordsOf cutRequests requestsOf performedCount program bytesOfWords bytesOf digit decimalWithin decimal hexadecimal ended pointed given answerLine livenessName kindName allocationLine dataLine protectorName parentName codes nodeLine nodeLines allocationLines memoryLines answerLines output
 stars =
     record {
       run-answers = refl;
       run-state = refl;
       run-requests = refl;
       run-program = refl;
-      run-output = λ leak. refl;
+      run-output = refl;
       size-1 = refl;
       size-2 = refl;
       at-16 = refl;

@@ -103,25 +103,39 @@ abbrev pub offset : Allocation → ThinPointer → ℕ
 offset a p = p .address - a .address
 
 -- ---- answers
--- "An answer is the refusal or 0, the pointer and the loaded words". The pointer's address is the request's own
+-- what an answer names: the pointer that it gives, if that has provenance (its address is the request's own), or the allocation that leaks
+pub data Named : Type 0 where
+  Pointer : Option Provenance → Named
+  Leak : ℕ → Named
+
+-- no pointer is given, or one without provenance
+abbrev pub nothing : Named
+nothing = Pointer none
+
+-- the provenance of the pointer that is given
+abbrev pub namedPointer : Named → Option Provenance
+namedPointer (Pointer p) = p
+namedPointer (Leak n) = none
+
+-- "An answer is the refusal or 0, the pointer and the loaded words"; and the leak, as "Demand 3 compares it too" (document 02, M-104; decisions 39 and 104)
 pub record Answer : Type 0 where
   pub refusal : ℕ
-  pub pointer : Option Provenance
+  pub names : Named
   pub words : List ℕ
 
 -- with 0, which is no refusal, it is `accepted`
 abbrev pub refusedWith : ℕ → Answer
-refusedWith n = record { refusal = n; pointer = none; words = [] }
+refusedWith n = record { refusal = n; names = nothing; words = [] }
 
 -- accepted, with nothing to give, with a pointer, with words
 abbrev pub accepted : Answer
-accepted = record { refusal = 0; pointer = none; words = [] }
+accepted = record { refusal = 0; names = nothing; words = [] }
 
 abbrev pub givesPointer : Option Provenance → Answer
-givesPointer p = record { refusal = 0; pointer = p; words = [] }
+givesPointer p = record { refusal = 0; names = Pointer p; words = [] }
 
 abbrev pub givesWords : List ℕ → Answer
-givesWords ws = record { refusal = 0; pointer = none; words = ws }
+givesWords ws = record { refusal = 0; names = nothing; words = ws }
 
 -- the outcome of a request, unless it is refused: "the request then changes nothing"
 abbrev pub unlessRefused {ℓ} : {S : Type ℓ} → ℕ → S → Answer × S → Answer × S
@@ -314,9 +328,15 @@ dereferenceable p back ahead m = (
 abbrev pub isLiveHeap : Allocation → Bool
 isLiveHeap a = isLive (a .state) && eqb (kindNumber (a .kind)) (kindNumber Heap)
 
--- 25 may name allocation n. "25's choice is no part of" an answer: any such n is right (decision 56)
-abbrev pub isLeak : Memory → ℕ → Bool
-isLeak m n = ltb n (length m) && isLiveHeap (allocationAt m n)
+-- the first live heap allocation of those from number n on: "it must be the one with the lowest number"
+unfoldable pub firstLeak : ℕ → Memory → Option ℕ
+firstLeak n [] = none
+firstLeak n (a ∷ m) = if isLiveHeap a then some n else firstLeak (suc n) m
+
+-- "a heap allocation is live; the answer names one such"
+abbrev pub leakAnswer : Option ℕ → Answer
+leakAnswer none = accepted
+leakAnswer (some n) = record { refusal = memoryLeak; names = Leak n; words = [] }
 
 unfoldable pub leakCheck : Memory → Answer × Memory
-leakCheck m = (refusedWith (memoryLeak when any isLiveHeap m), m)
+leakCheck m = (leakAnswer (firstLeak 0 m), m)

@@ -4,17 +4,17 @@ use Prim.Native.Char as char
 use Prim.Native.String.{String, [], _∷_}
 use mathlib.Core.Path.{_≡_}
 use mathlib.Core.Bool.{true, false}
-use mathlib.Core.Option.{Option, none, some}
+use mathlib.Core.Option.{none, some}
 use mathlib.Core.List.{List, [], _∷_, _++_, map}
-use lib.Dec.{eqb, ltb}
-use Rattle.definition.specs.Notation.{if_then_else_, any}
-use Rattle.definition.specs.Refusal.{memoryLeak}
+use lib.Dec.{ltb}
+use Rattle.definition.specs.Notation.{if_then_else_}
 use Rattle.definition.specs.Permission.{Permission, Protected, code}
 use Rattle.definition.specs.Permission.Protected.{No, Weak, Strong}
 use Rattle.definition.specs.Tree.{Node}
-use Rattle.definition.specs.Memory.{Provenance, Liveness, AllocationKind, Allocation, Memory, Answer, size, isLiveHeap, isLeak}
+use Rattle.definition.specs.Memory.{Provenance, Liveness, AllocationKind, Allocation, Memory, Named, Answer, size}
 use Rattle.definition.specs.Memory.Liveness.{Live, Dead}
 use Rattle.definition.specs.Memory.AllocationKind.{Stack, Heap, Global, Function, VTable}
+use Rattle.definition.specs.Memory.Named.{Pointer, Leak}
 use Rattle.definition.specs.Run.{program}
 
 abbrev pub Text : Type 0
@@ -77,15 +77,14 @@ unfoldable pub pointed : Provenance → Text
 pointed t = decimal (t .allocation) ++ (ascii "." ++ decimal (t .node))
 
 -- "allocation.node, loaded words, the allocation that 25 names, or `-`. A pointer without provenance prints `-`."
-unfoldable pub given : Option ℕ → Option Provenance → List ℕ → List Text
-given (some n) p ws = decimal n ∷ []
-given none (some t) ws = pointed t ∷ []
-given none none ws = words ws
+unfoldable pub given : Named → List ℕ → List Text
+given (Pointer (some t)) ws = pointed t ∷ []
+given (Pointer none) ws = words ws
+given (Leak n) ws = decimal n ∷ []
 
--- "request index, refusal or 0, then ..". The definition's answer has no name for 25 (decision 56), so the line takes it: an allocation's number if the
--- answer is 25, else none
-unfoldable pub answerLine : ℕ → Option ℕ → Answer → Text
-answerLine index named a = line (decimal index) (decimal (a .refusal) ∷ given named (a .pointer) (a .words))
+-- "request index, refusal or 0, then .."
+unfoldable pub answerLine : ℕ → Answer → Text
+answerLine index a = line (decimal index) (decimal (a .refusal) ∷ given (a .names) (a .words))
 
 -- ---- an allocation
 unfoldable pub livenessName : Liveness → Text
@@ -148,19 +147,15 @@ unfoldable pub memoryLines : ℕ → Memory → Text
 memoryLines n [] = []
 memoryLines n (a ∷ m) = allocationLines n a ++ memoryLines (suc n) m
 
--- of the answers from index i on; `leak` is the allocation that 25 names
-unfoldable pub answerLines : ℕ → ℕ → List Answer → Text
-answerLines leak i [] = []
-answerLines leak i (a ∷ rest) =
-    answerLine i (if eqb (a .refusal) memoryLeak then some leak else none) a ++ answerLines leak (suc i) rest
+-- of the answers from index i on
+unfoldable pub answerLines : ℕ → List Answer → Text
+answerLines i [] = []
+answerLines i (a ∷ rest) = answerLine i a ++ answerLines (suc i) rest
 
--- what the program prints of the run that it reads, if 25 names `leak`; that is unread where no answer is 25
-unfoldable pub output : ℕ → List ℕ → Text
-output leak bytes =
-    let left = program bytes in answerLines leak 0 (left .0) ++ memoryLines 0 (left .1 .memory)
+-- what the program prints of the run that it reads
+unfoldable pub output : List ℕ → Text
+output bytes = let left = program bytes in answerLines 0 (left .0) ++ memoryLines 0 (left .1 .memory)
 
--- a text that the program may print. 25's choice is free (decision 56): any live heap allocation of the memory that is left will do
-pub record IsOutput (bytes : List ℕ) (text : Text) : Type 0 where
-  pub leak : ℕ
-  pub isALeak : any isLiveHeap (program bytes .1 .memory) ≡ true → isLeak (program bytes .1 .memory) leak ≡ true
-  pub isPrinted : text ≡ output leak bytes
+-- the text is that
+abbrev pub IsOutput : List ℕ → Text → Type 0
+IsOutput bytes text = text ≡ output bytes

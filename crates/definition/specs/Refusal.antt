@@ -112,6 +112,6 @@ foreignWriteOfUnique = 23
 abbrev pub strongProtector : ℕ
 strongProtector = 24
 
--- "Leak check: a heap allocation is live; the answer names one such."
+-- "Leak check: a heap allocation is live; the answer names one such", the one with the lowest number (document 02, M-104)
 abbrev pub memoryLeak : ℕ
 memoryLeak = 25

@@ -1,8 +1,7 @@
 -- A run, request by request: what the text comes to.
-use Prim.Native.Nat.{ℕ, zero, suc, _+_, _-_, _*_, _≤_, _<_, min}
+use Prim.Native.Nat.{ℕ, suc, _+_, _-_, _*_, _≤_, _<_, min}
 use mathlib.Core.Path.{_≡_, refl, sym, ap, subst, _∙_}
 use mathlib.Core.Bool.{Bool, true, false, not, _&&_, _||_, false≢true}
-use mathlib.Core.Option.{Option, none, some}
 use mathlib.Core.List.{List, [], _∷_, _++_, append-assoc, append-nil}
 use native.Mathlib.Omega.{arith}
 use native.Mathlib.Decide.{decLt}
@@ -12,7 +11,6 @@ use lib.Dec.{eqb, ltb, leb}
 use lib.ListN.{length, take, drop, length-append, length-drop, drop-of-length-le}
 use lib.Seq.{drop-drop, take-all, take-length}
 use Rattle.definition.specs.Notation.{if_then_else_}
-use Rattle.definition.specs.Refusal.{memoryLeak}
 use Rattle.definition.specs.Memory.{Answer, Memory}
 use Rattle.definition.specs.Frame.{State, empty}
 use Rattle.definition.specs.Request.{request, followingLength}
@@ -30,9 +28,8 @@ use Rattle.stream.proofs.Cuts.{program-from, program-end, program-more, program
 use Rattle.judge.specs.declared.Advance.{Advance}
 use Rattle.judge.specs.declared.Judged.{Judged}
 use Rattle.judge.specs.declared.Judged.the-variants.{Text, TooLong}
-use Rattle.judge.specs.Turn.{lineRoom, NamesLeak, nameIn, requestEnd, Turned, Taken}
+use Rattle.judge.specs.Turn.{lineRoom, requestEnd, Turned, Taken}
 use Rattle.judge.specs.Whole.{goesOn, leftAt, memoryRoom, Performing, JudgedAs}
-use Rattle.judge.proofs.Names.{some-leak}
 
 -- ---- the bytes
 -- the bytes of the next request
@@ -102,9 +99,7 @@ performing-start run p h from index going =
     record {
       state = empty;
       holds = h;
-      leak = some-leak [] .0;
-      right = some-leak [] .1;
-      text = λ l _. ap (λ (n : ℕ). answerLines l n (leftAt empty run p .0)) index ∙ ap (λ (o : List Answer × State). answerLines l 0 (o .0)) left;
+      text = ap (λ (n : ℕ). answerLines n (leftAt empty run p .0)) index ∙ ap (λ (o : List Answer × State). answerLines 0 (o .0)) left;
       final = ap (λ (o : List Answer × State). o .1) left;
       within = omega (arith, from);
       counted = omega (arith, from, index);
@@ -116,9 +111,7 @@ not-both e e′ = false≢true (sym e ∙ e′)
 -- the line of a request's answer is added to the others
 pub record LineAdded (s : State) (ws : List ℕ) (index : ℕ) (lines : List ℕ) (refused : Bool) (lines′ : List ℕ) (b : Buffers) (F : List ℕ) : Type 0 where
   pub holds : HoldsState (step s ws .1) b F
-  pub leak : ℕ
-  pub right : NamesLeak (step s ws .1 .memory) leak
-  pub line : lines′ ≡ lines ++ answerLine index (nameIn (step s ws .0) leak) (step s ws .0)
+  pub line : lines′ ≡ lines ++ answerLine index (step s ws .0)
   pub told : refused ≡ not (eqb (step s ws .0 .refusal) 0)
 
 -- the request of a run at p, and how far the run is behind it
@@ -136,9 +129,7 @@ advanced {s} {run} {p} k =
     record {
       added = record {
         holds = k .turned .holds;
-        leak = k .turned .line .leak;
-        right = k .turned .line .right;
-        line = text-behind (answerLine (p .index) (nameIn (o .0) (k .turned .line .leak)) (o .0)) (w .written) (w .fits);
+        line = text-behind (answerLine (p .index) (o .0)) (w .written) (w .fits);
         told = k .turned .line .told;
       };
       from = k .from;
@@ -176,27 +167,16 @@ module _ {s : State} {run : List ℕ} {p : Advance} {lines : List ℕ} {r : Adva
   left-more =
       ap (λ (t : Bool). if t then ([], s) else programFrom s bytes) going ∙ left-by (eqb (outcome .0 .refusal) 0) refl
 
-  -- an accepted request has no name in its line
-  name-by : (t : Bool) → eqb (outcome .0 .refusal) 0 ≡ t → (l : ℕ) → (r .refused ≡ true → l ≡ k .added .leak)
-      → nameIn (outcome .0) (k .added .leak) ≡ nameIn (outcome .0) l
-  name-by true e l h =
-      let zero : outcome .0 .refusal ≡ 0 = eqb-true (outcome .0 .refusal) 0 e in
-      ap (λ (n : ℕ). if eqb n memoryLeak then some (k .added .leak) else none) zero
-      ∙ sym (ap (λ (n : ℕ). if eqb n memoryLeak then some l else none) zero)
-  name-by false e l h = ap (nameIn (outcome .0)) (sym (h (k .added .told ∙ ap not e)))
-
-  text-more : (l : ℕ) → (r .refused ≡ true → l ≡ k .added .leak)
-      → lines′ ++ answerLines l (r .index) (leftAt (outcome .1) run r .0) ≡ lines ++ answerLines l (p .index) (leftAt s run p .0)
+  text-more : lines′ ++ answerLines (r .index) (leftAt (outcome .1) run r .0) ≡ lines ++ answerLines (p .index) (leftAt s run p .0)
   unfolding answerLines
-  text-more l h =
-      let line : Option ℕ → List ℕ = λ o. answerLine (p .index) o (outcome .0) in
-      let later : ℕ → List ℕ = λ n. answerLines l n (leftAt (outcome .1) run r .0) in
+  text-more =
+      let line : List ℕ = answerLine (p .index) (outcome .0) in
+      let later : ℕ → List ℕ = λ n. answerLines n (leftAt (outcome .1) run r .0) in
       let one : r .index ≡ suc (p .index) = k .index ∙ add-one (p .index) in
       ap (λ (t : List ℕ). t ++ later (r .index)) (k .added .line)
-      ∙ ap (λ (o : Option ℕ). (lines ++ line o) ++ later (r .index)) (name-by (eqb (outcome .0 .refusal) 0) refl l h)
-      ∙ append-assoc lines (line (nameIn (outcome .0) l)) (later (r .index))
-      ∙ ap (λ (n : ℕ). lines ++ (line (nameIn (outcome .0) l) ++ later n)) one
-      ∙ ap (λ (o : List Answer × State). lines ++ answerLines l (p .index) (o .0)) (sym left-more)
+      ∙ append-assoc lines line (later (r .index))
+      ∙ ap (λ (n : ℕ). lines ++ (line ++ later n)) one
+      ∙ ap (λ (o : List Answer × State). lines ++ answerLines (p .index) (o .0)) (sym left-more)
 
 pub performing-next : {run : List ℕ} {p : Advance} {lines : List ℕ} {b : Buffers} {F : List ℕ} (h : Performing run p lines b F)
     {r : Advance} {lines′ : List ℕ} {b′ : Buffers} {F′ : List ℕ} → p .refused ≡ false → p .from < length run → Advanced (h .state) run p lines r lines′ b′ F′
@@ -205,33 +185,25 @@ performing-next {run} {p} h {r} going more k =
     record {
       state = step (h .state) (nextRequest (drop (p .from) run)) .1;
       holds = k .added .holds;
-      leak = k .added .leak;
-      right = k .added .right;
-      text = λ l e. text-more going more k l e ∙ h .text l (λ e′. absurd (not-both going e′));
+      text = text-more going more k ∙ h .text;
       final = sym (ap (λ (o : List Answer × State). o .1) (left-more going more k)) ∙ h .final;
       within = subst (λ (n : ℕ). n ≤ length run) (sym (k .from)) (end-within run (p .from) (omega arith));
       counted = omega (arith, k .index, k .from, h .counted, end-ahead run (p .from) more);
     }
 
 -- no request is left
-pub record Performed (run lines : List ℕ) (s : State) (leak : ℕ) : Type 0 where
-  pub right : NamesLeak (program run .1 .memory) leak
-  pub text : lines ≡ answerLines leak 0 (program run .0)
+pub record Performed (run lines : List ℕ) (s : State) : Type 0 where
+  pub text : lines ≡ answerLines 0 (program run .0)
   pub final : s ≡ program run .1
 
 pub performing-end : {run : List ℕ} {p : Advance} {lines : List ℕ} {b : Buffers} {F : List ℕ} (h : Performing run p lines b F)
-    → (p .refused ≡ false → p .from < length run → ⊥) → Performed run lines (h .state) (h .leak)
+    → (p .refused ≡ false → p .from < length run → ⊥) → Performed run lines (h .state)
 unfolding answerLines
 performing-end {run} {p} {lines} h over =
     let none : leftAt (h .state) run p ≡ ([], h .state) = by (p .refused) refl in
-    let final : h .state ≡ program run .1 = ap (λ (o : List Answer × State). o .1) (sym none) ∙ h .final in
     record {
-      right = subst (λ (s : State). NamesLeak (s .memory) (h .leak)) final (h .right);
-      text =
-          sym (append-nil lines)
-          ∙ ap (λ (o : List Answer × State). lines ++ answerLines (h .leak) (p .index) (o .0)) (sym none)
-          ∙ h .text (h .leak) (λ _. refl);
-      final = final;
+      text = sym (append-nil lines) ∙ ap (λ (o : List Answer × State). lines ++ answerLines (p .index) (o .0)) (sym none) ∙ h .text;
+      final = ap (λ (o : List Answer × State). o .1) (sym none) ∙ h .final;
     }
   where
     by : (t : Bool) → p .refused ≡ t → leftAt (h .state) run p ≡ ([], h .state)
@@ -242,25 +214,15 @@ performing-end {run} {p} {lines} h over =
         ∙ ap (programFrom (h .state)) (drop-of-length-le run all)
         ∙ program-end (h .state)
 
--- an allocation that 25 may name in the end: the one that is written, where the last request was refused
-pub right-leak : {run : List ℕ} {p : Advance} {lines : List ℕ} {b : Buffers} {F : List ℕ} (h : Performing run p lines b F)
-    → (leak : ℕ) × (NamesLeak (program run .1 .memory) leak × (p .refused ≡ true → leak ≡ h .leak))
-right-leak {run} {p} h = by (p .refused) refl
-  where
-    by : (t : Bool) → p .refused ≡ t → (leak : ℕ) × (NamesLeak (program run .1 .memory) leak × (p .refused ≡ true → leak ≡ h .leak))
-    by true e = (h .leak, (performing-end h (λ f _. not-both f e) .right, λ _. refl))
-    by false e = let l = some-leak (program run .1 .memory) in (l .0, (l .1, λ t. absurd (false≢true (sym e ∙ t))))
-
 -- the lines so far are no longer than the whole
-pub text-short : {run : List ℕ} {p : Advance} {lines : List ℕ} {b : Buffers} {F : List ℕ} (h : Performing run p lines b F) (leak : ℕ) → (p .refused ≡ true → leak ≡ h .leak)
-    → length lines ≤ length (output leak run)
+pub text-short : {run : List ℕ} {p : Advance} {lines : List ℕ} {b : Buffers} {F : List ℕ} → Performing run p lines b F → length lines ≤ length (output run)
 unfolding output
-text-short {run} {p} {lines} h leak same =
-    let left = answerLines leak (p .index) (leftAt (h .state) run p .0) in
-    let whole = answerLines leak 0 (program run .0) in
+text-short {run} {p} {lines} h =
+    let left = answerLines (p .index) (leftAt (h .state) run p .0) in
+    let whole = answerLines 0 (program run .0) in
     omega (
       arith,
-      ap length (h .text leak same),
+      ap length (h .text),
       length-append lines left,
       length-append whole (memoryLines 0 (program run .1 .memory)),
     )
@@ -272,11 +234,11 @@ memory-inside {m} h {out} {at} w room =
     omega (arith, w .place, ap length (w .contents) ∙ write-length at (memoryLines 0 m) out, memory-length m (h .valid))
 
 -- and with the lines of the memory it is the whole
-pub text-whole : {run lines : List ℕ} {s : State} {leak : ℕ} → Performed run lines s leak → lines ++ memoryLines 0 (s .memory) ≡ output leak run
+pub text-whole : {run lines : List ℕ} {s : State} → Performed run lines s → IsOutput run (lines ++ memoryLines 0 (s .memory))
 unfolding output
-text-whole {run} {lines} {s} {leak} k =
+text-whole {run} {lines} {s} k =
     ap (λ (t : List ℕ). t ++ memoryLines 0 (s .memory)) (k .text)
-    ∙ ap (λ (o : State). answerLines leak 0 (program run .0) ++ memoryLines 0 (o .memory)) (k .final)
+    ∙ ap (λ (o : State). answerLines 0 (program run .0) ++ memoryLines 0 (o .memory)) (k .final)
 
 -- ---- the tests before the memory's lines
 pub not-over : (refused : Bool) (from bytes : ℕ) (room : Bool) → (not refused && ltb from bytes) || not room ≡ false
@@ -318,9 +280,5 @@ goes p bytes room e =
 
 -- of the buffer as it was only the length matters
 pub judged-same : {run before before′ : List ℕ} (r : Judged) {after : List ℕ} → length before ≡ length before′ → JudgedAs run before r after → JudgedAs run before′ r after
-judged-same (Text n) e k = record { leak = k .leak; right = k .right; judged = k .judged }
-judged-same TooLong e k = record { leak = k .leak; right = k .right; judged = omega (arith, k .judged) }
-
--- the text is one that the definition allows
-pub is-output : {run before after : List ℕ} (n : ℕ) → JudgedAs run before (Text n) after → IsOutput run (take n after)
-is-output n k = record { leak = k .leak; isALeak = k .right; isPrinted = k .judged .text }
+judged-same (Text n) e k = record { judged = k .judged }
+judged-same TooLong e k = record { judged = omega (arith, k .judged) }

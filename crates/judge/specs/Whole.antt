@@ -1,7 +1,7 @@
 -- A whole run, and the text of its verdict.
 use Prim.Native.Nat.{ℕ, _+_, _≤_, _<_}
 use mathlib.Core.Path.{_≡_}
-use mathlib.Core.Bool.{Bool, true, not, _&&_}
+use mathlib.Core.Bool.{Bool, not, _&&_}
 use mathlib.Core.List.{List, [], _++_}
 use lib.Dec.{ltb, leb}
 use lib.ListN.{length, take, drop}
@@ -9,14 +9,14 @@ use Rattle.definition.specs.Notation.{if_then_else_}
 use Rattle.definition.specs.Memory.{Answer}
 use Rattle.definition.specs.Frame.{State}
 use Rattle.definition.specs.Run.{program}
-use Rattle.definition.specs.Output.{answerLines, output}
+use Rattle.definition.specs.Output.{answerLines, output, IsOutput}
 use Rattle.tables.specs.Encoding.{Buffers}
 use Rattle.state.specs.State.{HoldsState}
 use Rattle.stream.specs.Stream.{programFrom}
 use Rattle.judge.specs.declared.Advance.{Advance}
 use Rattle.judge.specs.declared.Judged.{Judged}
 use Rattle.judge.specs.declared.Judged.the-variants.{Text, TooLong}
-use Rattle.judge.specs.Turn.{lineRoom, NamesLeak}
+use Rattle.judge.specs.Turn.{lineRoom}
 
 abbrev pub goesOn : Advance → ℕ → ℕ → Bool
 goesOn p bytes room = (not (p .refused) && ltb (p .from) bytes) && leb (p .at + lineRoom) room
@@ -29,10 +29,7 @@ leftAt s run p = if p .refused then ([], s) else programFrom s (drop (p .from) r
 pub record Performing (run : List ℕ) (p : Advance) (lines : List ℕ) (b : Buffers) (F : List ℕ) : Type 0 where
   pub state : State
   pub holds : HoldsState state b F
-  pub leak : ℕ
-  pub right : NamesLeak (state .memory) leak
-  pub text : (l : ℕ) → (p .refused ≡ true → l ≡ leak)
-      → lines ++ answerLines l (p .index) (leftAt state run p .0) ≡ answerLines l 0 (program run .0)
+  pub text : lines ++ answerLines (p .index) (leftAt state run p .0) ≡ answerLines 0 (program run .0)
   pub final : leftAt state run p .1 ≡ program run .1
   pub within : p .from ≤ length run
   pub counted : p .index ≤ p .from
@@ -46,17 +43,15 @@ pub record PerformingIn (run : List ℕ) (p : Advance) (out : List ℕ) (b : Buf
 abbrev pub memoryRoom : ℕ
 memoryRoom = 0x28000
 
--- the first n bytes are what the program prints of the run, if 25 names `leak`
-pub record TextOf (run : List ℕ) (leak n : ℕ) (after : List ℕ) : Type 0 where
+-- the first n bytes are what the program prints of the run
+pub record TextOf (run : List ℕ) (n : ℕ) (after : List ℕ) : Type 0 where
   pub fits : n ≤ length after
-  pub text : take n after ≡ output leak run
+  pub text : IsOutput run (take n after)
 
-abbrev pub JudgedWith : List ℕ → ℕ → List ℕ → Judged → List ℕ → Type 0
-JudgedWith run leak before (Text n) after = TextOf run leak n after
-JudgedWith run leak before TooLong after = length before < length (output leak run) + memoryRoom
+-- the text is there, or the buffer has no room for it and the memory's lines
+abbrev pub JudgedWith : List ℕ → List ℕ → Judged → List ℕ → Type 0
+JudgedWith run before (Text n) after = TextOf run n after
+JudgedWith run before TooLong after = length before < length (output run) + memoryRoom
 
--- 25 names a live heap allocation of the memory that is left, if there is one: the text is one that the definition allows (`IsOutput`)
 pub record JudgedAs (run before : List ℕ) (r : Judged) (after : List ℕ) : Type 0 where
-  pub leak : ℕ
-  pub right : NamesLeak (program run .1 .memory) leak
-  pub judged : JudgedWith run leak before r after
+  pub judged : JudgedWith run before r after

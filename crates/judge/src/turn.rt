@@ -6,18 +6,16 @@ use stream::Cut;
 ghost use Prim.Native.Nat.{_+_, _-_, _*_, _≤_, _<_, _^_, min};
 ghost use mathlib.Core.Path.{_≡_};
 ghost use lib.ListN.{length, drop};
-ghost use Rattle.definition.specs.Memory.{Memory};
 ghost use Rattle.definition.specs.Frame.{State};
 ghost use Rattle.definition.specs.Run.{wordsOf};
 ghost use Rattle.answer.specs.Answer.{answerOf};
-ghost use Rattle.tables.specs.Held.{buffers, Records};
+ghost use Rattle.tables.specs.Held.{buffers};
 ghost use Rattle.state.specs.State.{HoldsState};
 ghost use Rattle.definition.specs.Output.{answerLine};
 ghost use Rattle.report.specs.Written.{WrittenInside};
-ghost use Rattle.report.specs.Answer.{named};
 ghost use Rattle.stream.specs.Stream.{HeadOf, CutOf};
 ghost use Rattle.step.specs.Steps.{Stepped};
-ghost use Rattle.judge.specs.Turn.{lineRoom, Shown, LineWritten, Turned, Taken};
+ghost use Rattle.judge.specs.Turn.{lineRoom, LineWritten, Turned, Taken};
 
 // Where the next line goes, and whether the request was refused.
 struct Line {
@@ -25,49 +23,22 @@ struct Line {
     refused: bool,
 }
 
-// 25 with the allocation that the leak check names. `step` promises that it is 25, and no name.
-fn shown(allocs: &[u64], answer: Answer) -> Answer
-    requires { ⌜ ((m : Memory) × Records m (now allocs)) ⌝ }
-    ensures { λ r. ⌜ ((m : Memory) → Records m (now (allocs .entry)) → Shown m answer r) ⌝ }
-{
-    if answer.refusal() != 25 {
-        return answer;
-    }
-    let check = bounds::leak_check(allocs);
-    match check {
-        Answer::Leak(a) => Answer::Leak(a),
-        Answer::Refused(_) => Answer::Leak(0),
-        Answer::Accepted => Answer::Leak(0),
-        Answer::Pointer(_) => Answer::Leak(0),
-        Answer::Words { start: _, len: _ } => Answer::Leak(0),
-    }
-}
-
 fn put_line(out: &mut [u8], at: usize, index: u64, answer: Answer, words: &[u32]) -> usize
     requires { ⌜ (at + lineRoom ≤ length (now out)) × (length (now words) ≤ 4096) ⌝ }
-    ensures { λ r. ⌜ WrittenInside (now (out .entry)) at (answerLine index (named answer) (answerOf answer (now (words .entry)))) (now (out .exit)) r ⌝ }
+    ensures { λ r. ⌜ WrittenInside (now (out .entry)) at (answerLine index (answerOf answer (now (words .entry)))) (now (out .exit)) r ⌝ }
 {
     let loaded = answer::loaded_words(answer, words);
     report::answers::answer_line(out, at, index, answer, loaded)
 }
 
-fn write_answer(
-    out: &mut [u8],
-    at: usize,
-    index: u64,
-    answer: Answer,
-    allocs: &[u64],
-    words: &[u32],
-) -> Line
-    requires { ⌜ ((m : Memory) × Records m (now allocs)) ⌝ }
+fn write_answer(out: &mut [u8], at: usize, index: u64, answer: Answer, words: &[u32]) -> Line
     requires { ⌜ (at + lineRoom ≤ length (now out)) × (length (now words) ≤ 4096) ⌝ }
-    ensures { λ r. ⌜ ((m : Memory) → Records m (now (allocs .entry)) → LineWritten m index (answerOf answer (now (words .entry))) (now (out .entry)) at (now (out .exit)) (r .at) (r .refused)) ⌝ }
+    ensures { λ r. ⌜ LineWritten index (answerOf answer (now (words .entry))) (now (out .entry)) at (now (out .exit)) (r .at) (r .refused) ⌝ }
 {
-    let named = shown(allocs, answer);
-    let end = put_line(out, at, index, named, words);
+    let end = put_line(out, at, index, answer, words);
     Line {
         at: end,
-        refused: named.refusal() != 0,
+        refused: answer.refusal() != 0,
     }
 }
 
@@ -137,7 +108,7 @@ fn answer_bytes(
         q,
         request,
     );
-    write_answer(out, at, index, answer, allocs, words)
+    write_answer(out, at, index, answer, words)
 }
 
 // Where a request of so many bytes that starts at `from` ends: behind them, or with the run.

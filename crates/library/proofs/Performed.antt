@@ -3,24 +3,22 @@ use Prim.Native.Nat.{ℕ}
 use mathlib.Core.Path.{_≡_, refl}
 use mathlib.Core.Bool.{true, false}
 use mathlib.Core.List.{List}
-use Rattle.definition.specs.Memory.{ThinPointer, performAccess, allocate, deallocate, dereferenceable}
+use Rattle.definition.specs.Memory.{ThinPointer, performAccess, allocate, deallocate, dereferenceable, leakCheck}
 use Rattle.answer.specs.Answer.{replyTo}
 use Rattle.answer.specs.Answer.Gives.{Nothing, ThePointer}
 use Rattle.answer.specs.declared.Answer.{Answer}
-use Rattle.answer.specs.declared.Answer.the-variants.{Refused}
 use Rattle.tables.specs.Encoding.{Buffers}
 use Rattle.tables.specs.Decoding.{view, allocationKind}
 use Rattle.tables.specs.Held.{buffers}
 use Rattle.wellformed.specs.WellFormed.{wellFormed}
 use Rattle.wellformed.proofs.Sound.{sound}
-use Rattle.bounds.specs.Bounds.{leakReply}
 use Rattle.memory.specs.Allocate.{CanAllocate, Allocated}
 use Rattle.memory.specs.Access.{loadOf, storeOf, Loaded, Stored}
 use Rattle.memory.specs.Deallocate.{Deallocated}
 use Rattle.memory.proofs.Allocated.{can-allocate, allocate-encode}
 use Rattle.memory.proofs.Afterwards.{load-encode, store-encode, deallocate-encode}
 use Rattle.library.specs.Fields.{badExponent, badAllocation, badStore}
-use Rattle.library.specs.Entry.{Served, givenBy, leakServed}
+use Rattle.library.specs.Entry.{Served, givenBy}
 use Rattle.library.proofs.Served.{performed, answered}
 use Rattle.library.proofs.Fine.{allocation-kind, allocation-exponent}
 
@@ -30,14 +28,9 @@ module _ (p : ThinPointer) (back ahead : ℕ) (b : Buffers) (formed : wellFormed
   unfolding dereferenceable
   dereferenced e = answered Nothing false (dereferenceable p back ahead) b formed refl e refl
 
-module _ (b : Buffers) where
-  pub leak-not-formed : wellFormed b ≡ false → Refused 1 ≡ leakServed b
-  unfolding leakServed
-  leak-not-formed e = rw e
-
-  pub leak-answered : wellFormed b ≡ true → {r : Answer} → r ≡ leakReply (view b) → r ≡ leakServed b
-  unfolding leakServed
-  leak-answered formed e = rw formed e
+pub leaks-checked : (b : Buffers) → wellFormed b ≡ true → {r : Answer} → r ≡ replyTo Nothing (leakCheck (view b) .0) → Served Nothing false leakCheck b r b
+unfolding leakCheck
+leaks-checked b formed e = answered Nothing false leakCheck b formed refl e refl
 
 -- ---- an allocation
 module _ (b : Buffers) (formed : wellFormed b ≡ true) (kind exponent : ℕ) (fine : badAllocation kind exponent ≡ false) where

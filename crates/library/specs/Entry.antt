@@ -12,7 +12,6 @@ use Rattle.answer.specs.declared.Answer.the-variants.{Refused}
 use Rattle.tables.specs.Encoding.{Buffers, encode}
 use Rattle.tables.specs.Decoding.{view}
 use Rattle.wellformed.specs.WellFormed.{wellFormed}
-use Rattle.bounds.specs.Bounds.{leakReply}
 use Rattle.memory.specs.Access.{wordsGiven}
 
 -- an outcome, with its memory as the five buffers hold it
@@ -35,7 +34,3 @@ givenBy x b = wordsGiven x (view b)
 -- the answer where a field falls under 2, if 1 was passed
 unfoldable pub malformedAnswer : Buffers → Answer
 malformedAnswer b = if wellFormed b then Refused malformed else Refused notWellFormed
-
--- what a leak check answers: 1, or the lowest leak, or none. It changes nothing
-unfoldable pub leakServed : Buffers → Answer
-leakServed b = if wellFormed b then leakReply (view b) else Refused notWellFormed

@@ -1,8 +1,10 @@
 // Kind 9: it changes nothing.
 use answer::Answer;
-ghost use mathlib.Core.Path.{_≡_};
+ghost use mathlib.Core.Bool.{false};
+ghost use Rattle.definition.specs.Memory.{leakCheck};
+ghost use Rattle.answer.specs.Answer.Gives.{Nothing};
 ghost use Rattle.tables.specs.Held.{buffers};
-ghost use Rattle.library.specs.Entry.{leakServed};
+ghost use Rattle.library.specs.Entry.{Served};
 
 // Check if there are any memory leaks; the answer names the lowest.
 pub fn leak_check(
@@ -12,7 +14,10 @@ pub fn leak_check(
     words: &[u32],
     codes: &[u8],
 ) -> Answer
-    ensures { λ r. ⌜ r ≡ leakServed (buffers (now (allocs .entry)) (now (parents .entry)) (now (protectors .entry)) (now (words .entry)) (now (codes .entry))) ⌝ }
+    ensures { λ r. ⌜ Served Nothing false leakCheck
+        (buffers (now (allocs .entry)) (now (parents .entry)) (now (protectors .entry)) (now (words .entry)) (now (codes .entry)))
+        r
+        (buffers (now (allocs .entry)) (now (parents .entry)) (now (protectors .entry)) (now (words .entry)) (now (codes .entry))) ⌝ }
 {
     if !wellformed::well_formed(allocs, parents, protectors, words, codes) {
         return Answer::Refused(1);

@@ -6,6 +6,7 @@ use mathlib.Core.Option.{none}
 use mathlib.Core.List.{List, [], _∷_}
 use denote.Enum.Declared.{tagOf}
 use types.Run.{OneOf, miss}
+use Rattle.definition.specs.Memory.{namedPointer}
 use Rattle.definition.specs.Request.{addsNoNode}
 use Rattle.answer.specs.Answer.{answerOf}
 use Rattle.answer.specs.declared.Answer.{Answer}
@@ -42,7 +43,7 @@ pub nothing-entered : (isProtected : Bool) → enteredNode isProtected none ≡ 
 nothing-entered true = refl
 nothing-entered false = refl
 
-pub no-pointer : (isProtected : Bool) (words : List ℕ) (a : Answer) → OneOf notPointer (tagOf the-type a) → enteredNode isProtected (answerOf a words .pointer) ≡ none
+pub no-pointer : (isProtected : Bool) (words : List ℕ) (a : Answer) → OneOf notPointer (tagOf the-type a) → enteredNode isProtected (namedPointer (answerOf a words .names)) ≡ none
 no-pointer isProtected words (Refused n) h = nothing-entered isProtected
 no-pointer isProtected words (Leak n) h = nothing-entered isProtected
 no-pointer isProtected words Accepted h = nothing-entered isProtected

@@ -10,7 +10,7 @@ use lib.Dec.{eqb, leb}
 use lib.ListN.{length, getD, take, set, length-map, length-append}
 use lib.Seq.{length-take-le}
 use Rattle.definition.specs.Notation.{if_then_else_, writeAt}
-use Rattle.definition.specs.Memory.{Memory}
+use Rattle.definition.specs.Memory.{Memory, namedPointer}
 use Rattle.definition.specs.Memory as definition
 use Rattle.definition.specs.Frame.{State, Frame, entries, frameAt}
 use Rattle.definition.specs.Frame.Frame.{Closed, Open}
@@ -189,11 +189,11 @@ module _ (settings : RetagSettings) (p : definition.ThinPointer) (layout : List 
           omega (arith, all-first, length-append (firstOf count places) (record { allocation = allocation; node = node } ∷ []))
 
       module _ {answer : Answer} {A P R C : List ℕ} (k : Performed outcome answer A P R C) (node : Provenance)
-          (entering : (words : List ℕ) → provenanceOf node ≡ enteredNode (protects settings) (answerOf answer words .pointer)) where
+          (entering : (words : List ℕ) → provenanceOf node ≡ enteredNode (protects settings) (namedPointer (answerOf answer words .names))) where
         left-frames : framesEntered (provenanceOf node) s ≡ outcome .1 .frames
         left-frames =
             ap (λ (o : Option definition.Provenance). framesEntered o s) (entering [])
-            ∙ ap (λ (a : definition.Answer). framesEntered (enteredNode (protects settings) (a .pointer)) s) (k .answers [])
+            ∙ ap (λ (a : definition.Answer). framesEntered (enteredNode (protects settings) (namedPointer (a .names))) s) (k .answers [])
             ∙ sym (perform-frames settings p layout s)
 
         left-memory : buffers A P R (b .words) C ≡ encode (outcome .1 .memory)
@@ -219,7 +219,7 @@ module _ (settings : RetagSettings) (p : definition.ThinPointer) (layout : List 
     pub retagged : badFields settings layout ≡ false → {answer : Answer} {A P R C : List ℕ}
         → ((s : State) → HoldsMarked (s .memory) (b .allocs) (b .parents) (b .protectors) (b .codes) → count ≡ length (entries (frameAt s 0))
         → Performed (retagOf settings p layout s) answer A P R C)
-        → (node : Provenance) → ((words : List ℕ) → provenanceOf node ≡ enteredNode (protects settings) (answerOf answer words .pointer))
+        → (node : Provenance) → ((words : List ℕ) → provenanceOf node ≡ enteredNode (protects settings) (namedPointer (answerOf answer words .names)))
         → {r : RetagOutcome} → r ≡ outcomeOf answer node count len → Promised r (buffers A P R (b .words) C)
     retagged good {answer} {A} {P} {R} {C} f node entering {r} is =
         subst⁻¹ (λ (r : RetagOutcome). Promised r (buffers A P R (b .words) C)) is

@@ -8,7 +8,7 @@ use lib.ListN.{set}
 use Rattle.definition.specs.Notation.{if_then_else_}
 use Rattle.definition.specs.Permission.{isYes}
 use Rattle.definition.specs.Layout.{FreezeMask, freezeMask}
-use Rattle.definition.specs.Memory.{Provenance, ThinPointer, Answer, refusedWith}
+use Rattle.definition.specs.Memory.{Provenance, ThinPointer, Answer, namedPointer, refusedWith}
 use Rattle.definition.specs.Frame.{Frame, entries, State, frameAt}
 use Rattle.definition.specs.Frame.Frame.{Open}
 use Rattle.definition.specs.Retag.{ReborrowSettings, retagWithoutNode, retag}
@@ -79,15 +79,15 @@ module _ (settings : RetagSettings) (p : ThinPointer) (layout : List ℕ) (s : S
       (λ e. ap (λ (x : State). held 4096 wordsOf (x .memory)) (without-node-same p s)) refl
       (λ e mask. words-kept (settingsOf (fieldsOf settings) mask) 0 p s)
 
-  pub perform-frames : retagOf settings p layout s .1 .frames ≡ framesEntered (enteredNode (protects settings) (retagOf settings p layout s .0 .pointer)) s
+  pub perform-frames : retagOf settings p layout s .1 .frames ≡ framesEntered (enteredNode (protects settings) (namedPointer (retagOf settings p layout s .0 .names))) s
   perform-frames =
-      by-cases (λ (o : Answer × State). o .1 .frames ≡ framesEntered (enteredNode (protects settings) (o .0 .pointer)) s)
+      by-cases (λ (o : Answer × State). o .1 .frames ≡ framesEntered (enteredNode (protects settings) (namedPointer (o .0 .names))) s)
       (λ e.
       ap (λ (x : State). x .frames) (without-node-same p s)
-      ∙ ap (λ (t : Bool). framesEntered (enteredNode (not t && functionEntry (fieldsOf settings)) (retagWithoutNode p s .0 .pointer)) s) (sym e))
+      ∙ ap (λ (t : Bool). framesEntered (enteredNode (not t && functionEntry (fieldsOf settings)) (namedPointer (retagWithoutNode p s .0 .names))) s) (sym e))
       (ap (λ (o : Option Provenance). framesEntered o s) (sym (nothing-entered (protects settings))))
       (λ e mask.
       let w : ReborrowSettings = settingsOf (fieldsOf settings) mask in
-      let given : Option Provenance = retag w 0 p s .0 .pointer in
+      let given : Option Provenance = namedPointer (retag w 0 p s .0 .names) in
       retag-frames w 0 p s ∙ frames-with w (functionEntry (fieldsOf settings)) (protects-entry settings) given s
       ∙ ap (λ (t : Bool). framesEntered (enteredNode (not t && functionEntry (fieldsOf settings)) given) s) (sym e))

@@ -12,7 +12,7 @@ ghost use mathlib.Core.List.{List};
 ghost use Prim.Native.Nat.{ℕ, _≤_};
 ghost use lib.ListN.{length, set};
 ghost use Rattle.definition.specs.Layout.{FreezeMask};
-ghost use Rattle.definition.specs.Memory.{Memory};
+ghost use Rattle.definition.specs.Memory.{Memory, namedPointer};
 ghost use Rattle.definition.specs.Frame.{State, frameAt};
 ghost use Rattle.definition.specs.Frame as frames;
 ghost use Rattle.definition.specs.Request as definition;
@@ -131,7 +131,7 @@ fn retag_held(
 // ---- the frame's list
 // A protected node is entered: that of the pointer that is given.
 fn entered_node(answer: Answer, settings: RetagSettings) -> Provenance
-    ensures { λ r. ⌜ ((words : List ℕ) → provenanceOf r ≡ enteredNode (protects settings) (answerOf answer words .pointer)) ⌝ }
+    ensures { λ r. ⌜ ((words : List ℕ) → provenanceOf r ≡ enteredNode (protects settings) (namedPointer (answerOf answer words .names))) ⌝ }
 {
     if adds_no_node(settings) | !settings.function_entry {
         return Provenance::None;

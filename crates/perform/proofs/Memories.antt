@@ -16,7 +16,6 @@ use Rattle.pointer.specs.Pointer.{back, ahead}
 use Rattle.tables.specs.Encoding.{Buffers, encode}
 use Rattle.tables.specs.Held.{buffers}
 use Rattle.tables.proofs.ReadBack.{holds-words}
-use Rattle.bounds.proofs.Leak.{LeakAnswer}
 use Rattle.memory.specs.Allocate.{CanAllocate, Allocated}
 use Rattle.memory.specs.Access.{loadOf, storeOf, Loaded, Stored}
 use Rattle.memory.specs.Deallocate.{Deallocated}
@@ -101,9 +100,9 @@ module _ {s : State} {q : Request} {ws A P R W C : List ℕ} (h : Asked s q ws (
     signed-left e len is-len f =
         left e (λ i. inMemory s (dereferenceable (sym is-pointer i) (sym (is-len .0) i) (sym (is-len .1) i) (s .memory))) f (h .holds .equal)
 
-  pub leak-left : q .kind ≡ LeakCheck → {r : Answer} → LeakAnswer (s .memory) r → LeftMemory (outcomeOf s q ws) r (buffers A P R W C)
+  pub leak-left : q .kind ≡ LeakCheck → {r : Answer} → answerOf r W ≡ leakCheck (s .memory) .0 → LeftMemory (outcomeOf s q ws) r (buffers A P R W C)
   unfolding perform leakCheck
-  leak-left e a = left e refl (a .answer W) (h .holds .equal)
+  leak-left e f = left e refl f (h .holds .equal)
 
   -- ---- those that are not asked
   pub not-alone : {k : Kind} → q .kind ≡ k → isInMemory k ≡ false → ⊥

@@ -10,7 +10,7 @@ use lib.Seq.{getD-set-same}
 use Rattle.definition.specs.Notation.{if_then_else_}
 use Rattle.definition.specs.Permission.{Protected, isYes}
 use Rattle.definition.specs.Layout.{FreezeMask, freezeMask}
-use Rattle.definition.specs.Memory.{Provenance, ThinPointer, wasMade}
+use Rattle.definition.specs.Memory.{Provenance, ThinPointer, namedPointer, wasMade}
 use Rattle.definition.specs.Memory as definition
 use Rattle.definition.specs.Frame.{Frame, State}
 use Rattle.definition.specs.Frame.Frame.{Closed, Open}
@@ -59,15 +59,15 @@ module _ {s : State} {A P R C F : List ℕ} (h : HoldsTreesAndFrames s A P R C F
       valid-after s (retag w f p s .1)
       (retag-kept w (settings-agree (safePointer (settings .pointer)) (protector (settings .protected)) mask (settings .freeze)) f p s (h .valid .memory)) (h .valid)
 
-  frames-after : retag w f p s .1 .frames ≡ entered (w .protected) f (retag w f p s .0 .pointer) (s .frames)
+  frames-after : retag w f p s .1 .frames ≡ entered (w .protected) f (namedPointer (retag w f p s .0 .names)) (s .frames)
   frames-after = retag-frames w f p s
 
   module _ {r : Answer} {A′ P′ R′ C′ : List ℕ} (k : Retagged w f p s r A′ P′ R′ C′) where
-    given : answerOf r [] .pointer ≡ retag w f p s .0 .pointer
-    given = ap (λ (a : definition.Answer). a .pointer) (k .answers [])
+    given : namedPointer (answerOf r [] .names) ≡ namedPointer (retag w f p s .0 .names)
+    given = ap (λ (a : definition.Answer). namedPointer (a .names)) (k .answers [])
 
     -- an accepted one's frame afterwards
-    module _ (yes : isYes (w .protected) ≡ true) (child : Provenance) (e : answerOf r [] .pointer ≡ some child) where
+    module _ (yes : isYes (w .protected) ≡ true) (child : Provenance) (e : namedPointer (answerOf r [] .names) ≡ some child) where
       frame-after : getD (retag w f p s .1 .frames) f Closed ≡ Open (entriesAt (s .frames) f ++ (child ∷ []))
       frame-after =
           ap (λ (fs : List Frame). getD fs f Closed)
@@ -87,10 +87,10 @@ module _ {s : State} {A P R C F : List ℕ} (h : HoldsTreesAndFrames s A P R C F
           made-fits (retag w f p s .1 .memory) child (after-valid .memory)
           (all-last (λ e. wasMade (retag w f p s .1 .memory) e ≡ true) (entriesAt (s .frames) f) child (valid-frame .made))
 
-    pub can-enter : CanEnter (protector (settings .protected)) f (answerOf r [] .pointer) (s .frames) F
+    pub can-enter : CanEnter (protector (settings .protected)) f (namedPointer (answerOf r [] .names)) (s .frames) F
     can-enter = record { holds = frames-held h; room = has-room; small = fits }
 
-    pub left-entered : {F′ : List ℕ} → F′ ≡ framesHeld (entered (protector (settings .protected)) f (answerOf r [] .pointer) (s .frames)) → LeftTrees (retag w f p s) r A′ P′ R′ C′ F′
+    pub left-entered : {F′ : List ℕ} → F′ ≡ framesHeld (entered (protector (settings .protected)) f (namedPointer (answerOf r [] .names)) (s .frames)) → LeftTrees (retag w f p s) r A′ P′ R′ C′ F′
     left-entered e = record {
       answers = k .answers;
       trees = k .trees;

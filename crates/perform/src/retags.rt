@@ -12,6 +12,7 @@ ghost use mathlib.Core.Option.{some};
 ghost use mathlib.Core.List.{List, []};
 ghost use lib.ListN.{length, take};
 ghost use Rattle.definition.specs.Layout.{FreezeMask, freezeMask};
+ghost use Rattle.definition.specs.Memory.{namedPointer};
 ghost use Rattle.definition.specs.Frame.{Frame, State};
 ghost use Rattle.definition.specs.Request.{pointer, frameNumber};
 ghost use Rattle.definition.specs.Request as definition;
@@ -71,9 +72,9 @@ fn enter_pointer(frames: &mut [u32], f: usize, protected: Protected, provenance:
 
 // A retag that is refused gives none.
 fn enter(frames: &mut [u32], f: usize, protected: Protected, answer: Answer)
-    requires { ⌜ ((fs : List Frame) × CanEnter (protector protected) f (answerOf answer [] .pointer) fs (now frames)) ⌝ }
+    requires { ⌜ ((fs : List Frame) × CanEnter (protector protected) f (namedPointer (answerOf answer [] .names)) fs (now frames)) ⌝ }
     requires { ⌜ f < 32 ⌝ }
-    ensures { λ _. ⌜ ((fs : List Frame) → HoldsFrames fs (now (frames .entry)) → now (frames .exit) ≡ framesHeld (entered (protector protected) f (answerOf answer [] .pointer) fs)) ⌝ }
+    ensures { λ _. ⌜ ((fs : List Frame) → HoldsFrames fs (now (frames .entry)) → now (frames .exit) ≡ framesHeld (entered (protector protected) f (namedPointer (answerOf answer [] .names)) fs)) ⌝ }
 {
     match answer {
         Answer::Pointer(provenance) => enter_pointer(frames, f, protected, provenance),

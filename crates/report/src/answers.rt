@@ -6,13 +6,13 @@ use crate::word::put_words;
 use answer::Answer;
 use pointer::Provenance;
 ghost use mathlib.Core.List.{_∷_, []};
-ghost use mathlib.Core.Option.{none};
 ghost use Prim.Native.Nat.{_+_, _*_, _≤_};
 ghost use lib.ListN.{length};
+ghost use Rattle.definition.specs.Memory.Named.{Pointer};
 ghost use Rattle.definition.specs.Output.{decimal, pointed, given, ended, answerLine};
 ghost use Rattle.pointer.specs.Pointer.{provenanceOf};
 ghost use Rattle.report.specs.Written.{WrittenInside};
-ghost use Rattle.report.specs.Answer.{named, giving};
+ghost use Rattle.report.specs.Answer.{giving};
 
 // The last field is the allocation that 25 names, and the line's end.
 fn put_leak(out: &mut [u8], at: usize, a: u64) -> usize
@@ -26,7 +26,7 @@ fn put_leak(out: &mut [u8], at: usize, a: u64) -> usize
 // It is a pointer. "A pointer without provenance prints `-`."
 fn put_pointer(out: &mut [u8], at: usize, pointer: Provenance, loaded: &[u32]) -> usize
     requires { ⌜ at + 43 + 9 * length (now loaded) ≤ length (now out) ⌝ }
-    ensures { λ r. ⌜ WrittenInside (now (out .entry)) at (ended (given none (provenanceOf pointer) (now (loaded .entry)))) (now (out .exit)) r ⌝ }
+    ensures { λ r. ⌜ WrittenInside (now (out .entry)) at (ended (given (Pointer (provenanceOf pointer)) (now (loaded .entry)))) (now (out .exit)) r ⌝ }
 {
     match pointer {
         Provenance::None => put_words(out, at, loaded),
@@ -52,7 +52,7 @@ fn put_provenance(out: &mut [u8], at: usize, allocation: u64, node: u64) -> usiz
 
 fn put_given(out: &mut [u8], at: usize, answer: Answer, loaded: &[u32]) -> usize
     requires { ⌜ at + 43 + 9 * length (now loaded) ≤ length (now out) ⌝ }
-    ensures { λ r. ⌜ WrittenInside (now (out .entry)) at (ended (given (named answer) (giving answer (now (loaded .entry)) .pointer) (now (loaded .entry)))) (now (out .exit)) r ⌝ }
+    ensures { λ r. ⌜ WrittenInside (now (out .entry)) at (ended (given (giving answer (now (loaded .entry)) .names) (now (loaded .entry)))) (now (out .exit)) r ⌝ }
 {
     match answer {
         Answer::Refused(_) => put_words(out, at, loaded),
@@ -67,7 +67,7 @@ fn put_given(out: &mut [u8], at: usize, answer: Answer, loaded: &[u32]) -> usize
 // `load_view` hands out: none but for a load.
 pub fn answer_line(out: &mut [u8], at: usize, index: u64, answer: Answer, loaded: &[u32]) -> usize
     requires { ⌜ at + 128 + 9 * length (now loaded) ≤ length (now out) ⌝ }
-    ensures { λ r. ⌜ WrittenInside (now (out .entry)) at (answerLine index (named answer) (giving answer (now (loaded .entry)))) (now (out .exit)) r ⌝ }
+    ensures { λ r. ⌜ WrittenInside (now (out .entry)) at (answerLine index (giving answer (now (loaded .entry)))) (now (out .exit)) r ⌝ }
 {
     let refusal = answer.refusal();
     let p = put_decimal(out, at, index);

@@ -11,7 +11,7 @@ use lib.ListN.{length}
 use Rattle.definition.specs.Notation.{if_then_else_, _when_, mutateAt}
 use Rattle.definition.specs.Refusal.{neverMade}
 use Rattle.definition.specs.Layout.{FreezeMask}
-use Rattle.definition.specs.Memory.{Provenance, ThinPointer, hasNone, allocationOf, Allocation, allocationAt, Answer, refusedWith, givesPointer, unlessRefused, namesNeverMade, checkPtr}
+use Rattle.definition.specs.Memory.{Provenance, ThinPointer, hasNone, allocationOf, Allocation, allocationAt, Answer, namedPointer, refusedWith, givesPointer, unlessRefused, namesNeverMade, checkPtr}
 use Rattle.definition.specs.Frame.{State}
 use Rattle.definition.specs.Retag.{ReborrowSettings, reborrowRefusal, afterReborrowIn, acceptReborrow, reborrow, retagWithoutNode, retag}
 use Rattle.definition.proofs.Alls.{if-holds, outcome-holds}
@@ -87,12 +87,12 @@ module _ (w : ReborrowSettings) (frame : ℕ) (p : ThinPointer) (s : State) wher
 
   -- ---- the frames: what is given is entered, if it has provenance
   unchanged : (o : Option Provenance) (r : ℕ) → hasNone o ≡ true
-      → unlessRefused r s (givesPointer o, s) .1 .frames ≡ entered (w .protected) frame (unlessRefused r s (givesPointer o, s) .0 .pointer) (s .frames)
+      → unlessRefused r s (givesPointer o, s) .1 .frames ≡ entered (w .protected) frame (namedPointer (unlessRefused r s (givesPointer o, s) .0 .names)) (s .frames)
   unchanged none zero e = refl
   unchanged none (suc r) e = refl
   unchanged (some t) r e = absurd (false≢true e)
 
-  is-entered : (r : ℕ) → unlessRefused r s (acceptReborrow w frame p s) .1 .frames ≡ entered (w .protected) frame (unlessRefused r s (acceptReborrow w frame p s) .0 .pointer) (s .frames)
+  is-entered : (r : ℕ) → unlessRefused r s (acceptReborrow w frame p s) .1 .frames ≡ entered (w .protected) frame (namedPointer (unlessRefused r s (acceptReborrow w frame p s) .0 .names)) (s .frames)
   unfolding acceptReborrow
   is-entered zero = refl
   is-entered (suc r) = refl
@@ -102,12 +102,12 @@ module _ (w : ReborrowSettings) (frame : ℕ) (p : ThinPointer) (s : State) wher
       if t then unlessRefused (neverMade when namesNeverMade (s .memory) (p .provenance)) s (givesPointer (p .provenance), s)
       else unlessRefused (reborrowRefusal w frame p s) s (acceptReborrow w frame p s)
 
-  by-outcome : (isNone isZero : Bool) → hasNone (p .provenance) ≡ isNone → outcome (isNone && isZero) .1 .frames ≡ entered (w .protected) frame (outcome (isNone && isZero) .0 .pointer) (s .frames)
+  by-outcome : (isNone isZero : Bool) → hasNone (p .provenance) ≡ isNone → outcome (isNone && isZero) .1 .frames ≡ entered (w .protected) frame (namedPointer (outcome (isNone && isZero) .0 .names)) (s .frames)
   by-outcome true true e = unchanged (p .provenance) (neverMade when namesNeverMade (s .memory) (p .provenance)) e
   by-outcome true false e = is-entered (reborrowRefusal w frame p s)
   by-outcome false isZero e = is-entered (reborrowRefusal w frame p s)
 
-  pub retag-frames : retag w frame p s .1 .frames ≡ entered (w .protected) frame (retag w frame p s .0 .pointer) (s .frames)
+  pub retag-frames : retag w frame p s .1 .frames ≡ entered (w .protected) frame (namedPointer (retag w frame p s .0 .names)) (s .frames)
   unfolding retag retagWithoutNode reborrow
   retag-frames = by-outcome (hasNone (p .provenance)) (eqb (length (w .inside)) 0) refl
 

@@ -1,4 +1,4 @@
--- Buffers that hold a state have its memory, its records, and their lengths.
+-- Buffers that hold a state have its memory, and their lengths.
 use Prim.Native.Nat.{ℕ, _≤_}
 use mathlib.Core.Path.{ap, _∙_}
 use mathlib.Core.List.{List}
@@ -8,11 +8,11 @@ use Rattle.definition.specs.Memory.{Memory}
 use Rattle.definition.specs.Frame.{State}
 use Rattle.definition.specs.Valid.{Valid}
 use Rattle.tables.specs.Encoding.{Buffers, parentsOf, protectorsOf, wordsOf, codesOf}
-use Rattle.tables.specs.Held.{buffers, Holds, Records}
+use Rattle.tables.specs.Held.{buffers, Holds}
 use Rattle.tables.proofs.Focus.{length-held}
 use Rattle.tables.proofs.Records.{length-held-records}
 use Rattle.tables.proofs.Sizes.{parents-fit, protectors-fit, words-fit, codes-fit}
-use Rattle.tables.proofs.ReadBack.{holds-records, holds-allocs, holds-parents, holds-protectors, holds-words, holds-codes}
+use Rattle.tables.proofs.ReadBack.{holds-allocs, holds-parents, holds-protectors, holds-words, holds-codes}
 use Rattle.frames.proofs.FromValid.{valid-holds}
 use Rattle.frames.proofs.Frames.{buffer-length}
 use Rattle.state.specs.State.{HoldsState}
@@ -21,9 +21,6 @@ use Rattle.state.proofs.Lengths.{Lengths}
 module _ {s : State} {b : Buffers} {F : List ℕ} (h : HoldsState s b F) where
   pub memory-held : Holds (s .memory) b
   memory-held = record { valid = h .valid .memory; equal = h .memory }
-
-  pub records-held : Records (s .memory) (b .allocs)
-  records-held = holds-records memory-held
 
   pub words-held : length (b .words) ≤ 4096
   words-held =

@@ -5,6 +5,7 @@ ghost use mathlib.Core.Path.{_≡_};
 ghost use mathlib.Core.List.{List, [], _∷_, _++_};
 ghost use Prim.Native.Nat.{ℕ, _<_, _^_};
 ghost use lib.ListN.{length};
+ghost use Rattle.definition.specs.Memory.Named.{Pointer};
 ghost use Rattle.pointer.specs.Pointer.{provenanceOf};
 ghost use Rattle.answer.specs.Answer.{answerOf};
 ghost use Rattle.transcript.specs.Transcript.{heading, answerWords, WrittenTo};
@@ -49,32 +50,27 @@ fn put_each(out: &mut [u32], w: Written, words: &[u32]) -> Written
     next
 }
 
-fn given_provenance(answer: Answer) -> Provenance
-    ensures { λ r. ⌜ ((words : List ℕ) → provenanceOf r ≡ answerOf answer words .pointer) ⌝ }
-{
-    match answer {
-        Answer::Pointer(p) => p,
-        Answer::Refused(_) => Provenance::None,
-        Answer::Leak(_) => Provenance::None,
-        Answer::Accepted => Provenance::None,
-        Answer::Words { start: _, len: _ } => Provenance::None,
-    }
-}
-
-fn heading(refusal: u8, provenance: Provenance, count: u32) -> [u32; 5]
-    ensures { λ r. ⌜ r ≡ heading refusal (provenanceOf provenance) count ⌝ }
+// Before a pointer's: it is accepted.
+fn pointer_heading(provenance: Provenance, count: u32) -> [u32; 5]
+    ensures { λ r. ⌜ r ≡ heading 0 (Pointer (provenanceOf provenance)) count ⌝ }
 {
     match provenance {
-        Provenance::None => [refusal as u32, 0, 0, 0, count],
-        Provenance::Of { allocation, node } => [refusal as u32, 1, allocation, node, count],
+        Provenance::None => [0, 0, 0, 0, count],
+        Provenance::Of { allocation, node } => [0, 1, allocation, node, count],
     }
 }
 
-// What stands before an answer's loaded words, of which there are `count`.
+// What stands before an answer's loaded words, of which there are `count`. The second word says what is named: 0 nothing, 1 a pointer, 3 a leak.
 fn heading_of(answer: Answer, count: u32) -> [u32; 5]
-    ensures { λ r. ⌜ ((words : List ℕ) → r ≡ heading (answerOf answer words .refusal) (answerOf answer words .pointer) count) ⌝ }
+    ensures { λ r. ⌜ ((words : List ℕ) → r ≡ heading (answerOf answer words .refusal) (answerOf answer words .names) count) ⌝ }
 {
-    heading(answer.refusal(), given_provenance(answer), count)
+    match answer {
+        Answer::Refused(n) => [n as u32, 0, 0, 0, count],
+        Answer::Leak(allocation) => [25, 3, allocation, 0, count],
+        Answer::Accepted => [0, 0, 0, 0, count],
+        Answer::Pointer(p) => pointer_heading(p, count),
+        Answer::Words { start: _, len: _ } => [0, 0, 0, 0, count],
+    }
 }
 
 // Writes an answer behind the others. The number of its loaded words has to fit a word; there are at most as many as `words` has.

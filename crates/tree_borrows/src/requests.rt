@@ -7,7 +7,7 @@ use crate::numbers::reply_of;
 use crate::numbers::thin_pointer;
 use library::fields::malformed;
 ghost use mathlib.Core.Path.{_≡_};
-ghost use mathlib.Core.Bool.{_||_};
+ghost use mathlib.Core.Bool.{false, _||_};
 ghost use lib.ListN.{length};
 ghost use Rattle.definition.specs.Memory as definition;
 ghost use Rattle.pointer.specs.Pointer.{back, ahead};
@@ -17,8 +17,8 @@ ghost use Rattle.tables.specs.Decoding.{allocationKind};
 ghost use Rattle.tables.specs.Held.{buffers};
 ghost use Rattle.memory.specs.Access.{loadOf, storeOf};
 ghost use Rattle.library.specs.Fields.{badExponent, badAllocation, badStore};
-ghost use Rattle.library.specs.Entry.{served, givenBy, leakServed};
-ghost use Rattle.tree_borrows.specs.Numbers.{pointerOf, badPointer, replyOf, loadedWords, copiedTo, Replied};
+ghost use Rattle.library.specs.Entry.{served, givenBy};
+ghost use Rattle.tree_borrows.specs.Numbers.{pointerOf, badPointer, loadedWords, copiedTo, Replied};
 
 // Kind 0.
 #[no_mangle]
@@ -242,7 +242,7 @@ pub extern "C" fn tree_borrows_signed_dereferenceable(
     reply_of(answer)
 }
 
-// Kind 9: 25 names the lowest leak.
+// Kind 9.
 #[no_mangle]
 pub extern "C" fn tree_borrows_leak_check(
     allocs: &[u64],
@@ -251,7 +251,10 @@ pub extern "C" fn tree_borrows_leak_check(
     words: &[u32],
     codes: &[u8],
 ) -> Reply
-    ensures { λ r. ⌜ r ≡ replyOf (leakServed (buffers (now (allocs .entry)) (now (parents .entry)) (now (protectors .entry)) (now (words .entry)) (now (codes .entry)))) ⌝ }
+    ensures { λ r. ⌜ Replied r
+        (buffers (now (allocs .entry)) (now (parents .entry)) (now (protectors .entry)) (now (words .entry)) (now (codes .entry)))
+        (replied Nothing (served false definition.leakCheck
+        (buffers (now (allocs .entry)) (now (parents .entry)) (now (protectors .entry)) (now (words .entry)) (now (codes .entry))))) ⌝ }
 {
     let answer = library::leak_check::leak_check(allocs, parents, protectors, words, codes);
     reply_of(answer)

@@ -13,17 +13,10 @@ module _ {run before after : List ℕ} where
       → Agrees run text (length before) r
   agrees-text text n r k same other =
       record {
-        leak = k .leak;
-        right = k .right;
         same = λ e. same e ∙ k .judged .text;
         other = λ e e′. absurd (false≢true (sym e ∙ other (e′ ∙ sym (k .judged .text))));
       }
 
   pub agrees-long : (text : List ℕ) → JudgedAs run before TooLong after → Agrees run text (length before) false
   agrees-long text k =
-      record {
-        leak = k .leak;
-        right = k .right;
-        same = λ e. absurd (false≢true e);
-        other = λ _ _. k .judged;
-      }
+      record { same = λ e. absurd (false≢true e); other = λ _ _. k .judged }

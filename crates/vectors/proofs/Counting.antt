@@ -68,7 +68,7 @@ most (gone e) = omega arith
 most (next true e a k) = omega (arith, most k)
 most (next false e a k) = omega (arith, most k)
 
--- a count of all says that the first is there and has a text that the definition allows, and it is a count of all others
+-- a count of all says that the first is there and has the definition's text, and it is a count of all others
 pub all-agree : {file : List ℕ} {room left at n : ℕ} → Counted file room (suc left) at n → n ≡ suc left
     → (recordAt file at .found ≡ true) × (IsOutput (runOf file (recordAt file at)) (textOf file (recordAt file at)) × Counted file room left (recordAt file at .end) left)
 all-agree (gone f) e = absurd (omega arith)
@@ -76,7 +76,7 @@ all-agree {file} {room} {left} {at} (next {n = n} true f a k) e =
     let same : n ≡ left = omega arith in (
       f,
       (
-        record { leak = a .leak; isALeak = a .right; isPrinted = a .same refl },
+        a .same refl,
         subst (λ (m : ℕ). Counted file room left (recordAt file at .end) m) same k,
       ),
     )

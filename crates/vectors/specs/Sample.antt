@@ -6,9 +6,8 @@ use mathlib.Core.List.{List}
 use lib.Dec.{leb}
 use lib.ListN.{length, getD, take, drop}
 use Rattle.definition.specs.Notation.{if_then_else_}
-use Rattle.definition.specs.Run.{wordsOf, program}
-use Rattle.definition.specs.Output.{output}
-use Rattle.judge.specs.Turn.{NamesLeak}
+use Rattle.definition.specs.Run.{wordsOf}
+use Rattle.definition.specs.Output.{output, IsOutput}
 use Rattle.judge.specs.Whole.{memoryRoom}
 use Rattle.vectors.specs.declared.Record.{Record}
 
@@ -34,10 +33,8 @@ textOf file r = take (r .end - r .text) (drop (r .text) file)
 
 -- whether the text is what the program prints of the run. Only a text that has no room in a buffer of this length is told to be another
 pub record Agrees (run text : List ℕ) (room : ℕ) (r : Bool) : Type 0 where
-  pub leak : ℕ
-  pub right : NamesLeak (program run .1 .memory) leak
-  pub same : r ≡ true → text ≡ output leak run
-  pub other : r ≡ false → text ≡ output leak run → room < length (output leak run) + memoryRoom
+  pub same : r ≡ true → IsOutput run text
+  pub other : r ≡ false → IsOutput run text → room < length (output run) + memoryRoom
 
 abbrev pub one : Bool → ℕ
 one b = if b then 1 else 0

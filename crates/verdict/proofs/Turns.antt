@@ -106,8 +106,6 @@ added-behind : (front : List ℕ) {s : State} {ws : List ℕ} {index : ℕ} {lin
 added-behind front {lines = lines} k =
     record {
       holds = k .holds;
-      leak = k .leak;
-      right = k .right;
       line = ap (λ (l : List ℕ). front ++ l) (k .line) ∙ sym (append-assoc front lines _);
       told = k .told;
     }
@@ -369,14 +367,9 @@ printed {p} {input} {out} {b} {F} a fine room end {out′} w =
           let h = a .came .performing rest f in
           let k = performing-end h (stops (a .came) fine (over few) rest f) in
           let m = memory-held (h .holds) in
-          record {
-            leak = h .leak;
-            isALeak = k .right;
-            isPrinted =
-                ap (λ (l : List ℕ). a .written ++ l) (text-behind (memoryLines 0 (h .state .memory)) (w (h .state .memory) m) inside)
-                ∙ sym (append-assoc (a .written) (textAtHand p out) (memoryLines 0 (h .state .memory)))
-                ∙ text-whole k;
-          };
+          ap (λ (l : List ℕ). a .written ++ l) (text-behind (memoryLines 0 (h .state .memory)) (w (h .state .memory) m) inside)
+          ∙ sym (append-assoc (a .written) (textAtHand p out) (memoryLines 0 (h .state .memory)))
+          ∙ text-whole k;
     }
   where
     inside : end ≤ length out′

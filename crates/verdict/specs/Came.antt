@@ -86,7 +86,7 @@ TurnsMade true r input out b F = Unit
 TurnsMade false r input out b F = AllMade r input out b F
 
 -- ---- the whole
--- what the turns wrote, and the text at hand, is what the definition lets the program print of what they read and of whatever follows
+-- what the turns wrote, and the text at hand, is what the definition says that the program prints of what they read and of whatever follows
 pub record IsPrinted (r : Progress) (out : List ℕ) : Type 0 where
   pub last : Progress
   pub input : List ℕ

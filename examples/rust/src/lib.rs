@@ -19,7 +19,7 @@ pub mod raw;
 mod refusal;
 
 pub use buffers::{new_call, Buffers};
-pub use list::{Answer, FrameNumber, Given, List, Outcome};
+pub use list::{Answer, FrameNumber, Given, List, Outcome, Refused};
 pub use memory::{Frame, Memory};
 pub use pointee::{Metadata, Part, Pointee, Shape};
 pub use pointer::{byte, Align, MemoryKind, Pointer, PointerKind, Provenance, UNINITIALISED};

@@ -6,6 +6,7 @@ use crate::pointee::Pointee;
 use crate::pointer::{Align, MemoryKind, Pointer, PointerKind, Provenance};
 use crate::raw::{self, Entry};
 use crate::refusal::Refusal;
+use std::fmt;
 
 /// Requests, in the words of docs/FORMAT.md. What a later request names is known beforehand: allocations are
 /// numbered as they are made, and nodes in each allocation, from 0, its root.
@@ -36,7 +37,32 @@ pub enum Given {
     Words(Vec<u32>),
 }
 
-pub type Answer = Result<Given, Refusal>;
+/// Why a request is refused.
+#[derive(Clone, Copy, Debug, PartialEq, Eq, Hash)]
+pub struct Refused {
+    pub refusal: Refusal,
+    /// What a leak check names: the live heap allocation with the lowest number.
+    pub leak: Option<u32>,
+}
+
+impl From<Refusal> for Refused {
+    fn from(refusal: Refusal) -> Refused {
+        Refused { refusal, leak: None }
+    }
+}
+
+impl fmt::Display for Refused {
+    fn fmt(&self, f: &mut fmt::Formatter) -> fmt::Result {
+        match self.leak {
+            Some(allocation) => write!(f, "{}: allocation {allocation} is live", self.refusal),
+            None => self.refusal.fmt(f),
+        }
+    }
+}
+
+impl std::error::Error for Refused {}
+
+pub type Answer = Result<Given, Refused>;
 
 /// What a list comes to.
 #[derive(Clone, Debug, PartialEq, Eq)]
@@ -214,16 +240,23 @@ fn most_loaded(request: &[u32]) -> usize {
 /// One answer behind the other.
 fn answers(mut words: &[u32]) -> Vec<Answer> {
     let mut answers = Vec::new();
-    while let [refusal, has_pointer, allocation, node, loaded, rest @ ..] = words {
-        let (given, rest) = rest.split_at(*loaded as usize);
+    while let [refusal, gives, first, second, loaded, rest @ ..] = words {
+        let (loaded, rest) = rest.split_at(*loaded as usize);
         words = rest;
-        answers.push(Refusal::check(*refusal).map(|()| match (has_pointer, given) {
-            (1, _) => Given::Pointer(Provenance { allocation: *allocation, node: *node }),
-            (_, []) => Given::Nothing,
-            _ => Given::Words(given.to_vec()),
-        }));
+        let named = Provenance { allocation: *first, node: *second };
+        answers.push(answer(*refusal, *gives as u8, named, loaded));
     }
     answers
+}
+
+fn answer(refusal: u32, gives: u8, named: Provenance, loaded: &[u32]) -> Answer {
+    let leak = (gives == raw::LEAK).then_some(named.allocation);
+    Refusal::check(refusal).map_err(|refusal| Refused { refusal, leak })?;
+    Ok(match (gives, loaded) {
+        (raw::POINTER, _) => Given::Pointer(named),
+        (_, []) => Given::Nothing,
+        _ => Given::Words(loaded.to_vec()),
+    })
 }
 
 impl Outcome {

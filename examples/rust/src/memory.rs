@@ -158,7 +158,7 @@ impl Memory {
         check(self.buffers.signed_dereferenceable(pointer.raw(), length)).map(|_| ())
     }
 
-    /// A heap allocation that is live, if there is one.
+    /// The heap allocation with the lowest number that is live, if there is one.
     pub fn leak(&self) -> Option<u32> {
         let reply = self.buffers.leak_check();
         (reply.gives == raw::LEAK).then_some(reply.first as u32)

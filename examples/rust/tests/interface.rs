@@ -7,7 +7,7 @@ use tree_borrows::raw::{self, Entry, ListReply, Reply, RetagReply, RetagSettings
 use tree_borrows::{
     byte, Align, Buffers, FrameNumber, Given, List, Memory, MemoryKind, Metadata, Part, Pointee,
 };
-use tree_borrows::{Pointer, PointerKind, Provenance, Refusal, Shape, UNINITIALISED};
+use tree_borrows::{Pointer, PointerKind, Provenance, Refusal, Refused, Shape, UNINITIALISED};
 
 fn pointer(address: u64, allocation: u32, node: u32) -> Pointer {
     Pointer { address, provenance: Some(Provenance { allocation, node }) }
@@ -47,7 +47,7 @@ fn a_list_is_the_run_of_the_page() {
     let outcome = list.run();
     let made = |node| Ok(Given::Pointer(Provenance { allocation: 0, node }));
     let loaded = Ok(Given::Words(vec![byte(7)]));
-    let expected = [made(0), made(1), Ok(Given::Nothing), loaded, Err(Refusal::LocalWriteOfFrozen)];
+    let expected = [made(0), made(1), Ok(Given::Nothing), loaded, Err(Refusal::LocalWriteOfFrozen.into())];
     assert_eq!(outcome.answers, expected);
     let buffers = outcome.memory.buffers();
     assert_eq!(buffers.allocs[..7], [1, 1, 0, 16, 2, 2, 0]);
@@ -153,7 +153,7 @@ fn a_call_protects_until_it_ends() {
     memory.store(x, &[byte(1)], Align::ONE).unwrap();
     assert_eq!(memory.load(root, 1, Align::ONE), Err(Refusal::ForeignReadOfUnique));
     assert_eq!(memory.deallocate(x, MemoryKind::Heap, 1, Align::ONE), Err(Refusal::StrongProtector));
-    assert_eq!(Memory::new().end_call(&mut call), Err(Refusal::NeverMade));
+    assert_eq!(Memory::new().end_call(&mut call), Err(Refusal::NeverMade.into()));
     assert_eq!(call.entries().len(), 1);
     memory.end_call(&mut call).unwrap();
     assert!(call.entries().is_empty());
@@ -208,7 +208,7 @@ fn a_list_takes_more_words_than_a_run() {
     list.store(root, &vec![UNINITIALISED; 4097], Align::ONE);
     list.store(root, &[byte(1)], Align::ONE);
     let answers = list.run().answers;
-    assert_eq!(answers[1..], [Err(Refusal::OutOfBounds), Ok(Given::Nothing)]);
+    assert_eq!(answers[1..], [Err(Refusal::OutOfBounds.into()), Ok(Given::Nothing)]);
 }
 
 #[test]
@@ -234,8 +234,8 @@ fn names_that_fit_no_request_were_never_made() {
         list.load(named, 1, Align::ONE);
         list.run().answers[2].clone()
     };
-    assert_eq!(refused(pointer(16, 128, 0)), Err(Refusal::NeverMade));
-    assert_eq!(refused(pointer(16, 0, 4096)), Err(Refusal::NeverMade));
+    assert_eq!(refused(pointer(16, 128, 0)), Err(Refusal::NeverMade.into()));
+    assert_eq!(refused(pointer(16, 0, 4096)), Err(Refusal::NeverMade.into()));
     assert_eq!(refused(pointer(16, 0, 0)), Ok(Given::Words(vec![UNINITIALISED])));
     assert_eq!(FrameNumber::new(32), None);
 }
@@ -247,8 +247,26 @@ fn a_list_goes_on_after_a_refusal() {
     list.push(&[0xffff_ffff; 4]);
     list.leak_check();
     let answers = list.run().answers;
-    assert_eq!(answers, [Err(Refusal::Malformed), Err(Refusal::Malformed), Ok(Given::Nothing)]);
+    let malformed = Err(Refusal::Malformed.into());
+    assert_eq!(answers, [malformed.clone(), malformed, Ok(Given::Nothing)]);
     assert_eq!(List::new().run().answers, []);
+}
+
+/// Past one of the stack and one that is dead.
+#[test]
+fn a_leak_check_names_the_lowest() {
+    let mut list = List::new();
+    list.allocate(MemoryKind::Stack, 1, Align::ONE, 16);
+    for address in [32, 48, 64] {
+        list.allocate(MemoryKind::Heap, 1, Align::ONE, address);
+    }
+    list.deallocate(pointer(32, 1, 0), MemoryKind::Heap, 1, Align::ONE);
+    list.leak_check();
+    let outcome = list.run();
+    let leak = Refused { refusal: Refusal::MemoryLeak, leak: Some(2) };
+    assert_eq!(outcome.answers[5], Err(leak));
+    assert_eq!(leak.to_string(), "25: memory leak: allocation 2 is live");
+    assert_eq!(outcome.memory.leak(), Some(2));
 }
 
 /// Buffers of another length are refused, and nothing changes.

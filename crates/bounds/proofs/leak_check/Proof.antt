@@ -8,7 +8,8 @@ use lib.ListN.{length}
 use Rattle.definition.specs.Memory.{Memory}
 use Rattle.tables.specs.Held.{Records}
 use Rattle.tables.proofs.Lookup.{allocs-length, made-count}
-use Rattle.bounds.proofs.Leak.{NoneBelow, leak-found, leak-none}
+use Rattle.definition.proofs.Leaks.{NoneBelow, Lowest}
+use Rattle.bounds.proofs.Leak.{leak-found, leak-none}
 use Rattle.bounds.proofs.leak_check.Statement.{statement}
 use Rattle.bounds.proofs.leak_check.Tie as tie
 
@@ -27,10 +28,22 @@ loop-holds c = (omega arith, λ m h k l. absurd (omega arith))
 is-live-heap-requires : tie.Need-is-live-heap-requires Inv-loop μ-loop
 is-live-heap-requires c κs = let (m, h) = c .before .before .before .before .pre in (m, (h, omega (arith, c .before .before .made-count .ensures ∙ made-count h)))
 
+cast-t6 : tie.Need-cast-t6 Inv-loop μ-loop
+cast-t6 c =
+    let counted = c .before .before .before .before in
+    let (m, h) = counted .before .before .pre in
+    omega (arith, counted .made-count .ensures ∙ made-count h, h .valid .bounded .allocations)
+
 returns : tie.Need-returns Inv-loop μ-loop
 returns c = λ m h.
     let turn = c .before .before .before in
-    leak-found m (turn .loop .i) (omega (arith, turn .before .made-count .ensures ∙ made-count h)) (turn .loop .inv .1 m h) (sym (c .before .is-live-heap .ensures m h) ∙ c .if1 .taken)
+    let lowest : Lowest m (turn .loop .i) =
+    record {
+      made = omega (arith, turn .before .made-count .ensures ∙ made-count h);
+      leaks = sym (c .before .is-live-heap .ensures m h) ∙ c .if1 .taken;
+      below = turn .loop .inv .1 m h;
+    } in
+    leak-found m (turn .loop .i) lowest
 
 add-i : tie.Need-add-i Inv-loop μ-loop
 add-i c = search needs
@@ -55,6 +68,7 @@ leak-check-spec =
     made-count-requires
     loop-holds
     is-live-heap-requires
+    cast-t6
     returns
     add-i
     loop-less

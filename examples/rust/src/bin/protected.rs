@@ -5,7 +5,7 @@
 use tree_borrows::{
     byte, Align, FrameNumber, Given, List, Memory, MemoryKind, Pointee, Pointer, PointerKind,
 };
-use tree_borrows::{Provenance, Refusal};
+use tree_borrows::{Provenance, Refusal, Refused};
 
 const ADDRESS: u64 = 0x10;
 
@@ -65,9 +65,11 @@ fn as_one_list() {
     list.store(root, &[byte(2)], Align::ONE);
     list.end_call(call);
     list.load(x, 1, Align::ONE);
+    list.leak_check();
 
-    let outcome = list.run();
-    let numbers = outcome.answers.iter().map(|answer| answer.as_ref().map_or_else(|r| r.number(), |_| 0));
+    let answers = list.run().answers;
+    let numbers = answers.iter().map(|answer| answer.as_ref().map_or_else(|r| r.refusal.number(), |_| 0));
     println!("list: {}", numbers.map(|number| number.to_string()).collect::<Vec<_>>().join(" "));
-    assert_eq!(outcome.answers.last(), Some(&Ok(Given::Words(vec![byte(1)]))));
+    assert_eq!(answers[6], Ok(Given::Words(vec![byte(1)])));
+    assert_eq!(answers[7], Err(Refused { refusal: Refusal::MemoryLeak, leak: Some(0) }));
 }

@@ -38,13 +38,6 @@ impl Lent {
         let reply = self.memory.run_list(&mut self.frames, words, ends, &mut self.answers);
         assert!(reply.refusal == 0 && reply.whole == 1 && reply.at <= self.answers.len());
     }
-
-    /// The allocation that a leak check names.
-    fn leak(&self) -> u64 {
-        let reply = self.memory.leak_check();
-        assert_eq!((reply.refusal, reply.gives, reply.second), (25, 3, 0));
-        reply.first
-    }
 }
 
 /// The requests of a run: all words, and where each request ends. One that is cut short has no words.
@@ -59,15 +52,15 @@ fn cut(run: &[u8]) -> (Vec<u32>, Vec<u32>) {
     (words, ends)
 }
 
-/// One answer at the front of the words; and how many of them it has.
-fn third(answer: &[u32], leak: impl FnOnce() -> u64) -> (String, usize) {
-    let &[refusal, has_pointer, allocation, node, count, ..] = answer else { panic!("a cut answer") };
+/// What the answer at the front of the words gives; and how many of them it has.
+fn third(answer: &[u32]) -> (String, usize) {
+    let &[refusal, gives, first, second, count, ..] = answer else { panic!("a cut answer") };
     let loaded = &answer[5..5 + count as usize];
-    let text = match (refusal, has_pointer, count) {
-        (25, ..) => leak().to_string(),
-        (_, 1, 0) => format!("{allocation}.{node}"),
-        (_, 0, 0) => "-".into(),
-        (0, 0, _) => loaded.iter().map(|w| format!("{w:08x}")).collect::<Vec<_>>().join(" "),
+    let text = match (refusal, gives, first, second, count) {
+        (0, 1, allocation, node, 0) => format!("{allocation}.{node}"),
+        (25, 3, allocation, 0, 0) => allocation.to_string(),
+        (_, 0, 0, 0, 0) => "-".into(),
+        (0, 0, 0, 0, _) => loaded.iter().map(|w| format!("{w:08x}")).collect::<Vec<_>>().join(" "),
         _ => panic!("an answer of two kinds"),
     };
     (text, 5 + count as usize)
@@ -78,17 +71,11 @@ fn answer(lent: &mut Lent, run: &[u8]) -> String {
     let mut text = String::new();
     let mut at = 0;
     lent.run(&words, &ends);
-    let answers = lent.answers.clone();
     for index in 0..ends.len() {
-        let named = || {
-            lent.run(&words[..ends[index] as usize], &ends[..=index]);
-            lent.leak()
-        };
-        let (shown, length) = third(&answers[at..], named);
-        writeln!(text, "{index} {} {shown}", answers[at]).unwrap();
+        let (shown, length) = third(&lent.answers[at..]);
+        writeln!(text, "{index} {} {shown}", lent.answers[at]).unwrap();
         at += length;
     }
-    lent.run(&words, &ends);
     let mut memory = buffers::decode(&lent.memory).expect("the list leaves a well-formed memory");
     for (frame, words) in memory.frames.iter_mut().zip(lent.frames.chunks_exact(65)) {
         let count = words[0] as usize;

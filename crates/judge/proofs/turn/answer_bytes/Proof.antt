@@ -1,8 +1,7 @@
--- The answer is the definition's, and the memory that is left has the leak that is named.
+-- The answer is the definition's, and its line is written.
 use mathlib.Core.Path.{subst}
-use Rattle.definition.specs.Memory as definition
-use Rattle.definition.specs.Run.{step, wordsOf}
-use Rattle.state.proofs.Held.{records-held, words-held}
+use Rattle.definition.specs.Memory.{Answer}
+use Rattle.state.proofs.Held.{words-held}
 use Rattle.judge.specs.Turn.{LineWritten}
 use borrow.Author.Needs.{needs}
 use Rattle.judge.proofs.turn.answer_bytes.Statement.{statement}
@@ -29,11 +28,11 @@ step-bytes-requires c κs = let a = entry (lent c) in
     (a .pre .0, a .pre .1 .1)
 
 write-answer-requires : tie.Need-write-answer-requires
-write-answer-requires c κs = let left = c .before .before .before .before .before in
+write-answer-requires c κs = let left = c .before .before .before .before in
     let stepped = given left in
     let a = entry (lent (stepped .before)) in
     let k = stepped .step-bytes .ensures (a .pre .0 .0) (a .pre .0 .1) in
-    ((step (a .pre .0 .0) (wordsOf (a .args .bytes .now)) .1 .memory, records-held (k .holds)), (a .pre .1 .0, words-held (k .holds)))
+    (a .pre .1 .0, words-held (k .holds))
 
 same-length : tie.Need-same-length
 same-length c = search needs
@@ -62,16 +61,15 @@ same-length-8 c = search needs
 returns : tie.Need-returns
 returns c = λ state h.
     let written = c .before .before in
-    let left = written .before .before .before .before .before .before in
+    let left = written .before .before .before .before .before in
     let stepped = given left in
     let a = entry (lent (stepped .before)) in
     let k = stepped .step-bytes .ensures state h in
-    let o = step state (wordsOf (a .args .bytes .now)) in
     record {
       holds = k .holds;
       line =
-          subst (λ (x : definition.Answer). LineWritten (o .1 .memory) (a .args .index) x (a .args .out .now) (a .args .at) (written .write-answer .last .0) (written .write-answer .result .at) (written .write-answer .result .refused))
-          (k .answer) (written .write-answer .ensures (o .1 .memory) (records-held (k .holds)));
+          subst (λ (x : Answer). LineWritten (a .args .index) x (a .args .out .now) (a .args .at) (written .write-answer .last .0) (written .write-answer .result .at) (written .write-answer .result .refused))
+          (k .answer) (written .write-answer .ensures);
     }
 
 pub answer-bytes-spec : {M : Type 1} → statement M

@@ -5,7 +5,7 @@ use borrow.Author.Needs.{needs}
 use lib.ListN.{length}
 use Rattle.definition.specs.Output.{answerLine}
 use Rattle.report.proofs.Given.{giving-loaded}
-use Rattle.report.specs.Answer.{named, giving}
+use Rattle.report.specs.Answer.{giving}
 use Rattle.report.specs.Written.{WrittenInside}
 use Rattle.definition.specs.Memory as definition
 use Rattle.answer.proofs.Loaded.{loaded-length}
@@ -25,7 +25,7 @@ returns : tie.Need-returns
 returns c = let k = c .before .before .before .before in
     let s = k .before .before .before in
     let answer = s .args .answer in
-    subst (λ (a : definition.Answer). WrittenInside (s .args .out .now) (s .args .at) (answerLine (s .args .index) (named answer) a) (c .before .before .answer-line .last .0) (c .before .before .answer-line .result))
+    subst (λ (a : definition.Answer). WrittenInside (s .args .out .now) (s .args .at) (answerLine (s .args .index) a) (c .before .before .answer-line .last .0) (c .before .before .answer-line .result))
     (ap (giving answer) (k .loaded-words .ensures .loaded) ∙ giving-loaded answer (s .args .words .now)) (c .before .before .answer-line .ensures)
 
 pub put-line-spec : {M : Type 1} → statement M

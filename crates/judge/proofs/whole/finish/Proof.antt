@@ -11,7 +11,7 @@ use lib.ListN.{length}
 use lib.Seq.{length-take-le}
 use Rattle.definition.specs.Output.{memoryLines}
 use Rattle.state.proofs.Held.{memory-held}
-use Rattle.judge.proofs.Runs.{not-over, too-long, memory-inside, performing-end, right-leak, text-behind, text-short, text-whole}
+use Rattle.judge.proofs.Runs.{not-over, too-long, memory-inside, performing-end, text-behind, text-short, text-whole}
 use Rattle.judge.specs.Whole.{memoryRoom}
 use Rattle.judge.proofs.whole.finish.Statement.{statement}
 use Rattle.judge.proofs.whole.finish.Tie as tie
@@ -34,8 +34,7 @@ returns c = let s = entry (c .before) in
     let q = s .args .p in
     let left = not (q .refused) && ltb (q .from) (length (now (s .args .run))) in
     let short = too-long left (q .at) (length (now (s .args .out))) (s .pre .1) (ap (λ (t : Bool). left || not t) (sym (c .before .has-room .ensures)) ∙ c .if1 .taken) in
-    let l = right-leak (h .performing) in
-    record { leak = l .0; right = l .1 .0; judged = omega (arith, short, text-short (h .performing) (l .0) (l .1 .1), length-take-le (q .at) (now (s .args .out)) (h .fits)) }
+    record { judged = omega (arith, short, text-short (h .performing), length-take-le (q .at) (now (s .args .out)) (h .fits)) }
 
 -- there is room for the lines of the memory
 room : (c : tie.Else1) → let s = entry (c .before) in s .args .p .at + memoryRoom ≤ length (now (s .args .out))
@@ -56,14 +55,7 @@ returns-2 c = let t = tested c in
     let k = performing-end h (not-over (q .refused) (q .from) (length (now (s .args .run))) (t .before .has-room .result) (t .if1 .left) .0) in
     let w = c .before .before .memory-lines .ensures (h .state .memory) (memory-held (h .holds)) in
     let fits = memory-inside (memory-held (h .holds)) w (room t) in
-    record {
-      leak = h .leak;
-      right = k .right;
-      judged = record {
-        fits = fits;
-        text = text-behind (memoryLines 0 (h .state .memory)) w fits ∙ text-whole k;
-      };
-    }
+    record { judged = record { fits = fits; text = text-behind (memoryLines 0 (h .state .memory)) w fits ∙ text-whole k } }
 
 pub finish-spec : {M : Type 1} → statement M
 finish-spec =

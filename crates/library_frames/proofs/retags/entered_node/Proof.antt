@@ -1,6 +1,7 @@
 -- By the protector, and then by the answer.
 use mathlib.Core.Bool.{Bool}
 use mathlib.Core.Path.{sym, ap}
+use Rattle.definition.specs.Memory.{namedPointer}
 use Rattle.answer.specs.Answer.{answerOf}
 use Rattle.library_frames.specs.Settings.{protects}
 use Rattle.library_frames.specs.Outcome.{enteredNode}
@@ -13,7 +14,7 @@ adds-no-node-requires : tie.Need-adds-no-node-requires
 adds-no-node-requires c κs = search needs
 
 returns : tie.Need-returns
-returns c = let t = c .before .before .before .args in λ words. ap (λ (b : Bool). enteredNode b (answerOf (t .answer) words .pointer)) (sym (unprotected (t .settings) (c .before .before .adds-no-node .ensures) (c .if1 .taken)))
+returns c = let t = c .before .before .before .args in λ words. ap (λ (b : Bool). enteredNode b (namedPointer (answerOf (t .answer) words .names))) (sym (unprotected (t .settings) (c .before .before .adds-no-node .ensures) (c .if1 .taken)))
 
 enum-known-answer : tie.Need-enum-known-answer
 enum-known-answer c = search needs

@@ -5,7 +5,7 @@ use mir.Facts.{toZ-ofZ}
 use borrow.Author.Needs.{needs, sfits-of}
 use Rattle.pointer.specs.Pointer.{back, ahead}
 use Rattle.bounds.proofs.Reach.{reach-answers}
-use Rattle.bounds.proofs.Leak.{leak-answer}
+use Rattle.bounds.proofs.Leak.{check-answers}
 use Rattle.memory.proofs.Afterwards.{holds-bytes}
 use Rattle.parts.proofs.Lent.{holds-marked}
 use Rattle.tables.proofs.ReadBack.{holds-records}
@@ -186,7 +186,7 @@ same-length-10 : tie.Need-same-length-10
 same-length-10 c = search needs
 
 returns-6 : tie.Need-returns-6
-returns-6 c = λ s h. leak-left h (c .before .before .enum-told5 .given .1) (leak-answer (s .memory) (c .leak-check .ensures (s .memory) (holds-records (h .holds))))
+returns-6 c = λ s h. leak-left h (c .before .before .enum-told5 .given .1) (check-answers (s .memory) _ (c .leak-check .ensures (s .memory) (holds-records (h .holds))))
 
 returns-7 : tie.Need-returns-7
 returns-7 c = λ s h. absurd (not-alone h (c .enum-told6 .given .1) refl)

@@ -7,7 +7,6 @@ use Rattle.definition.specs.Output.{Text, given, ended, words}
 use Rattle.answer.specs.Answer.{answerOf}
 use Rattle.answer.specs.declared.Answer.{Answer}
 use Rattle.report.specs.Written.{Room}
-use Rattle.report.specs.Answer.{named}
 use Rattle.report.proofs.Lines.{words-length}
 use Rattle.report.proofs.Writes.{inside, inside-as}
 use Rattle.report.proofs.answers.put_given.Statement.{statement}
@@ -18,7 +17,7 @@ abbrev entry : tie.After-shared-slice-known → tie.Start
 entry c = c .before .before
 
 abbrev text : tie.Start → Answer → Text
-text s a = ended (given (named a) (answerOf a [] .pointer) (s .args .loaded .now))
+text s a = ended (given (answerOf a [] .names) (s .args .loaded .now))
 
 room : (s : tie.Start) → Room (s .args .out .now) (s .args .at) (ended (words (s .args .loaded .now)))
 room s = record { fits = omega (arith, words-length (s .args .loaded .now), s .pre) }
@@ -31,6 +30,9 @@ put-words-requires c κs = room (entry (c .before .before .before))
 
 enum-known-answer : tie.Need-enum-known-answer
 enum-known-answer c = search needs
+
+cast-put-leak : tie.Need-cast-put-leak
+cast-put-leak c = search needs
 
 put-leak-requires : tie.Need-put-leak-requires
 put-leak-requires c κs = search needs
@@ -108,6 +110,7 @@ put-given-spec =
     enum-told
     put-words-requires
     enum-known-answer
+    cast-put-leak
     put-leak-requires
     enum-told-2
     put-words-requires-2

@@ -1,8 +1,8 @@
 -- By the provenance.
-use mathlib.Core.Option.{none}
 use mathlib.Core.Path.{sym, ap}
 use native.Mathlib.Omega.{arith}
 use borrow.Author.Needs.{needs}
+use Rattle.definition.specs.Memory.Named.{Pointer}
 use Rattle.definition.specs.Output.{Text, given, ended, words}
 use Rattle.pointer.specs.Pointer.{provenanceOf}
 use Rattle.pointer.specs.declared.Provenance.{Provenance}
@@ -17,7 +17,7 @@ abbrev entry : tie.After-shared-slice-known → tie.Start
 entry c = c .before .before
 
 abbrev text : tie.Start → Provenance → Text
-text s p = ended (given none (provenanceOf p) (s .args .loaded .now))
+text s p = ended (given (Pointer (provenanceOf p)) (s .args .loaded .now))
 
 room : (s : tie.Start) → Room (s .args .out .now) (s .args .at) (ended (words (s .args .loaded .now)))
 room s = record { fits = omega (arith, words-length (s .args .loaded .now), s .pre) }

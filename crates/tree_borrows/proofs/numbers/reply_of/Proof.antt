@@ -9,6 +9,9 @@ enum-known-answer c = search needs
 enum-known-answer-2 : tie.Need-enum-known-answer-2
 enum-known-answer-2 c = search needs
 
+cast-t8 : tie.Need-cast-t8
+cast-t8 c = search needs
+
 enum-told : tie.Need-enum-told
 enum-told c = search needs
 
@@ -42,6 +45,7 @@ reply-of-spec =
     (tie.spec
     enum-known-answer
     enum-known-answer-2
+    cast-t8
     enum-told
     enum-known-answer-3
     pointer-reply-requires

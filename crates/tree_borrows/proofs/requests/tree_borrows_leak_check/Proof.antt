@@ -1,7 +1,6 @@
 -- The answer of `library`, as numbers.
-use mathlib.Core.Path.{ap, _∙_}
+use Rattle.tree_borrows.proofs.Replies.{in-numbers}
 use borrow.Author.Needs.{needs}
-use Rattle.tree_borrows.specs.Numbers.{replyOf}
 use Rattle.tree_borrows.proofs.requests.tree_borrows_leak_check.Statement.{statement}
 use Rattle.tree_borrows.proofs.requests.tree_borrows_leak_check.Tie as tie
 
@@ -12,7 +11,7 @@ reply-of-requires : tie.Need-reply-of-requires
 reply-of-requires c κs = search needs
 
 returns : tie.Need-returns
-returns c = c .reply-of .ensures ∙ ap replyOf (c .before .leak-check .ensures)
+returns c = in-numbers (c .reply-of .ensures) (c .before .leak-check .ensures)
 
 pub tree-borrows-leak-check-spec : {M : Type 1} → statement M
 tree-borrows-leak-check-spec = tie.close (tie.spec leak-check-requires reply-of-requires returns)

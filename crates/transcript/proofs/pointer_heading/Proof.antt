@@ -1,7 +1,7 @@
 -- Each arm knows the provenance that it writes.
 use borrow.Author.Needs.{needs}
-use Rattle.transcript.proofs.heading.Statement.{statement}
-use Rattle.transcript.proofs.heading.Tie as tie
+use Rattle.transcript.proofs.pointer_heading.Statement.{statement}
+use Rattle.transcript.proofs.pointer_heading.Tie as tie
 
 enum-told : tie.Need-enum-told
 enum-told c = search needs
@@ -15,5 +15,5 @@ returns c = rw (c .enum-told .given .1)
 returns-2 : tie.Need-returns-2
 returns-2 c = rw (c .before .provenance .given .1)
 
-pub heading-spec : {M : Type 1} → statement M
-heading-spec = tie.close (tie.spec enum-told enum-known-provenance returns returns-2)
+pub pointer-heading-spec : {M : Type 1} → statement M
+pointer-heading-spec = tie.close (tie.spec enum-told enum-known-provenance returns returns-2)
