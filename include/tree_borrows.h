@@ -1,11 +1,20 @@
 /* The Tree Borrows memory, for programs in C and C++ on x86-64: the functions of libtree_borrows.a, which
    `rt staticlib tree_borrows` writes to target/staticlib.
 
-   WHAT IS LENT. A memory is five buffers that the caller owns and lends for each call. Their lengths are
-   fixed, see below. All zeros are the empty memory; docs/FORMAT.md says what the numbers in them mean, and a
-   program may read them at any time. The library allocates nothing, keeps nothing from one call to the next,
-   and touches nothing but what it is lent: several memories are several sets of buffers, each may be used by
-   another thread, and a copy of the five buffers is a copy of the memory.
+   WHAT IS LENT. A memory is five buffers that the caller owns and lends for each call, and a width: how many bits
+   a pointer has, 16, 32 or 64. The buffers' lengths are fixed, see below. All zeros, with a width, are the empty
+   memory; docs/FORMAT.md says what the numbers in them mean, and a program may read them at any time. The library
+   allocates nothing, keeps nothing from one call to the next, and touches nothing but what it is lent: several
+   memories are several sets of buffers, each may be used by another thread, and a copy of the five buffers and the
+   width is a copy of the memory.
+
+   The width stands directly behind the five buffers in every function that takes a memory; only a list of requests
+   has none, since it starts at 64 bits and may set another. Keep it with the memory. At width w an address is at most
+   2^w - 1, and so is the end of an allocation, address + size; a pointer in memory has w / 8 bytes, whose positions
+   count from 0. Any other width, and a memory that does not fit its width (an allocation, dead or live, that ends
+   higher, or a byte word, of a dead one too, with a higher position), is refused with 1. An address above 2^w - 1 in a
+   request, and a position from w / 8 on in the bytes of a store, is refused with 2; an allocation that would end
+   higher, with 5.
 
    Every buffer is passed as its address and its length, counted in its own numbers and not in bytes. What is asked
    of the caller: an address is not null, not even at length 0, and is aligned for its type; that many numbers
@@ -43,20 +52,24 @@ enum {
     TREE_BORROWS_FRAMES = 2080     /* 32 frames of a list, 65 numbers each */
 };
 
-/* The five buffers side by side, for programs that like them so: TREE_BORROWS_LENT(&memory) stands for the ten
-   arguments of a call. Zero it, or call tree_borrows_new. */
+/* The five buffers and the width side by side, for programs that like them so: TREE_BORROWS_LENT(&memory) stands for
+   the eleven arguments of a call, and TREE_BORROWS_BUFFERS(&memory) for the ten of the buffers alone, which
+   tree_borrows_run_list takes. Set the width, and zero the rest or call tree_borrows_new. */
 typedef struct tree_borrows_memory {
     uint64_t allocs[TREE_BORROWS_ALLOCS];
     uint16_t parents[TREE_BORROWS_NODES];
     uint8_t protectors[TREE_BORROWS_NODES];
     uint32_t words[TREE_BORROWS_WORDS];
     uint8_t codes[TREE_BORROWS_CODES];
+    uint64_t width; /* 16, 32 or 64 */
 } tree_borrows_memory;
 
-#define TREE_BORROWS_LENT(m)                                                                              \
+#define TREE_BORROWS_BUFFERS(m)                                                                           \
     (m)->allocs, (size_t)TREE_BORROWS_ALLOCS, (m)->parents, (size_t)TREE_BORROWS_NODES, (m)->protectors, \
         (size_t)TREE_BORROWS_NODES, (m)->words, (size_t)TREE_BORROWS_WORDS, (m)->codes,                   \
         (size_t)TREE_BORROWS_CODES
+
+#define TREE_BORROWS_LENT(m) TREE_BORROWS_BUFFERS(m), (m)->width
 
 /* ---- numbers */
 
@@ -125,7 +138,7 @@ enum {
 /* ---- what is handed over by value */
 
 /* A pointer. `provenance` is 1 if it has one, else 0, and then allocation and node are 0 too; anything else is
-   refused with 2. */
+   refused with 2, and so is an address that is too big for the width. */
 typedef struct tree_borrows_pointer {
     uint64_t address;
     uint8_t provenance;
@@ -163,18 +176,21 @@ typedef struct tree_borrows_retag_reply {
 } tree_borrows_retag_reply;
 
 /* What a list comes to: `refusal` is 1 if a buffer has another length, else 0, and then `at` words of answers are
-   written. `whole` is 1 if these are all; with 0 the rest found no room in the lent buffer. */
+   written. `whole` is 1 if these are all; with 0 the rest found no room in the lent buffer. `width` is that of the
+   memory that the list leaves, 16, 32 or 64, to go on with it; 0 after a refusal. */
 typedef struct tree_borrows_list_reply {
     uint8_t refusal;
     uint8_t whole;
     size_t at;
+    uint64_t width;
 } tree_borrows_list_reply;
 
-/* ---- new: the empty memory, whatever the buffers held. 1 for another length, and then nothing changes. */
+/* ---- new: the empty memory of this width, whatever the buffers held. 1 for another length of a buffer, or a width
+   that is not 16, 32 or 64, and then nothing changes. */
 tree_borrows_reply tree_borrows_new(
     uint64_t *allocs, size_t allocs_length, uint16_t *parents, size_t parents_length,
     uint8_t *protectors, size_t protectors_length, uint32_t *words, size_t words_length,
-    uint8_t *codes, size_t codes_length);
+    uint8_t *codes, size_t codes_length, uint64_t width);
 
 /* ---- one request each. `exponent` is an alignment's: 2 for 4 bytes. */
 
@@ -182,14 +198,14 @@ tree_borrows_reply tree_borrows_new(
 tree_borrows_reply tree_borrows_allocate(
     uint64_t *allocs, size_t allocs_length, const uint16_t *parents, size_t parents_length,
     const uint8_t *protectors, size_t protectors_length, const uint32_t *words, size_t words_length,
-    uint8_t *codes, size_t codes_length,
+    uint8_t *codes, size_t codes_length, uint64_t width,
     uint64_t kind, uint64_t size, uint64_t exponent, uint64_t address);
 
 /* Ends the allocation that starts at the pointer and has this kind, size and alignment. Gives nothing. */
 tree_borrows_reply tree_borrows_deallocate(
     uint64_t *allocs, size_t allocs_length, const uint16_t *parents, size_t parents_length,
     const uint8_t *protectors, size_t protectors_length, const uint32_t *words, size_t words_length,
-    uint8_t *codes, size_t codes_length,
+    uint8_t *codes, size_t codes_length, uint64_t width,
     tree_borrows_pointer pointer, uint64_t kind, uint64_t size, uint64_t exponent);
 
 /* Reads `length` bytes. Gives where their words stand in `words`; they are the caller's own, and stay there until
@@ -197,7 +213,7 @@ tree_borrows_reply tree_borrows_deallocate(
 tree_borrows_reply tree_borrows_load(
     const uint64_t *allocs, size_t allocs_length, const uint16_t *parents, size_t parents_length,
     const uint8_t *protectors, size_t protectors_length, const uint32_t *words, size_t words_length,
-    uint8_t *codes, size_t codes_length,
+    uint8_t *codes, size_t codes_length, uint64_t width,
     tree_borrows_pointer pointer, uint64_t length, uint64_t exponent);
 
 /* Copies the words that a load's reply names to the front of `out`, which stays as it is where it is too short.
@@ -209,7 +225,7 @@ size_t tree_borrows_load_view(
 tree_borrows_reply tree_borrows_store(
     const uint64_t *allocs, size_t allocs_length, const uint16_t *parents, size_t parents_length,
     const uint8_t *protectors, size_t protectors_length, uint32_t *words, size_t words_length,
-    uint8_t *codes, size_t codes_length,
+    uint8_t *codes, size_t codes_length, uint64_t width,
     tree_borrows_pointer pointer, const uint32_t *bytes, size_t bytes_length, uint64_t exponent);
 
 /* Makes a reference or box: a child of the pointer's node. Gives the new pointer, with the address of the old one;
@@ -221,7 +237,7 @@ tree_borrows_retag_reply tree_borrows_retag(
     tree_borrows_entry *entries, size_t entries_length, size_t count,
     uint64_t *allocs, size_t allocs_length, uint16_t *parents, size_t parents_length,
     uint8_t *protectors, size_t protectors_length, const uint32_t *words, size_t words_length,
-    uint8_t *codes, size_t codes_length,
+    uint8_t *codes, size_t codes_length, uint64_t width,
     const uint32_t *layout, size_t layout_length, tree_borrows_pointer pointer, tree_borrows_retag_settings settings);
 
 /* Opens a frame: 64 places that are zero, whatever they held. The count is 0. 1 for another number of places, and then
@@ -235,28 +251,29 @@ tree_borrows_reply tree_borrows_end_call(
     const tree_borrows_entry *entries, size_t entries_length, size_t count,
     const uint64_t *allocs, size_t allocs_length, const uint16_t *parents, size_t parents_length,
     uint8_t *protectors, size_t protectors_length, const uint32_t *words, size_t words_length,
-    uint8_t *codes, size_t codes_length, uint8_t *area, size_t area_length);
+    uint8_t *codes, size_t codes_length, uint64_t width, uint8_t *area, size_t area_length);
 
 /* Are `length` bytes from the pointer on inside a live allocation? Gives nothing; changes nothing. */
 tree_borrows_reply tree_borrows_dereferenceable(
     const uint64_t *allocs, size_t allocs_length, const uint16_t *parents, size_t parents_length,
     const uint8_t *protectors, size_t protectors_length, const uint32_t *words, size_t words_length,
-    const uint8_t *codes, size_t codes_length, tree_borrows_pointer pointer, uint64_t length);
+    const uint8_t *codes, size_t codes_length, uint64_t width, tree_borrows_pointer pointer, uint64_t length);
 
-/* The same; a negative length asks for the bytes below the pointer. */
+/* The same; a negative length asks for the bytes below the pointer, and not around address 0. */
 tree_borrows_reply tree_borrows_signed_dereferenceable(
     const uint64_t *allocs, size_t allocs_length, const uint16_t *parents, size_t parents_length,
     const uint8_t *protectors, size_t protectors_length, const uint32_t *words, size_t words_length,
-    const uint8_t *codes, size_t codes_length, tree_borrows_pointer pointer, int64_t length);
+    const uint8_t *codes, size_t codes_length, uint64_t width, tree_borrows_pointer pointer, int64_t length);
 
 /* Is no heap allocation live? 25 gives the one with the lowest number. Changes nothing. */
 tree_borrows_reply tree_borrows_leak_check(
     const uint64_t *allocs, size_t allocs_length, const uint16_t *parents, size_t parents_length,
     const uint8_t *protectors, size_t protectors_length, const uint32_t *words, size_t words_length,
-    const uint8_t *codes, size_t codes_length);
+    const uint8_t *codes, size_t codes_length, uint64_t width);
 
-/* ---- a list of requests, by their words, from the empty memory with no frame open: what the six buffers held is
-   overwritten. It goes on after a refusal. `requests` are the words of all requests, one behind the other, and `ends`
+/* ---- a list of requests, by their words, from the empty memory of 64 bits with no frame open: what the six buffers
+   held is overwritten. A request of kind 15 empties the memory and sets another width; the reply has the last. It goes
+   on after a refusal. `requests` are the words of all requests, one behind the other, and `ends`
    has for each request where its words end, so that request i is the words from ends[i - 1], or 0, up to ends[i].
    The answers go to `answers`, one behind the other: five words each (refusal or 0; TREE_BORROWS_NOTHING, _POINTER or
    _LEAK; first and second for that, as in a reply; the number of loaded words), and the loaded words. So five words

@@ -23,6 +23,7 @@ class Generator:
         self.given = []
         self.allocated = []
         self.open = set()
+        self.width = w.WIDEST
         self.next_address = BASE
         self.most_size = self.random.choice((1, 2, 4, 24))
         # One in so many choices is wild.
@@ -60,10 +61,12 @@ class Generator:
     # ---- one request
 
     def request(self):
-        makers = (self.allocate, self.deallocate, self.load, self.store, self.retag, self.call, self.end, self.deref, self.signed, self.leaks)
-        weights = (0.5, 0.3, 6, 6, 6, 1, 0.5, 1, 0.3, 0.1)
+        makers = (
+            self.allocate, self.deallocate, self.load, self.store, self.retag, self.call, self.end, self.deref, self.signed, self.leaks, self.empty
+        )
+        weights = (0.5, 0.3, 6, 6, 6, 1, 0.5, 1, 0.3, 0.1, 0.2)
         if not self.given:
-            weights = (8, 0, 0.2, 0.2, 0.2, 1, 0, 0, 0, 0.1)
+            weights = (8, 0, 0.2, 0.2, 0.2, 1, 0, 0, 0, 0.1, 1)
         request = self.random.choices(makers, weights)[0]()
         self.follow(w.Request(0, 0, tuple(request)))
         return request
@@ -78,6 +81,14 @@ class Generator:
             self.open.add(request.fourth)
         if request.kind is w.END_CALL:
             self.open.discard(request.fourth)
+        if request.width is not None:
+            self.start_again(request.width)
+
+    def start_again(self, width):
+        self.width = width
+        self.next_address = BASE
+        for known in (self.given, self.allocated, self.open):
+            known.clear()
 
     @staticmethod
     def is_sayable(pointer):
@@ -93,7 +104,7 @@ class Generator:
         """A pointer and an address near it, most often inside its allocation; and how many bytes are left there."""
         if not self.given or self.is_wild():
             provenance = (self.random.randrange(128), self.random.randrange(4096)) if self.random.random() < 0.5 else None
-            return provenance, self.random.choice((BASE, 0, self.random.getrandbits(64))), 1
+            return provenance, self.random.choice((BASE, 0, self.edge(), self.random.getrandbits(64))), 1
         pointer = self.random.choice(self.given)
         if pointer.provenance is None:
             return None, pointer.address, 0
@@ -101,7 +112,11 @@ class Generator:
         offset = self.random.randint(-1, allocation.fourth + 1) if self.is_wild() else self.random.randint(0, min(allocation.fourth, 64))
         if self.random.random() < 0.5:
             offset = 0
-        return pointer.provenance, (allocation.address + offset) % (1 << 64), max(allocation.fourth - offset, 0)
+        return pointer.provenance, (allocation.address + offset) % (1 << self.width), max(allocation.fourth - offset, 0)
+
+    def edge(self):
+        """An address near the end of those that the width has."""
+        return (1 << self.width) - self.random.choice((-1, 0, 1, 2, 9)) & (1 << 64) - 1
 
     def allocate(self):
         size = self.number(self.random.randint(0, self.most_size))
@@ -109,7 +124,7 @@ class Generator:
         alignment = 1 << exponent
         address = -(-self.next_address // alignment) * alignment
         if self.is_wild():
-            address = self.random.choice((0, BASE, (1 << 64) - 2, (1 << 64) - 1, self.random.getrandbits(64)))
+            address = self.random.choice((0, BASE, self.edge(), self.edge(), self.random.getrandbits(64)))
         else:
             self.next_address = address + min(size, 4096) + self.random.randint(0, 8) + (size == 0)
         extra = self.random.randrange(8) if self.is_wild() else self.random.choice((0, 0, 1, 1, 1, 2, 3, 4))
@@ -144,8 +159,9 @@ class Generator:
         style = self.random.randrange(4)
         if style == 0:
             return [w.byte_word(w.Byte(0x5A))] * size
-        if style == 1 and size >= 8 and self.given:
-            return self.pointer_bytes()[:8] + [0] * (size - 8)
+        if style == 1 and size >= w.pointer_bytes(self.width) and self.given:
+            pointer = self.pointer_bytes()
+            return pointer + [0] * (size - len(pointer))
         return [self.byte() for _ in range(size)]
 
     def byte(self):
@@ -153,12 +169,13 @@ class Generator:
             return self.random.getrandbits(32)
         value = self.random.randrange(256)
         numbers = (self.random.randrange(128), self.random.randrange(3))
-        choices = (w.Byte(None), w.Byte(value), w.Byte(value), w.Byte(value, numbers, self.random.randrange(8)))
+        position = self.random.randrange(w.pointer_bytes(self.width))
+        choices = (w.Byte(None), w.Byte(value), w.Byte(value), w.Byte(value, numbers, position))
         return w.byte_word(self.random.choice(choices))
 
     def pointer_bytes(self):
         pointer = self.random.choice(self.given)
-        values = pointer.address.to_bytes(8, "little")
+        values = (pointer.address % (1 << self.width)).to_bytes(w.pointer_bytes(self.width), "little")
         return [w.byte_word(w.Byte(value, pointer.provenance, at if pointer.provenance else 0)) for at, value in enumerate(values)]
 
     def retag(self):
@@ -232,6 +249,9 @@ class Generator:
 
     def leaks(self):
         return w.join(w.LEAK_CHECK, fourth=self.number(0))
+
+    def empty(self):
+        return w.join(w.EMPTY, extra=self.random.randrange(8 if self.is_wild() else 3), fourth=self.number(0))
 
 
 def random_bytes(source, count):

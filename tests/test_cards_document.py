@@ -62,7 +62,7 @@ class Document(TestCase):
             self.assertEqual(status == 0, not is_refused, name)
 
     def test_snippets_that_are_asked_for(self):
-        for title in ("`Vec::push` with a two-phase borrow", "`split_at_mut`", "A protected argument", "`Cell`", "A linked list", "A `Box` that is given away"):
+        for title in ("`Vec::push` with a two-phase borrow", "`split_at_mut`", "A protected argument", "`Cell`", "A linked list", "A `Box` that is given away", "Firmware with 16-bit pointers"):
             self.assertIn(f"\n### {title}", document())
 
     def test_every_word_of_the_notation_is_taught(self):

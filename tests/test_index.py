@@ -56,7 +56,33 @@ class Judged(IndexCase):
         for folder, _, files in os.walk(EXAMPLES):
             for name in files:
                 if name.endswith(".out"):
-                    self.assertIn(name[:-4] + ".hex", files, folder)
+                    self.assertTrue({name[:-4] + ".hex", name[:-4] + ".card"} & set(files), name)
+
+    def test_narrow_pointers(self):
+        """Cards that empty the memory are filed, listed and found changed as all others are, also beside their output."""
+        fits = b"x = heap 2 at 0x10\nempty 16\ny = heap 2 at 0xfffd\n"
+        words = card.to_words(card.read(fits)).encode()
+        self.write("fits.card", fits)
+        self.write("fits.hex", words)
+        self.write("long.card", fits.replace(b"heap 2 at 0xf", b"heap 3 at 0xf"))
+        self.write("wide.card", fits.replace(b"0xfffd", b"0x1fffd"))
+        status, output, error = self.cards("--file", "fits.card", "fits.hex", "long.card", "wide.card")
+        self.assertEqual((status, error), (0, ""))
+        verdicts = ["fits.card: filed as accepted", "fits.hex: filed as accepted", "long.card: filed as 5 at 2", "wide.card: filed as 2 at 2"]
+        self.assertEqual(output.splitlines(), verdicts)
+        self.write("long.out", b"0 0 0.0\n1 0 -\n2 5 -\n")
+        table = (
+            "card       verdict   reason                          filed\n"
+            "fits.card  accepted                                  as filed\n"
+            "fits.hex   accepted                                  as filed\n"
+            "long.card  5 at 2    address fails the test of pick  as filed\n"
+            "wide.card  2 at 2    malformed request               as filed\n"
+            "4 cards: 4 as filed\n"
+        )
+        self.assertEqual(self.cards("."), (0, table, ""))
+        # At 32 bits both fit.
+        self.write("wide.card", read(self.path("wide.card")).replace(b"empty 16", b"empty 32"))
+        self.assertIn("wide.card  accepted                                  changed: filed as 2 at 2\n", self.cards(".")[1])
 
     def test_table(self):
         self.fill()

@@ -30,7 +30,7 @@ class Document(TestCase):
             else:
                 self.assertEqual(command("why", name, cwd=self.folder), (1, text.encode(), ""))
                 shown += 1
-        self.assertEqual(shown, 1)
+        self.assertEqual(shown, 2)
 
     def test_index(self):
         for _, name, text in blocks("index"):

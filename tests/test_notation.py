@@ -64,6 +64,9 @@ class Lines(TestCase):
                 ("deref-signed x -1", f"80000100 {TO_X} ffffffff"),
                 ("deref-signed x+1 -2147483648", "80000100 00000000 00001001 80000000"),
                 ("leaks", "90000000 00000000 00000000 00000000"),
+                ("empty 16", "f0000000 00000000 00000000 00000000"),
+                ("empty 0x20", "f0000001 00000000 00000000 00000000"),
+                ("empty 64", "f0000002 00000000 00000000 00000000"),
             ]
         )
 
@@ -142,8 +145,63 @@ class Lines(TestCase):
     def test_numbers_of_names(self):
         """A pinned or raw pointer adds no node, a reference does; each allocation counts its own."""
         text = START + "a = raw r\nb = &mut x pinned\nc = & r\ny = stack 1 at 16\nd = & y\ne = & c\n"
-        names = notation.read(text.encode()).names
-        self.assertEqual(names, {(0, 0): "x", (0, 1): "r", (0, 2): "c", (1, 0): "y", (1, 1): "d", (0, 3): "e"})
+        [(first, names)] = notation.read(text.encode()).stretches
+        expected = {(0, 0): ["x", "b"], (0, 1): ["r", "a"], (0, 2): ["c"], (1, 0): ["y"], (1, 1): ["d"], (0, 3): ["e"]}
+        self.assertEqual((first, names), (0, expected))
+
+    def test_names_behind_an_emptying(self):
+        """Numbers start at 0 again, names may be given again, and those of before are held apart."""
+        text = START + "raw f0000001 00000000 00000000 00000000\ny = stack 1 at 16\nr = & y\nempty 64\nempty 16\nx = heap 2 at 32\nload x 1\n"
+        self.assertTrue(words(text).endswith("00000001 00000000 00000020 00000002 20000100 00000000 00000020 00000001"))
+        expected = [(0, {(0, 0): ["x"], (0, 1): ["r"]}), (3, {(0, 0): ["y"], (0, 1): ["r"]}), (6, {}), (7, {(0, 0): ["x"]})]
+        self.assertEqual(notation.read(text.encode()).stretches, expected)
+
+    def test_names_that_are_written_behind_an_emptying(self):
+        lines = ["a0 = heap 2 at 0x10", "a0.1 = & a0 2", "empty 16", "a0 = stack 1 at 0x20", "load 0.1@0x10 1", "a0.1 = & a0 1"]
+        run = notation.read("".join(f"{line}\n" for line in lines).encode()).run
+        self.assertEqual(notation.write(run), lines)
+
+    def narrow(self, width, cases):
+        """What lines behind an emptying give, with y as 8 heap bytes at 0x1000 and s as its node 1."""
+        start = f"empty {width}\ny = heap 8 align 4 at 0x1000\ns = &mut y\n"
+        for line, expected in cases:
+            with self.subTest(f"{width}: {line}"):
+                self.assertEqual(words(start + line), f"{words(start)} {expected}")
+                written = notation.write(notation.read((start + line).encode()).run)[3]
+                self.assertEqual(written, line.replace("y", "a0").replace("s", "a0.1").replace("a0.1tore", "store"))
+
+    def test_narrow_pointers(self):
+        """Offsets wrap at the width, and a pointer has as many bytes as the width."""
+        self.narrow(
+            16,
+            [
+                ("load y-4097 1", "20000100 00000000 0000ffff 00000001"),
+                ("load y-32768 1", "20000100 00000000 00009000 00000001"),
+                ("load y+32767 1", "20000100 00000000 00008fff 00000001"),
+                ("load 0.0@0x10000 1", "20000100 00000000 00010000 00000001"),
+                ("load 0x10000 1", "20000000 00000000 00010000 00000001"),
+                ("store y ptr s+4", f"30000100 {TO_X} 00000002 c0000104 c8000110"),
+                ("store y ptr s ptr y", f"30000100 {TO_X} 00000004 c0000100 c8000110 c0000000 c8000010"),
+                ("store y 2a@s:1 2a@s:7", f"30000100 {TO_X} 00000002 c800012a f800012a"),
+            ],
+        )
+        self.narrow(
+            32,
+            [
+                ("load y-4097 1", "20000100 00000000 ffffffff 00000001"),
+                ("load 0.0@0x100000000 1", "20000100 00000001 00000000 00000001"),
+                ("store y ptr s", f"30000100 {TO_X} 00000004 c0000100 c8000110 d0000100 d8000100"),
+            ],
+        )
+        self.narrow(64, [("load y+0xfffff000 1", "20000100 00000001 00000000 00000001")])
+
+    def test_an_allocation_too_high_for_the_width(self):
+        """It is written as it is, for the verdict to refuse; what goes through it has its words too."""
+        text = "empty 16\nx = heap 4 at 0x12340\nload x 1\nload x+1 1\n"
+        high = "f0000000 00000000 00000000 00000000 00000001 00000000 00012340 00000004 20000100 00000000 00012340 00000001"
+        self.assertEqual(words(text), high + " 20000100 00000000 00002341 00000001")
+        run = notation.read(text.encode()).run
+        self.assertEqual(notation.write(run), ["empty 16", "a0 = heap 4 at 0x12340", "load a0 1", "load a0+1 1"])
 
     def test_many_equal_bytes(self):
         line = "store x " + " ".join(["00*65536", "00*65536", "00 00 00 00", "ff*5"])
@@ -172,7 +230,7 @@ class Errors(TestCase):
     def test_statements(self):
         self.fails(
             [
-                ("lod x", ":1: expected 'NAME =' or one of load, store, free, call, end, deref, deref-signed, leaks, raw, found lod"),
+                ("lod x", ":1: expected 'NAME =' or one of load, store, free, call, end, deref, deref-signed, leaks, empty, raw, found lod"),
                 ("a = hep 4 at 16", ":5: expected one of stack, heap, global, function, vtable, vtable-ptr, fn-ptr, &mut, box, raw, &, found hep"),
                 ("x = heap 1 at 16", ":1: x is named already, on line 1"),
                 ("heap = heap 1 at 16", ":1: heap is a word of the notation, and no name"),
@@ -181,7 +239,30 @@ class Errors(TestCase):
                 ("load", ":5: expected a place: a name, or an address, found the end of the line"),
                 ("load y 1", ":6: nothing is named y yet"),
                 ("é = & y", ":7: nothing is named y yet"),
-                ("loadx 1", ":1: expected 'NAME =' or one of load, store, free, call, end, deref, deref-signed, leaks, raw, found loadx"),
+                ("loadx 1", ":1: expected 'NAME =' or one of load, store, free, call, end, deref, deref-signed, leaks, empty, raw, found loadx"),
+            ]
+        )
+
+    def test_emptyings(self):
+        self.fails(
+            [
+                ("empty 24", ":7: a width is 16, 32 or 64, and 24 is none"),
+                ("empty 0", ":7: a width is 16, 32 or 64, and 0 is none"),
+                ("empty", ":6: expected a width, 16, 32 or 64, found the end of the line"),
+                ("empty x", ":7: expected a width, 16, 32 or 64, found x"),
+                ("empty 16 32", ":10: expected the end of the line, found 32"),
+                ("empty = heap 1 at 16", ":1: empty is a word of the notation, and no name"),
+                ("a = empty 16", ":5: expected one of stack, heap, global, function, vtable, vtable-ptr, fn-ptr, &mut, box, raw, &, found empty"),
+                ("empty 64\nload x 1", ":6: x is gone: the memory was emptied on line 3"),
+                ("empty 64\nempty 64\na = & r", ":7: r is gone: the memory was emptied on line 3"),
+                ("empty 64\nx = heap 1 at 16\nempty 64\nload x", ":6: x is gone: the memory was emptied on line 5"),
+                ("empty 64\nstore 0x10 ptr x", ":16: x is gone: the memory was emptied on line 3"),
+                ("empty 64\nstore 0x10 01@r:0", ":15: r is gone: the memory was emptied on line 3"),
+                ("empty 64\nfree x", ":6: x is gone: the memory was emptied on line 3"),
+                ("empty 64\nload y", ":6: nothing is named y yet"),
+                ("empty 16\nstore 0x10 ptr 0x10000", ":16: a pointer of 16 bits is at most 0xffff, and this is 0x10000"),
+                ("empty 32\nstore 0x10 ptr 0.0@0x100000000", ":16: a pointer of 32 bits is at most 0xffffffff, and this is 0x100000000"),
+                ("empty 16\nstore 0x10 01@0.0:8", ":19: a position is at most 7, and this is 8"),
             ]
         )
 

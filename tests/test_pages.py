@@ -159,6 +159,23 @@ class Pages(PagesCase):
         self.assertNotIn("svg", page.tags)
         self.assertIn("  └─ x  0x10..0x11 Frozen, 0x11..0x12 Reserved  <- refused here", "".join(page.text))
 
+    def test_narrow_pointers(self):
+        """What an emptying drops has its name of before, what is made behind it the new one; the width stands above the trees."""
+        old = "r = heap 1 at 0x10\nq = &mut r\ncall 5\n"
+        narrow = self.write("a.card", f"# verdict: 18 at 8\n{old}empty 16\n{REFUSED}")
+        self.assertEqual(self.without_graphviz(narrow)[::2], (0, ""))
+        text = "".join(self.page("cards/a.card.html").text)
+        told = ["empty 16", "pointers have 16 bits: addresses end at 0xffff", "r: dropped, live heap, 1 byte at 0x10", "frame 5: closed", "x at byte 0x10: Frozen"]
+        for said in told:
+            self.assertIn(said, text)
+        self.assertEqual(text.count("pointers have 16 bits"), 2)
+        self.assertIn("  └─ x  0x10..0x11 Frozen, 0x11..0x12 Reserved  <- refused here", text)
+        os.remove(narrow)
+        shutil.rmtree(self.path("tools"))
+        wide = self.write("a.card", f"# verdict: 18 at 8\n{old}empty 64\n{REFUSED}")
+        self.assertEqual(self.without_graphviz(wide)[::2], (0, ""))
+        self.assertEqual("".join(self.page("cards/a.card.html").text).count("pointers have 64 bits"), 1)
+
     @unittest.skipUnless(shutil.which("dot"), "Graphviz is not there")
     def test_trees_drawn(self):
         path = self.write("a.card", "c = stack 1 at 0x20\n" + REFUSED)

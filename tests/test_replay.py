@@ -65,6 +65,26 @@ class Replays(TestCase):
         self.assertEqual(len(replay.replay(run, counted)), 4001)
         self.assertLess(len(judged), 30)
 
+    def test_emptyings(self):
+        """What stands before an emptying and is made again behind it is no stretch in which nothing changes."""
+        lines = ("x = heap 1 at 0x10", "empty 64", "x = heap 1 at 0x10", "load x 1", "empty 16", "empty 32", "x = heap 1 at 0x10")
+        run = card.read("\n".join(lines).encode()).run
+        steps = replay.replay(run, judge)
+        self.assertEqual([len(step.after.allocations) for step in steps], [1, 0, 1, 1, 0, 0, 1])
+        self.assertEqual([step.empties for step in steps], [False, True, False, False, True, True, False])
+        self.assertEqual(replay.since_emptied(steps), (steps[5], steps[6:]))
+        self.assertEqual(replay.since_emptied(steps[:1]), (None, steps[:1]))
+        self.assertEqual(replay.since_emptied(steps[:2]), (steps[1], []))
+        dropped = changes.between(steps[1].before, steps[1].after)
+        self.assertEqual(dropped, [changes.Dropped(steps[0].after.allocations[0])])
+        self.assertEqual(changes.between(steps[5].before, steps[5].after), [])
+
+    def test_an_emptying_that_is_refused_drops_nothing(self):
+        steps = replay.replay(card.read(b"x = heap 1 at 0x10\nraw f0000003 00000000 00000000 00000000\n").run, judge)
+        self.assertEqual((steps[1].answer.refusal, steps[1].empties), (2, False))
+        self.assertEqual(steps[1].before, steps[1].after)
+        self.assertEqual(replay.since_emptied(steps), (None, steps))
+
     def test_no_request(self):
         self.assertEqual(replay.replay(b"", judge), [])
 
@@ -94,6 +114,10 @@ def changed(found, made):
         elif isinstance(change, changes.Protector):
             assert found[change.pointer][0] == change.before
             found[change.pointer] = (change.after, found[change.pointer][1])
+        elif isinstance(change, changes.Dropped):
+            assert found.pop(change.allocation.number) == change.allocation.state
+            for node in change.allocation.nodes:
+                assert found.pop(node.pointer) == (node.protector, node.codes)
         else:
             assert found[change.allocation] == change.before
             found[change.allocation] = change.after

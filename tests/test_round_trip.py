@@ -56,9 +56,9 @@ class RoundTrip(TestCase):
     def check_reasons(self, run, refused):
         """What the commands say of 2 and 3 is what the program says: a reason for those requests, and for no others."""
         last = refused.index if refused else None
-        frames = w.Frames()
+        standing = w.Standing()
         for request in w.requests(run):
-            malformed = w.malformed(request, frames.open)
+            malformed = w.malformed(request, standing)
             if request.index == last:
                 self.assertEqual(malformed is not None, refused.refusal == 2, malformed)
                 if malformed is None:
@@ -66,7 +66,7 @@ class RoundTrip(TestCase):
                 return
             self.assertIsNone(malformed)
             self.assertIsNone(w.no_mask(request))
-            frames.follow(request.kind_number, request.fourth)
+            standing.follow(request.words[0], request.fourth)
 
     def test_accepted_requests_have_names(self):
         """What the program accepts is said in names, but for a pinned reference whose unread words are no layout."""

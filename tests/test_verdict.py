@@ -7,7 +7,7 @@ import subprocess
 import threading
 import unittest
 
-from support import ACCEPTED, ACCEPTED_OUTPUT, BIN, REFUSED, REFUSED_OUTPUT, TestCase, command, example_paths, program, read
+from support import ACCEPTED, ACCEPTED_OUTPUT, BIN, REFUSED, REFUSED_OUTPUT, TestCase, command, example_paths, program, read, refusal
 
 from hiedukson import card, verdicts
 from hiedukson import words as w
@@ -20,6 +20,12 @@ def shell(line, *arguments):
     """Run a line of the shell, in which "$@" are the command and its arguments."""
     done = subprocess.run(["sh", "-c", line, "sh", VERDICT, *arguments], stdout=subprocess.PIPE, stderr=subprocess.PIPE, check=False)
     return done.returncode, done.stdout, done.stderr.decode()
+
+
+def refused(*requests):
+    """The number of the refusal of a run; 0 where it is accepted."""
+    found = refusal(b"".join(map(w.bytes_of, requests)))
+    return found.refusal if found else 0
 
 
 class Output(TestCase):
@@ -151,6 +157,10 @@ class Refusals(TestCase):
             ("frame 2 is not open", [one, call, retag(fourth=0xE1000002)]),
             ("frame 32, there are 0 to 31", [w.join(w.NEW_CALL, fourth=32)]),
             ("there is no kind 12", [(0xC0000000, 0, 0, 0)]),
+            ("extra 3, outside its list 0 to 2", [w.join(w.EMPTY, extra=3)]),
+            ("unused field: fourth word is 1, and must be zero in an emptying", [w.join(w.EMPTY, fourth=1)]),
+            ("unused field: has provenance is 1", [w.join(w.EMPTY, (0, 0))]),
+            ("frame 3 is not open", [call, w.join(w.EMPTY, extra=2), w.join(w.END_CALL, fourth=3)]),
             ("4,097 words after its fourth, at most 4,096 may be", [one, (0x30000100, 0, 16, 4097)]),
             ("4,194,304 words after its fourth, at most 4,096 may be", [one, (0x40000101, 0, 16, 0x60400000)]),
             ("the run ends inside it: 3 of 4 words are there", [one, (0x20000100, 0, 16)]),
@@ -185,7 +195,43 @@ class Refusals(TestCase):
         ]
         for request in others:
             self.assertIsNone(verdicts.refusal_of(program().run(w.bytes_of(one + request))))
-            self.assertIsNone(w.malformed(w.Request(1, 4, request), set()))
+            self.assertIsNone(w.malformed(w.Request(1, 4, request), w.Standing()))
+
+    def test_what_is_too_wide(self):
+        """Addresses and positions from the width on are refused with 2, in every kind that has them; one less is not."""
+        for extra, width in enumerate(w.WIDTHS[:-1]):
+            empty = w.join(w.EMPTY, extra=extra)
+            most = (1 << width) - 1
+            for kind in (w.ALLOCATE, w.DEALLOCATE, w.LOAD, w.STORE, w.DEREFERENCEABLE, w.SIGNED_DEREFERENCEABLE):
+                said = self.said(empty, w.join(kind, address=most + 1))
+                self.assertIn(f"2: malformed request: address {most + 1:#x}, at most {most:#x} may be at {width} bits", said)
+                self.assertNotEqual(refused(empty, w.join(kind, address=most)), 2)
+            for pointer in (0, 1, 3):
+                said = self.said(empty, w.join(w.RETAG, extra=pointer, address=most + 1))
+                self.assertIn(f"2: malformed request: address {most + 1:#x}", said)
+                self.assertNotEqual(refused(empty, w.join(w.RETAG, extra=pointer, address=most)), 2)
+            for position in range(8):
+                word = w.byte_word(w.Byte(7, (1, 2), position))
+                said = self.said(empty, w.join(w.STORE, address=16, fourth=2, following=(0, word)))
+                expected = f"2: malformed request: byte 1: position {position} in a pointer, which has positions 0 to {width // 8 - 1} at {width} bits"
+                self.assertEqual(expected in said, position >= width // 8, said)
+                self.assertEqual("7: missing provenance" in said, position < width // 8, said)
+
+    def test_the_width_is_that_of_the_last_emptying(self):
+        narrow, wide = w.join(w.EMPTY, extra=0), w.join(w.EMPTY, extra=2)
+        load = w.join(w.LOAD, address=1 << 32)
+        self.assertEqual(refused(load), 0)
+        self.assertEqual(refused(narrow, wide, load), 0)
+        self.assertIn("at most 0xffff may be at 16 bits", self.said(wide, narrow, load))
+
+    def test_names_behind_an_emptying(self):
+        """The same numbers, by the names that are given since, and by those of before up to the emptying."""
+        text = "x = heap 2 at 16\nempty 32\ny = heap 1 at 32\nx = heap 1 at 48\nload x+1 1\n"
+        error = command("verdict", self.write("a.card", text))[2]
+        self.assertIn("a.card:5: request 4, load 1 byte at 0x31 through x (1.0): refused, 9: out of bounds\n", error)
+        text = "x = heap 2 at 16\nload x+2 1\nempty 32\ny = heap 1 at 32\n"
+        error = command("verdict", self.write("a.card", text))[2]
+        self.assertIn("a.card:2: request 1, load 1 byte at 0x12 through x (0.0): refused, 9: out of bounds\n", error)
 
     def test_bytes_left_over(self):
         error = command("verdict", "-b", self.write("a.bin", b"\0\0\0\1\0"))[2]

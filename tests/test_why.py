@@ -82,6 +82,77 @@ b: allocation 0, live heap, 2 bytes at 0x10, alignment 1
   └─ x (also p)  0x10..0x11 Unique, 0x11..0x12 Reserved
 """
 
+# A memory is emptied while a call is open; what is then made has the numbers of what was dropped.
+EMPTIED = """\
+b = heap 2 at 0x10
+x = &mut b
+g = global 1 at 0x20
+free b
+call 3
+call 0
+empty 16                 # firmware
+b = heap 6 align 2 at 0xfff8
+y = &mut b 2
+store y 07
+store b+2 ptr b+4
+load b 4
+store y 08
+"""
+
+EMPTIED_SAID = """\
+{name}: refused, 18 at 12: local write of Frozen
+
+#0  line 1  b = heap 2 at 0x10
+      b: new allocation, bytes 0x10..0x12 Unique
+#1  line 2  x = &mut b
+      x: new, below b, bytes 0x10..0x12 Reserved
+#2  line 3  g = global 1 at 0x20
+      g: new allocation, bytes 0x20..0x21 Unique
+#3  line 4  free b
+      b: live -> dead
+      x: bytes 0x10..0x12 Reserved -> Disabled
+#4  line 5  call 3
+#5  line 6  call 0
+#6  line 7  empty 16
+      pointers have 16 bits: addresses end at 0xffff
+      b: dropped, dead heap, 2 bytes at 0x10
+      g: dropped, live global, 1 byte at 0x20
+      frame 0: closed
+      frame 3: closed
+#7  line 8  b = heap 6 align 2 at 0xfff8
+      b: new allocation, bytes 0xfff8..0xfffe Unique
+#8  line 9  y = &mut b 2
+      y: new, below b, bytes 0xfff8..0xfffe Reserved
+#9  line 10  store y 07
+      y: bytes 0xfff8..0xfff9 Reserved -> Unique
+#10  line 11  store b+2 ptr b+4
+      y: bytes 0xfffa..0xfffc Reserved -> Disabled
+#11  line 12  load b 4
+      loads 07 __ ptr b at 0xfffc
+      y: bytes 0xfff8..0xfff9 Unique -> Frozen
+#12  line 13  store y 08
+      refused, 18: local write of Frozen
+
+#12 is refused, 18: local write of Frozen
+  met: y at byte 0xfff8: Frozen
+    made Reserved             #8   y = &mut b 2
+    became Unique             #9   store y 07
+    became Frozen             #11  load b 4
+    last read, foreign to y   #11  load b 4
+    last written, local to y  #9   store y 07
+  rule: A write needs every reference on its pointer's path to be Cell, Reserved or Unique at the
+        byte. A shared reference is Frozen outside its cells; a mutable one that was written through
+        becomes Frozen when a pointer that is not borrowed from it reads the byte.
+  advice: Do that read before the first write through y, or read through y, or borrow it again after
+          the read.
+
+pointers have 16 bits: addresses end at 0xffff
+
+b: allocation 0, live heap, 6 bytes at 0xfff8, alignment 2
+  b  0xfff8..0xfffe Unique
+  └─ y  0xfff8..0xfff9 Frozen, 0xfff9..0xfffa Reserved, 0xfffa..0xfffc Disabled, 0xfffc..0xfffe Reserved  <- refused here
+"""
+
 DOT = """\
 digraph card {
   graph [fontname=monospace, fontsize=11];
@@ -126,6 +197,46 @@ class Said(TestCase):
             status, picture, error = run(["dot", "-Tsvg"], graph)
             self.assertEqual((status, error), (0, ""), name)
             self.assertIn(b"<svg", picture)
+
+    def test_emptied(self):
+        """The width, what is dropped, and the names and numbers of before and behind."""
+        path = self.write("x.card", EMPTIED)
+        self.assertEqual(self.why(path), (1, EMPTIED_SAID.format(name=path), ""))
+
+    def test_emptied_at(self):
+        """The state that is shown has the width that was in force then; that of 64 bits is not said."""
+        path = self.write("x.card", EMPTIED + "empty 64\n")
+        width = "\n\npointers have 16 bits: addresses end at 0xffff\n\n"
+        for at, is_narrow in ((5, False), (6, True), (8, True)):
+            status, said, _ = self.why("--at", str(at), path)
+            self.assertEqual((status, width in said), (0, is_narrow), at)
+        self.assertTrue(self.why("--at", "6", path)[1].endswith(f"{width}no allocation was made since #6\n"))
+        said = self.why(data=b"empty 16\nx = heap 1 at 0x10\nempty 64\ny = heap 1 at 0x20\n")[1]
+        self.assertNotIn(width, said)
+        self.assertIn("#2  line 3  empty 64\n      pointers have 64 bits: addresses end at 0xffffffffffffffff\n      x: dropped", said)
+
+    def test_emptied_dot(self):
+        path = self.write("x.card", EMPTIED)
+        caption = '  label="pointers have 16 bits: addresses end at 0xffff"; labelloc=t;\n'
+        self.assertIn(caption, self.why("--dot", path)[1])
+        self.assertNotIn("labelloc", self.why("--dot", "--at", "5", path)[1])
+
+    def test_emptied_words(self):
+        """By numbers, which start again."""
+        path = self.write("x.hex", card.to_words(card.read(EMPTIED.encode())))
+        said = self.why(path)[1]
+        self.assertIn("#6  line 7  empty, width 16\n      pointers have 16 bits: addresses end at 0xffff\n      0.0: dropped, dead", said)
+        self.assertIn("  met: 0.1 at byte 0xfff8: Frozen\n    made Reserved               #8 ", said)
+
+    def test_pointers_of_each_width(self):
+        """A loaded pointer has as many bytes as the width; with fewer, or of another width, it is told byte by byte."""
+        for width, others in ((16, "10@b:0 00@b:1 __"), (32, "10@b:0 00@b:1 00@b:2 00@b:3 __"), (64, None)):
+            lines = f"empty {width}\nb = heap 9 at 0x10\nstore b ptr b\nload b {width // 8 + 1}\nload b {width // 8 - 1}\n"
+            said = self.why(data=lines.encode())[1]
+            self.assertIn("      loads ptr b at 0x10 __\n", said)
+            self.assertIn("      loads 10@b:0", said)
+            if others:
+                self.assertNotIn(f"      loads {others}\n", said)
 
     def test_words_and_bytes(self):
         """A card as words or bytes says the same by numbers, and bytes have no lines."""
@@ -215,6 +326,18 @@ class Refusals(TestCase):
             "x = heap 2 align 2 at 0x11\n": "  0x11 is no multiple of 2\n",
             "x = heap 2 at 0\n": "  the address is 0\n",
             "x = heap 2 at 0xfffffffffffffffe\n": "  it would end at 0x10000000000000000, above 2^64 - 1\n",
+            "empty 16\nx = heap 2 at 0xfffe\n": "  it would end at 0x10000, above 2^16 - 1\n  #0, empty 16, has dropped all allocations",
+            "empty 32\nx = heap 2 at 0xffffffff\n": "  it would end at 0x100000001, above 2^32 - 1\n  #0, empty 32, has dropped all",
+            "empty 16\nx = heap 1 at 0xffff\n": "  it would end at 0x10000, above 2^16 - 1\n",
+            "empty 16\nx = heap 2 at 0xfff0\ny = heap 2 at 0xfff1\n": "  it overlaps x: allocation 0, live heap, 2 bytes at 0xfff0, alignment 1\n  rule:",
+            "empty 16\nload 0x10000 1\n": "  address 0x10000, at most 0xffff may be at 16 bits\n  #0, empty 16, has dropped all allocations and closed all frames; pointers have 16 bits since\n",
+            "empty 16\nempty 32\nx = raw 0x100000000\n": "  address 0x100000000, at most 0xffffffff may be at 32 bits\n  #1, empty 32, has",
+            "empty 16\nx = heap 2 at 0x10\nstore x 00 2a@x:2\n": "  byte 1: position 2 in a pointer, which has positions 0 to 1 at 16 bits\n",
+            "call 0\nempty 64\nend 0\n": "  frame 0 is not open\n  #1, empty 64, has dropped all allocations and closed all frames; pointers have 64 bits since\n",
+            "x = heap 2 at 0x10\nempty 64\nload 0.0@0x10 1\n": "  allocation 0 is named, and 0 allocations made\n  #1, empty 64, has dropped all allocations",
+            "x = heap 2 at 0x10\nfree x\nempty 64\nx = heap 2 at 0x10\nfree x\nload x 1\n": "  x is dead since #4, free x\n  rule:",
+            "x = heap 2 at 0x10\nempty 64\nx = heap 3 at 0x10\nleaks\n": "  it was made at #2, x = heap 3 at 0x10\n  rule:",
+            "raw f0000007 00000000 00000000 00000000\n": "  extra 7, outside its list 0 to 2\n  rule:",
             "x = heap 4 at 0x10\nload x+1 2 align 2\n": "  0x11 lies 1 above a multiple of 2\n",
             "x = heap 2 at 0x10\nfree x\nload x 1\n": "  x is dead since #1, free x\n",
             "x = heap 2 at 0x10\nload x+1 2\n": "  x: allocation 0, live heap, 2 bytes at 0x10, alignment 1\n",
@@ -244,6 +367,14 @@ class Refusals(TestCase):
         lines += [f"x{number} = & b in 3" for number in range(65)]
         _, output, _ = command("why", data="\n".join(lines).encode())
         self.assertIn("#69 is refused, 15: size exceeded\n", output.decode())
+        self.assertIn("  frame 3 holds 64 of 64 protected references\n", output.decode())
+
+    def test_a_frame_that_an_emptying_closed(self):
+        """Entries are counted since the frame was opened again."""
+        lines = ["b = heap 1 at 0x10", "call 3", "x = & b in 3", "empty 16", "b = heap 1 at 0x10", "call 3"]
+        lines += [f"x{number} = & b in 3" for number in range(65)]
+        _, output, _ = command("why", data="\n".join(lines).encode())
+        self.assertIn("#70 is refused, 15: size exceeded\n", output.decode())
         self.assertIn("  frame 3 holds 64 of 64 protected references\n", output.decode())
 
     def test_facts_of_generated_runs(self):

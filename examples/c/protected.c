@@ -1,5 +1,6 @@
 /* The library from C: an argument of a call is protected, so a write through another pointer is refused while the
-   call lasts. First request by request on a memory of our own, then a whole run as one list. */
+   call lasts. First request by request on a memory of our own, then a whole run as one list, and last the end of a
+   memory with 16-bit pointers. */
 #include <inttypes.h>
 #include <stdio.h>
 #include <stdlib.h>
@@ -38,6 +39,7 @@ static void request_by_request(void) {
     uint32_t loaded[1];
     size_t count;
 
+    memory.width = 64;
     expect("new", tree_borrows_new(TREE_BORROWS_LENT(&memory)), TREE_BORROWS_ACCEPTED);
     reply = tree_borrows_allocate(TREE_BORROWS_LENT(&memory), TREE_BORROWS_HEAP, 1, 0, 0x10);
     expect("allocate", reply, TREE_BORROWS_ACCEPTED);
@@ -96,9 +98,9 @@ static void as_one_list(void) {
     tree_borrows_list_reply list;
     size_t i;
 
-    list = tree_borrows_run_list(TREE_BORROWS_LENT(&memory), frames, TREE_BORROWS_FRAMES, requests, 36, ends, 8, answers,
+    list = tree_borrows_run_list(TREE_BORROWS_BUFFERS(&memory), frames, TREE_BORROWS_FRAMES, requests, 36, ends, 8, answers,
                                  8 * 5 + 1);
-    if (list.refusal != TREE_BORROWS_ACCEPTED || !list.whole || list.at != 8 * 5 + 1)
+    if (list.refusal != TREE_BORROWS_ACCEPTED || !list.whole || list.at != 8 * 5 + 1 || list.width != 64)
         exit(1);
     printf("list:");
     for (i = 0; i < 8; i++) {
@@ -112,8 +114,31 @@ static void as_one_list(void) {
     printf("\n");
 }
 
+/* Firmware with 16-bit pointers: what lies at the end of its memory. */
+static void narrow(void) {
+    const uint32_t third_byte_of_a_pointer[] = {0xd0000000};
+    tree_borrows_reply reply;
+    tree_borrows_pointer root;
+
+    memory.width = 16;
+    expect("new, 16 bits", tree_borrows_new(TREE_BORROWS_LENT(&memory)), TREE_BORROWS_ACCEPTED);
+    expect("allocate up to 0x10000", tree_borrows_allocate(TREE_BORROWS_LENT(&memory), TREE_BORROWS_GLOBAL, 16, 0, 0xfff0),
+           TREE_BORROWS_FAILS_PICK);
+    reply = tree_borrows_allocate(TREE_BORROWS_LENT(&memory), TREE_BORROWS_GLOBAL, 15, 0, 0xfff0);
+    expect("allocate up to 0xffff", reply, TREE_BORROWS_ACCEPTED);
+    root = given(reply, 0xfff0);
+    expect("store the third byte of a pointer",
+           tree_borrows_store(TREE_BORROWS_LENT(&memory), root, third_byte_of_a_pointer, 1, 0), TREE_BORROWS_MALFORMED);
+    root.address = 0x10000;
+    expect("load nothing at 0x10000", tree_borrows_load(TREE_BORROWS_LENT(&memory), root, 0, 0), TREE_BORROWS_MALFORMED);
+    expect("leak check", tree_borrows_leak_check(TREE_BORROWS_LENT(&memory)), TREE_BORROWS_ACCEPTED);
+    memory.width = 24;
+    expect("leak check, 24 bits", tree_borrows_leak_check(TREE_BORROWS_LENT(&memory)), TREE_BORROWS_NOT_WELL_FORMED);
+}
+
 int main(void) {
     request_by_request();
     as_one_list();
+    narrow();
     return 0;
 }

@@ -5,8 +5,8 @@
     card.run                the bytes of its run
     card.line_of(request)   the line that a request starts on; None in bytes
     card.line(number)       the text of a line
-    card.name_of(pointer)   the name of (allocation, node): the notation's first one, else '0.1'
-    card.said_of(request)   the name that a request's line has for its pointer, else as name_of
+    card.names              what its pointers are called, and up to which emptying
+    card.said_of(request)   the name that a request's line has for its pointer; else the pointer's first one, or '0.1'
     card.lines()            its lines in order, each a request's index, a comment, both or neither
     to_words(card)          the card as hexadecimal text; comments stay with their lines
     to_names(card)          the card in the notation; comments stay with their lines
@@ -18,7 +18,7 @@ digits or starts with a digit, and has no '='.
 
 import re
 
-from . import notation, text
+from . import names, notation, text
 from . import words as w
 from .errors import CardError
 
@@ -38,6 +38,7 @@ class Card:
         self.data = data
         self.run = run
         self.source = source
+        self.names = names.Course(source.stretches) if source else names.NAMELESS
 
     def line_of(self, request):
         """The line that a request starts on."""
@@ -51,19 +52,15 @@ class Card:
         """The text of a line, by its number."""
         return self.data.split(b"\n")[number - 1].decode("utf-8", "replace").strip()
 
-    def name_of(self, pointer):
-        """What a pointer is called, by (allocation, node)."""
-        names = self.source.names if self.source else {}
-        return names.get(pointer, "{}.{}".format(*pointer))
-
     def said_of(self, request):
         """What the request's own line calls its pointer, which may have several names."""
+        known = self.names.at(request.index)
         if self.source is not None:
-            aliases = self.source.aliases.get(request.pointer, [])
+            aliases = known.all_of(request.pointer)
             for name in notation.names_in(self.line(self.line_of(request))):
                 if name in aliases:
                     return name
-        return self.name_of(request.pointer)
+        return known.of(request.pointer)
 
     def lines(self):
         """The card's lines: pairs of a request's index, or None, and a comment, or ''."""

@@ -1,4 +1,5 @@
-"""What a request changed: the difference of two memories. No request takes away an allocation or a node.
+"""What a request changed: the difference of two memories. An emptying takes all allocations away, and no other
+request takes an allocation or a node.
 
     between(before, after)              the changes, allocation by allocation, nodes in order of making
     in_words(change, memory, names)     a change as a line: 'x: bytes 0x10..0x12 Reserved -> Unique'
@@ -8,6 +9,7 @@ import itertools
 from typing import NamedTuple
 
 from . import memories, permissions
+from .words import count
 
 
 class Made(NamedTuple):
@@ -41,10 +43,18 @@ class State(NamedTuple):
     after: str
 
 
+class Dropped(NamedTuple):
+    """An allocation, live or dead, that an emptying took away."""
+
+    allocation: memories.Allocation
+
+
 def between(before, after):
     found = []
     if before is after:
         return found
+    if not after.allocations:
+        return [Dropped(allocation) for allocation in before.allocations]
     for allocation in after.allocations:
         old = before.allocation(allocation.number)
         if old is not allocation:
@@ -106,4 +116,10 @@ def _state(change, memory, names):
     return f"{names.of(root)}: {change.before} -> {change.after}"
 
 
-_SAID = {Made: _made, Became: _became, Protector: _protector, State: _state}
+def _dropped(change, _memory, names):
+    allocation = change.allocation
+    size = count(allocation.size, "byte")
+    return f"{names.of(allocation.root)}: dropped, {allocation.state} {allocation.kind}, {size} at {allocation.address:#x}"
+
+
+_SAID = {Made: _made, Became: _became, Protector: _protector, State: _state, Dropped: _dropped}

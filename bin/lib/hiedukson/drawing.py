@@ -2,7 +2,7 @@
 
     heading(allocation, names)            an allocation in words
     text(allocation, names, marked)       the lines of one allocation's tree; `marked` is a spot or None
-    dot(allocations, names, marked)       the trees of some allocations as one graph
+    dot(allocations, names, marked, caption)   the trees of some allocations as one graph
     svgs(graphs)                          graphs as SVG, or None where Graphviz's `dot` is not there
 """
 
@@ -67,9 +67,10 @@ def _row(allocation, node):
 # ---- DOT
 
 
-def dot(allocations, names, marked=None):
-    """Allocations as one graph: each a cluster, nodes in order of making, then the edges."""
+def dot(allocations, names, marked=None, caption=""):
+    """Allocations as one graph: each a cluster, nodes in order of making, then the edges. The caption stands above all."""
     lines = ["digraph card {", "  graph [fontname=monospace, fontsize=11];", "  node [shape=box, fontname=monospace, fontsize=11];"]
+    lines += [f"  label={_quoted(caption)}; labelloc=t;"] * bool(caption)
     for allocation in allocations:
         lines += _cluster(allocation, names, marked)
     return "\n".join(lines + ["}", ""])

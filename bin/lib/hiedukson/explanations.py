@@ -39,7 +39,9 @@ class Explanation(NamedTuple):
 
 
 def explain(steps, names, say):
-    """The explanation of the refusal of the last step."""
+    """The explanation of the refusal of the last step. Its names and numbers are those since the last emptying."""
+    standing = _standing(steps[:-1])
+    emptying, steps = replay.since_emptied(steps)
     step = steps[-1]
     spot = history.met(step)
     rule = rules.RULES.get(step.answer.refusal, rules.Rule("", ""))
@@ -49,10 +51,18 @@ def explain(steps, names, say):
         spot,
         _met(step, spot, names) if spot else "",
         tuple(_events(steps, spot, names, say)) if spot else (),
-        tuple(_facts(Case(steps[:-1], step, names, say))),
+        tuple(_facts(Case(steps[:-1], step, names, say, standing, emptying))),
         rule.rule,
         _advice(steps, spot, names, rule),
     )
+
+
+def _standing(steps):
+    """What holds behind some steps: the open frames, and the width."""
+    standing = words.Standing()
+    for step in steps:
+        standing.follow(step.request.words[0], step.request.fourth)
+    return standing
 
 
 # ---- the permission that was met
@@ -93,12 +103,15 @@ def _advice(steps, spot, names, rule):
 
 
 class Case(NamedTuple):
-    """A refusal: the steps before it, the refused one, and how nodes and steps are called."""
+    """A refusal: the steps before it, back to the last emptying, the refused one, how nodes and steps are called, what
+    holds before the refused one, and that emptying, where there is one."""
 
     earlier: list
     step: replay.Step
     names: Names
     say: Callable
+    standing: words.Standing
+    emptying: Optional[replay.Step]
 
     @property
     def request(self):
@@ -114,11 +127,16 @@ def _facts(case):
     return about(case) if about else ()
 
 
+def _emptied(case):
+    """What the last emptying has to do with it: it took frames and allocations, and set the width."""
+    if case.emptying is not None:
+        said = f"#{case.emptying.request.index}, {case.say(case.emptying)}"
+        yield f"{said}, has dropped all allocations and closed all frames; pointers have {case.standing.width} bits since"
+
+
 def _malformed(case):
-    frames = words.Frames()
-    for step in case.earlier:
-        frames.follow(step.request.kind_number, step.request.fourth)
-    yield words.malformed(case.request, frames.open)
+    yield words.malformed(case.request, case.standing)
+    yield from _emptied(case)
 
 
 def _without_mask(case):
@@ -132,6 +150,7 @@ def _never_made(case):
     else:
         made = words.count(len(allocation.nodes), "node")
         yield f"node {case.step.pointer.node} of {case.names.of(allocation.root)} is named, and {made} made"
+    yield from _emptied(case)
 
 
 def _fails_pick(case):
@@ -141,8 +160,9 @@ def _fails_pick(case):
         yield "the address is 0"
     if request.address % (1 << request.exponent):
         yield f"{request.address:#x} is no multiple of {1 << request.exponent}"
-    if end > 2**64 - 1:
-        yield f"it would end at {end:#x}, above 2^64 - 1"
+    if end > words.most_address(case.standing.width):
+        yield f"it would end at {end:#x}, above 2^{case.standing.width} - 1"
+        yield from _emptied(case)
     for other in case.memory.allocations:
         if other.state != memories.DEAD and _overlap(request.address, end, other):
             yield f"it overlaps {drawing.heading(other, case.names)}"

@@ -293,7 +293,9 @@ def _trees(report):
         text = "\n".join(reports.tree_lines(report, last))
         drawn = f"<pre>{escape(text)}</pre>"
     when = "before the refused request" if report.explanation else "at the end"
-    return f'<h2>The trees {when}</h2>\n<div class="trees">{drawn}</div>'
+    width = reports.width_line(report, last)
+    about = f'<p class="quiet">{_text(width)}</p>\n' if width else ""
+    return f'<h2>The trees {when}</h2>\n{about}<div class="trees">{drawn}</div>'
 
 
 def _pictures(report, place, allocations):
@@ -301,7 +303,8 @@ def _pictures(report, place, allocations):
     if sum(len(allocation.nodes) for allocation in allocations) > MOST_DRAWN:
         return None
     marked = report.spot_at(place)
-    drawn = drawing.svgs([drawing.dot([allocation], report.names, marked) for allocation in allocations])
+    names = report.names.at(place)
+    drawn = drawing.svgs([drawing.dot([allocation], names, marked) for allocation in allocations])
     return drawn and "".join(f'<div class="tree">{each}</div>' for each in drawn)
 
 

@@ -1,7 +1,7 @@
 """Which pointer a request gives, by its words.
 
-Allocations and nodes are numbered as they are made. The numbers here are those of a run whose requests are all
-accepted so far; behind a refusal they mean nothing, and the program has stopped.
+Allocations and nodes are numbered as they are made, and from 0 again behind an emptying. The numbers here are those of
+a run whose requests are all accepted so far; behind a refusal they mean nothing, and the program has stopped.
 """
 
 from typing import NamedTuple, Optional
@@ -44,6 +44,8 @@ class Pointers:
             return Pointer((len(self.allocations) - 1, 0), request.address)
         if request.kind is w.RETAG:
             return self._retag(request)
+        if request.width is not None:
+            self.allocations.clear()
         return None
 
     def _retag(self, request):

@@ -4,11 +4,13 @@
                          bytes and gives what the program prints
     Step                 a request, its answer, and the memories before and after it
 
+    since_emptied(steps)   those behind the last emptying; the emptying itself, or None, comes with them
+
 The program prints the memory at the end of a run, so the memory after a request is that of the run up to
 it. No request of kinds 0 to 9 undoes what one before it did: allocations and nodes stay, a dead
 allocation stays dead, and no permission returns to one that it left. So where the memories before and
 after a stretch of requests are equal, so are those between, and the stretch is not looked into. A stretch
-with a request of another kind always is.
+with a request of another kind, an emptying, always is.
 """
 
 import os
@@ -29,6 +31,10 @@ class Step(NamedTuple):
     @property
     def is_refused(self):
         return self.answer.refusal != 0
+
+    @property
+    def empties(self):
+        return not self.is_refused and self.request.kind is words.EMPTY
 
     @property
     def pointer(self):
@@ -93,5 +99,14 @@ def _filled(known, end):
 
 
 def _may_undo(request):
-    """Whether a later kind of request may go back to what was."""
+    """Whether a kind of request may go back to what was."""
     return request.kind_number > words.LEAK_CHECK.number
+
+
+def since_emptied(steps):
+    """The last step that empties the memory, or None, and the steps behind it: what numbers and names mean in
+    those, they mean in no other."""
+    for place in reversed(range(len(steps))):
+        if steps[place].empties:
+            return steps[place], steps[place + 1 :]
+    return None, steps

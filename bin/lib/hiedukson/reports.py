@@ -3,14 +3,14 @@
     of_source(source, judge)    the report of a card
     lines(report, place)        the report as lines of text, up to and with the request at a place
     tree_lines(report, place)   the trees alone
+    width_line(report, place)   the width that is in force, in words; empty where it is the usual one
 """
 
 import textwrap
 from typing import NamedTuple, Optional
 
 from . import changes, drawing, explanations, memories, refusals, replay, words
-from .names import Names
-from .notation.limits import POINTER_BYTES
+from .names import Course
 from .notation.parts import UNINITIALISED
 
 WIDTH = 100
@@ -31,7 +31,7 @@ class Report(NamedTuple):
 
     entries: tuple
     steps: tuple
-    names: Names
+    names: Course
     explanation: Optional[explanations.Explanation]
     left: int
 
@@ -58,52 +58,72 @@ class Report(NamedTuple):
 def of_source(source, judge):
     """The report of a card."""
     steps = replay.replay(source.run, judge)
-    known = source.names
 
     def say(step):
-        return source.said.get(step.request.index) or words.in_words(step.request, known.of)
+        index = step.request.index
+        return source.said.get(index) or words.in_words(step.request, source.names.at(index).of)
 
-    entries = tuple(_entry(step, known, source.lines.get(step.request.index), say(step)) for step in steps)
+    entries = tuple(_entries(steps, source, say))
     is_refused = bool(steps) and steps[-1].is_refused
-    explanation = explanations.explain(steps, known, say) if is_refused else None
+    explanation = explanations.explain(steps, source.names.at(len(steps) - 1), say) if is_refused else None
     left = sum(1 for _ in words.requests(source.run)) - len(steps)
-    return Report(entries, tuple(steps), known, explanation, left)
+    return Report(entries, tuple(steps), source.names, explanation, left)
 
 
-def _entry(step, known, line, said):
-    changed = [changes.in_words(change, step.after, known) for change in changes.between(step.before, step.after)]
-    return Entry(step.request.index, line, said, _answer(step, known), tuple(changed))
+def _entries(steps, source, say):
+    standing = words.Standing()
+    for step in steps:
+        index = step.request.index
+        known = source.names.at(index)
+        changed = tuple(_changed(step, known, standing))
+        yield Entry(index, source.lines.get(index), say(step), _answer(step, known, standing.width), changed)
+        if not step.is_refused:
+            standing.follow(step.request.words[0], step.request.fourth)
 
 
-def _answer(step, known):
+def _changed(step, known, standing):
+    """What a step changed. Frames are not printed: which of them an emptying closes follows from the requests."""
+    for change in changes.between(step.before, step.after):
+        yield changes.in_words(change, step.after, known)
+    if step.empties:
+        for frame in sorted(standing.open):
+            yield f"frame {frame}: closed"
+
+
+def _answer(step, known, width):
+    """What a step answered, in words; an emptying, which width it sets. `width` is the one before the step."""
     if step.is_refused:
         return f"refused, {step.answer.refusal}: {refusals.name(step.answer.refusal)}"
     if step.request.kind is words.LOAD and step.answer.given != replay.NOTHING:
         loaded = [words.byte_of(int(word, 16)) for word in step.answer.given.split(" ")]
-        return "loads " + " ".join(_loaded(loaded, known))
-    return ""
+        return "loads " + " ".join(_loaded(loaded, known, words.pointer_bytes(width)))
+    return _width(step.request.width) if step.empties else ""
 
 
-def _loaded(loaded, known):
-    """Loaded bytes as the notation writes them; the bytes of a whole pointer as one."""
+def _width(width):
+    return f"pointers have {width} bits: addresses end at {words.most_address(width):#x}"
+
+
+def _loaded(loaded, known, size):
+    """Loaded bytes as the notation writes them; the bytes of a whole pointer, which has so many, as one."""
     at = 0
     while at < len(loaded):
-        pointer = loaded[at : at + POINTER_BYTES]
-        if _is_pointer(pointer):
+        pointer = loaded[at : at + size]
+        if _is_pointer(pointer, size):
             address = int.from_bytes(bytes(byte.value for byte in pointer), "little")
             yield f"ptr {known.of(pointer[0].provenance)} at {address:#x}"
-            at += POINTER_BYTES
+            at += size
         else:
             yield _byte(loaded[at], known)
             at += 1
 
 
-def _is_pointer(loaded):
+def _is_pointer(loaded, size):
     """Whether these are all the bytes of one pointer, in order."""
     provenance = loaded[0].provenance
     if provenance is None:
         return False
-    return [byte.position for byte in loaded if byte.provenance == provenance] == list(range(POINTER_BYTES))
+    return [byte.position for byte in loaded if byte.provenance == provenance] == list(range(size))
 
 
 def _byte(byte, known):
@@ -123,7 +143,7 @@ def lines(report, place):
     if report.is_refused_at(place):
         parts[0] += [not_performed(report.left)] if report.left else []
         parts.append(list(_explanation_lines(report.explanation)))
-    return _apart([*parts, *_trees(report, place)])
+    return _apart([*parts, [width_line(report, place)], *_trees(report, place)])
 
 
 def not_performed(left):
@@ -131,8 +151,8 @@ def not_performed(left):
 
 
 def _apart(parts):
-    """The lines of all parts, an empty one between them."""
-    return [line for part in parts if part for line in ("", *part)][1:]
+    """The lines of all parts that say something, an empty one between them."""
+    return [line for part in parts if any(part) for line in ("", *part)][1:]
 
 
 def _entry_lines(entry):
@@ -167,8 +187,19 @@ def tree_lines(report, place):
     return _apart(_trees(report, place))
 
 
+def width_line(report, place):
+    """The width after the request of this index, in words, where it is not the one that a run starts with."""
+    emptying, _ = replay.since_emptied(report.steps[: place + 1])
+    if emptying is None or emptying.request.width == words.WIDEST:
+        return ""
+    return _width(emptying.request.width)
+
+
 def _trees(report, place):
     memory = report.memory_after(place)
     if not memory.allocations:
-        return [["no allocation was made"]]
-    return [drawing.text(allocation, report.names, report.spot_at(place)) for allocation in memory.allocations]
+        emptying, _ = replay.since_emptied(report.steps[: place + 1])
+        since = "" if emptying is None else f" since #{emptying.request.index}"
+        return [[f"no allocation was made{since}"]]
+    names, spot = report.names.at(place), report.spot_at(place)
+    return [drawing.text(allocation, names, spot) for allocation in memory.allocations]

@@ -19,8 +19,8 @@ RULES = {
         "A run starts from the empty memory and cannot meet this.",
     ),
     2: Rule(
-        "Every field of a request has a list of values, fields without a use are zero, and a frame is opened"
-        " before it is used and not opened twice.",
+        "Every field of a request has a list of values, fields without a use are zero, a frame is opened before"
+        " it is used and not opened twice, and addresses and positions fit the width of a pointer.",
         "Correct the request; it was not performed.",
     ),
     3: Rule(
@@ -35,8 +35,9 @@ RULES = {
         " retag of a raw pointer makes no node.",
     ),
     5: Rule(
-        "An allocation's address is above 0 and a multiple of its alignment, its end is at most 2^64 - 1, and"
-        " no live allocation overlaps it or starts where it starts.",
+        "An allocation's address is above 0 and a multiple of its alignment, its end is at most 2^64 - 1, or"
+        " 2^16 - 1 or 2^32 - 1 where pointers are so narrow, and no live allocation overlaps it or starts where"
+        " it starts.",
         "Propose an address that the recorded allocator could have given.",
     ),
     6: Rule(

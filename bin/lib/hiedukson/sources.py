@@ -1,14 +1,14 @@
 """Where a card's requests stand in it, and what they are called there.
 
     of_card(card)   the source of a card that was read
-    Source          its run; by request index the line, and the words of that line; the pointers' names
+    Source          its run; by request index the line, and the words of that line; the course of its pointers' names
 """
 
 from typing import NamedTuple
 
 from . import card as cards
 from . import words
-from .names import Names
+from .names import Course
 
 _RAW = "raw "
 
@@ -19,16 +19,16 @@ class Source(NamedTuple):
     run: bytes
     lines: dict
     said: dict
-    names: Names
+    names: Course
 
 
 def of_card(card):
     if card.form == cards.BYTES:
-        return Source(card.run, {}, {}, Names({}))
+        return Source(card.run, {}, {}, card.names)
     if card.form == cards.WORDS:
-        return Source(card.run, _lines_of_words(card), {}, Names({}))
+        return Source(card.run, _lines_of_words(card), {}, card.names)
     lines = dict(enumerate(card.source.request_lines))
-    return Source(card.run, lines, _said(card, lines), Names(card.source.aliases))
+    return Source(card.run, lines, _said(card, lines), card.names)
 
 
 def _lines_of_words(card):

@@ -47,8 +47,8 @@ def _answer(line):
 
 def explain(card, answer):
     """A refusal in words: the request, why it is refused, and what there is more to say."""
-    request, open_frames = w.request_at(card.run, answer.index)
-    more = _more(request, open_frames, answer)
+    request, standing = w.request_at(card.run, answer.index)
+    more = _more(request, standing, answer)
     why = f"{answer.refusal}: {refusals.name(answer.refusal)}" + (f": {more}" if more else "")
     return f"request {answer.index}, {w.in_words(request, _called(card, request))}: refused, {why}"
 
@@ -64,9 +64,9 @@ def _called(card, request):
     return name
 
 
-def _more(request, open_frames, answer):
+def _more(request, standing, answer):
     if answer.refusal == refusals.MALFORMED:
-        return w.malformed(request, open_frames)
+        return w.malformed(request, standing)
     if answer.refusal == refusals.NO_MASK:
         return w.no_mask(request)
     if answer.refusal == refusals.LEAK:

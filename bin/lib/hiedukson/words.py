@@ -6,10 +6,12 @@ A run is bytes, four a word, most significant first. What this module offers:
     words_of(run)              the words of a run's bytes, and the bytes left over at its end (0 to 3)
     bytes_of(words)            backwards
     requests(run)              all requests of a run, in order: an iterator of Request
-    request_at(run, index)     one request and the frames open before it, quickly, also in long runs
+    request_at(run, index)     one request and what holds before it, quickly, also in long runs
     Request                    its kind, fields, and the words that follow; `request.pointer`, `.settings`
     join(..)                   the words of a request from its fields: Request backwards
-    malformed(request, open)   which test of refusal 2 fails, in words; None where none does
+    Standing                   what holds before a request: the open frames, and the width
+    most_address(width)        the largest address at a width; `pointer_bytes` how many bytes a pointer has
+    malformed(request, standing)   which test of refusal 2 fails, in words; None where none does
     no_mask(request)           which reason of refusal 3 holds, in words; None where none does
     in_words(request, name)    the request as a short sentence: 'store 1 byte at 0x10 through 0.1'
     Byte, byte_of, byte_word   byte words: initialised, provenance and position, value
@@ -29,6 +31,10 @@ MOST_WORDS = 4096
 MOST_EXPONENT = 29
 FRAMES = 32
 WORD_BITS = 32
+# The bits of a pointer, by an emptying's extra. A run starts with the widest.
+WIDTHS = (16, 32, 64)
+WIDEST = 64
+BYTE_BITS = 8
 
 ALLOCATION_KINDS = ("stack", "heap", "global", "function", "vtable")
 POINTER_KINDS = ("&", "&mut", "box", "raw", "fn-ptr", "vtable-ptr")
@@ -76,7 +82,7 @@ class Follows(Enum):
 
 class Kind(NamedTuple):
     """One kind of request. To add one: a row in KINDS, and a word for it in `notation`. One that opens or closes
-    frames has a line in `Frames`, one that gives a pointer in `pointers`.
+    frames has a line in `Standing`, one that gives a pointer in `pointers`.
 
     uses      which of FIELDS have a use; all others must be zero
     extras    the names of the extra's values; () where it has no use
@@ -121,13 +127,18 @@ KINDS = (
         "signed dereferenceable {bytes} at {address}{through}",
     ),
     Kind(9, "leak check", (), (), Fourth.NOTHING, Follows.NOTHING, "leak check"),
+    Kind(
+        15, "emptying", ("extra",), tuple(f"width {width}" for width in WIDTHS), Fourth.NOTHING, Follows.NOTHING,
+        "empty, {extra}",
+    ),
 )
 ALLOCATE, DEALLOCATE, LOAD, STORE, RETAG, NEW_CALL, END_CALL, *_TESTS = KINDS
-DEREFERENCEABLE, SIGNED_DEREFERENCEABLE, LEAK_CHECK = _TESTS
+DEREFERENCEABLE, SIGNED_DEREFERENCEABLE, LEAK_CHECK, EMPTY = _TESTS
 BY_NUMBER = {kind.number: kind for kind in KINDS}
 WITH_BYTES = {kind.number for kind in KINDS if kind.follows is Follows.BYTES}
 WITH_LAYOUT = {kind.number for kind in KINDS if kind.follows is Follows.LAYOUT}
-WITH_FRAME = {kind.number for kind in KINDS if kind.fourth is Fourth.FRAME}
+# The kinds that change what holds before the next request.
+STANDING = {NEW_CALL.number, END_CALL.number, EMPTY.number}
 
 
 # ---- bytes and words
@@ -162,18 +173,39 @@ def following_length(first, fourth):
     return 0
 
 
-class Frames:
-    """The frames that are open, if all requests so far are accepted."""
+class Standing:
+    """What holds before a request, if all requests so far are accepted: the frames that are open, and the width."""
 
     def __init__(self):
         self.open = set()
+        self.width = WIDEST
 
-    def follow(self, number, frame):
-        """Go on behind a request of a kind that has a frame."""
+    def follow(self, first, fourth):
+        """Go on behind a request, by its first and its fourth word."""
+        number = first >> 28
         if number == NEW_CALL.number:
-            self.open.add(frame)
+            self.open.add(fourth)
         elif number == END_CALL.number:
-            self.open.discard(frame)
+            self.open.discard(fourth)
+        elif number == EMPTY.number:
+            self.open.clear()
+            self.width = width_of(first) or self.width
+
+
+def width_of(first):
+    """The width that the first word of an emptying names; None where it names none."""
+    extra = first & 7
+    return WIDTHS[extra] if extra < len(WIDTHS) else None
+
+
+def most_address(width):
+    """The largest address that a pointer of so many bits can have."""
+    return (1 << width) - 1
+
+
+def pointer_bytes(width):
+    """How many bytes a pointer has: their positions count from 0."""
+    return width // BYTE_BITS
 
 
 def requests(run):
@@ -191,22 +223,21 @@ def requests(run):
 
 
 def request_at(run, index):
-    """The request with this index, and the frames that are open before it, if all before are accepted.
+    """The request with this index, and what holds before it, if all before are accepted.
     None for the request where the run has fewer."""
     words, rest = words_of(run)
-    frames = Frames()
+    standing = Standing()
     at = 0
     for _ in range(index):
         end = _end(words, at)
         if end > len(words):
-            return None, frames.open
-        number = words[at] >> 28
-        if number in WITH_FRAME:
-            frames.follow(number, words[at + 3])
+            return None, standing
+        if words[at] >> 28 in STANDING:
+            standing.follow(words[at], words[at + 3])
         at = end
     if at >= len(words) and not rest:
-        return None, frames.open
-    return _request(words, rest, index, at, _end(words, at)), frames.open
+        return None, standing
+    return _request(words, rest, index, at, _end(words, at)), standing
 
 
 def _end(words, at):
@@ -259,6 +290,11 @@ class Request:
     def settings(self):
         """A retag's fourth word, for a reference or a box."""
         return settings_of(self.fourth)
+
+    @property
+    def width(self):
+        """The width that an emptying sets; None for all other requests, and for one that names no width."""
+        return width_of(self.words[0]) if self.kind is EMPTY and not self.is_cut else None
 
     @property
     def is_safe(self):
@@ -337,9 +373,14 @@ def byte_word(byte):
 # ---- which test of 2 fails, which reason of 3 holds
 
 
-def malformed(request, open_frames):
-    """Which test of refusal 2 this request fails, in words; None where it fails none."""
-    return _miscounted(request) or _bad_field(request) or _bad_frame(request, open_frames)
+def malformed(request, standing):
+    """Which test of refusal 2 this request fails, in words; None where it fails none. `standing` holds before it."""
+    return (
+        _miscounted(request)
+        or _bad_field(request)
+        or _too_wide(request, standing.width)
+        or _bad_frame(request, standing.open)
+    )
 
 
 def _miscounted(request):
@@ -385,6 +426,25 @@ def _bad_byte(word):
     if word >> 31:
         return "position, allocation and node must be zero without provenance"
     return "an uninitialised byte is zero"
+
+
+def _too_wide(request, width):
+    """An address or a position that no pointer of this width has."""
+    most = most_address(width)
+    if request.address > most:
+        return f"address {request.address:#x}, at most {most:#x} may be at {width} bits"
+    if request.kind.follows is Follows.BYTES:
+        return _bad_position(request.following, width)
+    return None
+
+
+def _bad_position(stored, width):
+    last = pointer_bytes(width) - 1
+    for place, word in enumerate(stored):
+        position = byte_of(word).position
+        if position > last:
+            return f"byte {place}: position {position} in a pointer, which has positions 0 to {last} at {width} bits"
+    return None
 
 
 def _bad_settings(request):

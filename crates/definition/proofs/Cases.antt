@@ -6,14 +6,15 @@ use mathlib.Core.Option.{none, some}
 use mathlib.Core.List.{List, [], _∷_, _++_, map}
 use lib.ListN.{length, replicate, getD, drop}
 use Rattle.definition.specs.Notation.{firstRefusal, tableFrom, mapFrom, mutateAt, writeAt, filter, any, sumOf}
+use Rattle.definition.specs.Width.Width.{Bits16, Bits32, Bits64}
 use Rattle.definition.specs.Permission.{Protected, code, permission, refusal, next}
 use Rattle.definition.specs.Tree.{Node, isAboveWithin, relation, descendants, preorder, visitingOrder, rowRefusal, nodeRefusal, visitRefusal, nodeAfter, visited}
 use Rattle.definition.specs.Layout.{cellsFit, isFreeze, nestedMask, freezeMask}
 use Rattle.definition.specs.Memory.{Memory, Named, nothing, refusedWith, changed, newAllocation, wrappingOffset, checkPtr, accessRefusalIn, accessRefusal, afterAccessIn, afterAccess, loadedWords, acceptAccess, performAccess, isPickable, exceedsBounds, allocateRefusal, acceptAllocate, allocate, deallocateRefusal, afterDeallocateIn, acceptDeallocate, deallocate, dereferenceable, firstLeak, leakCheck}
 use Rattle.definition.specs.Frame.{empty, frameAt, entries, newCall, releaseRefusalIn, releaseRefusal, afterReleaseIn, afterRelease, releaseAllRefusal, afterReleaseAll, endCallRefusal, acceptEndCall, endCall}
 use Rattle.definition.specs.Retag.{childNode, withChild, initRefusal, afterInit, reborrowRefusal, afterReborrowIn, acceptReborrow, reborrow, retagWithoutNode, retag}
-use Rattle.definition.specs.Request.{request, followingLength, isMiscounted, badByte, badSettings, badMetadata, badRetag, isMalformed}
-use Rattle.definition.specs.Run.{retagWithMask, performRetag, perform, step, answers, final, wordsOf, cutRequests, requestsOf, performedCount, program}
+use Rattle.definition.specs.Request.{request, followingLength, isMiscounted, badByte, badSettings, badMetadata, badRetag, isMalformed, isTooFar, isTooBig}
+use Rattle.definition.specs.Run.{retagWithMask, performRetag, perform, step, start, widthAfter, turn, answers, final, wordsOf, cutRequests, requestsOf, performedCount, program}
 use Rattle.definition.specs.Output.{ascii, digit, decimalWithin, decimal, ended, given, answerLine, answerLines}
 use Rattle.definition.specs.Permission.Protected.{No, Weak, Strong}
 use Rattle.definition.specs.Memory.Liveness.{Live}
@@ -70,12 +71,20 @@ sized len = 0 ∷ len ∷ []
 abbrev cellFirst : ℕ → List ℕ
 cellFirst len = 0 ∷ (0x400000 + len) ∷ 0x00000001 ∷ []
 
+-- extra 0, 1, 2 for 16, 32, 64 bits
+abbrev emptyTo : ℕ → List ℕ
+emptyTo extra = firstWord 15 0 0 0 0 extra ∷ 0 ∷ 0 ∷ 0 ∷ []
+
+-- a byte of a pointer: its fragment at a position
+abbrev fragment : ℕ → ℕ
+fragment position = 0xc0000000 + position * 2 ^ 27
+
 -- ---- what a list of requests comes to
 abbrev refusals : List (List ℕ) → List ℕ
-refusals wss = map (λ x. x .refusal) (answers empty wss)
+refusals wss = map (λ x. x .refusal) (answers start wss)
 
 abbrev names : List (List ℕ) → List Named
-names wss = map (λ x. x .names) (answers empty wss)
+names wss = map (λ x. x .names) (answers start wss)
 
 -- the pointer that an allocation gives
 abbrev root : ℕ → Named
@@ -86,7 +95,7 @@ abbrev printedRefusals : List (List ℕ) → List ℕ
 printedRefusals wss = map (λ x. x .refusal) (program (bytesOf wss) .0)
 
 abbrev nodesAfter : ℕ → List (List ℕ) → List Node
-nodesAfter a wss = getD (final empty wss .memory) a (newAllocation Stack 0 0 0) .nodes
+nodesAfter a wss = getD (final start wss .state .memory) a (newAllocation Stack 0 0 0) .nodes
 
 -- the rows, as their codes
 abbrev rows : List (List ℕ) → List (List ℕ)
@@ -223,6 +232,44 @@ lent upper lower =
 abbrev longStore : List ℕ
 longStore = store 0 0 16 (replicate 4097 0)
 
+-- M-110: at a width, by its extra, two bytes and one at the last address but one, by its high word and its low word
+abbrev topRun : ℕ → ℕ → ℕ → List (List ℕ)
+topRun extra high low = emptyTo extra ∷ (0x00000001 ∷ high ∷ low ∷ 2 ∷ []) ∷ (0x00000001 ∷ high ∷ low ∷ 1 ∷ []) ∷ []
+
+-- at a width, one address too many, by its high word and its low word, without provenance: a load of no bytes, a dereference test of none, one with a signed
+-- length, a raw pointer's retag, and an allocation of no bytes
+abbrev beyondRun : ℕ → ℕ → ℕ → List (List ℕ)
+beyondRun extra high low =
+    emptyTo extra
+    ∷ (0x20000000 ∷ high ∷ low ∷ 0 ∷ [])
+    ∷ (0x70000000 ∷ high ∷ low ∷ 0 ∷ [])
+    ∷ (0x80000000 ∷ high ∷ low ∷ 0 ∷ [])
+    ∷ (0x40000003 ∷ high ∷ low ∷ 0 ∷ [])
+    ∷ (0x00000001 ∷ high ∷ low ∷ 0 ∷ [])
+    ∷ []
+
+-- at a width, a fragment one position too far, and one at the highest position that it has
+abbrev fragmentRun : ℕ → ℕ → List (List ℕ)
+fragmentRun extra highest =
+    emptyTo extra ∷ allocateAt 1 16 1 ∷ store 0 0 16 (fragment (highest + 1) ∷ []) ∷ store 0 0 16 (fragment highest ∷ []) ∷ []
+
+-- with a frame open and a heap allocation live, an emptying that has another field, and one that has none: what was made and opened is forgotten
+abbrev emptiedRun : List (List ℕ)
+emptiedRun =
+    allocateAt 1 16 2 ∷ allocateAt 1 32 2 ∷ call 3 ∷ emptyTo 3
+    ∷ (firstWord 15 0 0 0 0 0 ∷ 0 ∷ 0 ∷ 1 ∷ [])
+    ∷ (firstWord 15 0 0 0 0 0 ∷ 0 ∷ 1 ∷ 0 ∷ [])
+    ∷ (firstWord 15 0 0 0 1 0 ∷ 0 ∷ 0 ∷ 0 ∷ [])
+    ∷ (firstWord 15 0 0 1 0 0 ∷ 0 ∷ 0 ∷ 0 ∷ [])
+    ∷ (firstWord 15 0 1 0 0 0 ∷ 0 ∷ 0 ∷ 0 ∷ [])
+    ∷ (firstWord 15 1 0 0 0 0 ∷ 0 ∷ 0 ∷ 0 ∷ [])
+    ∷ emptyTo 0
+    ∷ return 3
+    ∷ leakCheckNow
+    ∷ load 0 0 16 0
+    ∷ allocateAt 1 16 2
+    ∷ []
+
 pub record Cases : Type 0 where
   -- 2 for a frame opened while open; 20, 21, 22, 23
   pub protected-refusals : refusals protectedRun ≡ 0 ∷ 0 ∷ 2 ∷ 0 ∷ 0 ∷ 20 ∷ 0 ∷ 21 ∷ 22 ∷ 23 ∷ []
@@ -259,7 +306,7 @@ pub record Cases : Type 0 where
   -- 14, and 15
   pub empties-refusals : refusals emptiesRun ≡ 0 ∷ 14 ∷ 0 ∷ 15 ∷ 0 ∷ []
   -- 16, which no run reaches: the root is not protected
-  pub unprotected-entry : endCallRefusal (final empty (allocateAt 1 16 1 ∷ []) .memory) (record { allocation = 0; node = 0 } ∷ []) ≡ 16
+  pub unprotected-entry : endCallRefusal (final start (allocateAt 1 16 1 ∷ []) .state .memory) (record { allocation = 0; node = 0 } ∷ []) ≡ 16
   -- 5 before 15; a load of more bytes than the allocation has is 9
   pub large-refusals : refusals (allocateAt 1 0 0xffffffff ∷ allocateAt 1 1 0xffffffff ∷ allocateAt 1 16 1 ∷ load 0 0 16 5000 ∷ []) ≡ 5 ∷ 15 ∷ 0 ∷ 9 ∷ []
   -- more than 4,096 words after the fourth, in a list: of a store it is 9, of a retag 3, and a mutable reference that isn't unpin leaves them unread
@@ -273,16 +320,44 @@ pub record Cases : Type 0 where
   pub crossed-rows : rows crossedRun ≡ (3 ∷ 3 ∷ []) ∷ (2 ∷ 5 ∷ []) ∷ (11 ∷ 14 ∷ []) ∷ []
   -- "ReservedIm for a protected cell byte" is a slip: it is Reserved, and was read; a shared cell byte is Cell, and was not
   pub celled-rows : rows celledRun ≡ (3 ∷ 3 ∷ []) ∷ (8 ∷ 10 ∷ []) ∷ (6 ∷ 13 ∷ []) ∷ []
-  pub celled-entries : entries (frameAt (final empty celledRun) 0) ≡ record { allocation = 0; node = 1 } ∷ record { allocation = 0; node = 2 } ∷ []
+  pub celled-entries : entries (frameAt (final start celledRun .state) 0) ≡ record { allocation = 0; node = 1 } ∷ record { allocation = 0; node = 2 } ∷ []
   -- an end call releases all its entries, and closes its frame
   pub released-rows : rows (celledRun ++ (return 0 ∷ [])) ≡ (3 ∷ 3 ∷ []) ∷ (1 ∷ 1 ∷ []) ∷ (0 ∷ 4 ∷ []) ∷ []
-  pub released-frame : frameAt (final empty (celledRun ++ (return 0 ∷ []))) 0 ≡ frameAt empty 0
+  pub released-frame : frameAt (final start (celledRun ++ (return 0 ∷ [])) .state) 0 ≡ frameAt empty 0
   -- the same pointer
   pub no-node : names noNodeRun ≡ root 0 ∷ root 0 ∷ root 0 ∷ nothing ∷ []
   -- M-104: 25 names the lowest that is live and of the heap, not a dead one or one of the stack; and so the program prints it
   pub leaks-refusals : refusals leakingRun ≡ 0 ∷ 0 ∷ 0 ∷ 0 ∷ 0 ∷ 25 ∷ 0 ∷ 25 ∷ 0 ∷ 0 ∷ []
   pub leaks-names : names leakingRun ≡ root 0 ∷ nothing ∷ root 1 ∷ root 2 ∷ root 3 ∷ Leak 2 ∷ nothing ∷ Leak 3 ∷ nothing ∷ nothing ∷ []
   pub leak-line : answerLines 5 (drop 5 (program (bytesOf leakingRun) .0)) ≡ ascii "5 25 2\n"
+  -- M-110: "Address plus size is at most 2 to the width, less 1."
+  pub top-16 : refusals (topRun 0 0 0xfffe) ≡ 0 ∷ 5 ∷ 0 ∷ []
+  pub top-32 : refusals (topRun 1 0 0xfffffffe) ≡ 0 ∷ 5 ∷ 0 ∷ []
+  pub top-64 : refusals (topRun 2 0xffffffff 0xfffffffe) ≡ 0 ∷ 5 ∷ 0 ∷ []
+  -- "An address .. too big for the width falls under 2."; the last one does not, but where an allocation is asked for
+  pub beyond-16 : refusals (beyondRun 0 0 0x10000) ≡ 0 ∷ 2 ∷ 2 ∷ 2 ∷ 2 ∷ 2 ∷ []
+  pub beyond-32 : refusals (beyondRun 1 1 0) ≡ 0 ∷ 2 ∷ 2 ∷ 2 ∷ 2 ∷ 2 ∷ []
+  pub last-16 : refusals (beyondRun 0 0 0xffff) ≡ 0 ∷ 0 ∷ 0 ∷ 0 ∷ 0 ∷ 0 ∷ []
+  pub last-32 : refusals (beyondRun 1 0 0xffffffff) ≡ 0 ∷ 0 ∷ 0 ∷ 0 ∷ 0 ∷ 0 ∷ []
+  -- "An .. position too big for the width falls under 2."
+  pub position-16 : refusals (fragmentRun 0 1) ≡ 0 ∷ 0 ∷ 2 ∷ 0 ∷ []
+  pub position-32 : refusals (fragmentRun 1 3) ≡ 0 ∷ 0 ∷ 2 ∷ 0 ∷ []
+  pub position-64 : refusals (fragmentRun 2 6) ≡ 0 ∷ 0 ∷ 0 ∷ 0 ∷ []
+  -- a retag's layout words are no bytes: here the metadata's count has the bits of a position, and the layout has no mask
+  pub layout-16 : refusals (emptyTo 0 ∷ allocateAt 1 16 2 ∷ borrow 0 0 0 16 (0x7fffffff ∷ 0x40000001 ∷ []) ∷ []) ≡ 0 ∷ 0 ∷ 3 ∷ []
+  -- 5 before 15 at each width; an alignment that no address has is 5
+  pub large-16 : refusals (emptyTo 0 ∷ allocateAt 1 1 0xffff ∷ (firstWord 0 0 0 0 16 1 ∷ 0 ∷ 1 ∷ 1 ∷ []) ∷ []) ≡ 0 ∷ 5 ∷ 5 ∷ []
+  pub large-32 : refusals (emptyTo 1 ∷ allocateAt 1 1 0xffff ∷ []) ≡ 0 ∷ 15 ∷ []
+  -- "kind 15 empties the memory, .. closes all frames": the end call is 2, no heap allocation is live, and the next one has the number 0
+  pub emptied-refusals : refusals emptiedRun ≡ 0 ∷ 0 ∷ 0 ∷ 2 ∷ 2 ∷ 2 ∷ 2 ∷ 2 ∷ 2 ∷ 2 ∷ 0 ∷ 2 ∷ 0 ∷ 4 ∷ 0 ∷ []
+  pub emptied-names : drop 14 (names emptiedRun) ≡ root 0 ∷ []
+  pub emptied-state : final start (allocateAt 1 16 2 ∷ call 3 ∷ emptyTo 0 ∷ []) ≡ record { state = empty; width = Bits16 }
+  -- the width stays until the next emptying: it is of no other request
+  pub kept-width : final start (emptyTo 1 ∷ allocateAt 1 16 1 ∷ emptyTo 3 ∷ leakCheckNow ∷ []) .width ≡ Bits32
+  -- pointer offsets wrap at the width
+  pub offset-16 : wrappingOffset Bits16 (record { address = 0xffff; provenance = none }) 0 1 .address ≡ 0
+  pub offset-32 : wrappingOffset Bits32 (record { address = 0xffff; provenance = none }) 0x10000 0 .address ≡ 0xffffffff
+  pub offset-64 : wrappingOffset Bits64 (record { address = 0xffffffff; provenance = none }) 0 1 .address ≡ 0x100000000
   -- masks: three elements with a cell in each; a tuple with a slice; a count of 2^30 - 1 at size 0, and at size 1; eight tuples, and nine; empty cells, and cells that go back
   pub slice-mask : freezeMask (0x40000003 ∷ 0x40400002 ∷ 0x00010001 ∷ []) ≡ some (true ∷ false ∷ true ∷ false ∷ true ∷ false ∷ [])
   pub tuple-mask : freezeMask (0x40000002 ∷ 0xc0000003 ∷ 0x40400001 ∷ 0x00000001 ∷ []) ≡ some (true ∷ true ∷ true ∷ false ∷ false ∷ [])
@@ -303,7 +378,7 @@ pub record Cases : Type 0 where
   pub whole-load : refusals (allocateAt 1 4096 4096 ∷ load 0 0 4096 4096 ∷ []) ≡ 0 ∷ 0 ∷ []
 
 pub cases : Cases
-unfolding firstRefusal tableFrom mapFrom mutateAt writeAt filter any sumOf refusal next isAboveWithin relation descendants preorder visitingOrder rowRefusal nodeRefusal visitRefusal nodeAfter visited cellsFit isFreeze nestedMask freezeMask wrappingOffset checkPtr accessRefusalIn accessRefusal afterAccessIn afterAccess loadedWords acceptAccess performAccess isPickable exceedsBounds newAllocation allocateRefusal acceptAllocate allocate deallocateRefusal afterDeallocateIn acceptDeallocate deallocate dereferenceable firstLeak leakCheck newCall releaseRefusalIn releaseRefusal afterReleaseIn afterRelease releaseAllRefusal afterReleaseAll endCallRefusal acceptEndCall endCall childNode withChild initRefusal afterInit reborrowRefusal afterReborrowIn acceptReborrow reborrow retagWithoutNode retag request followingLength isMiscounted badByte badSettings badMetadata badRetag isMalformed retagWithMask performRetag perform step answers final wordsOf cutRequests requestsOf performedCount program digit decimalWithin decimal ended given answerLine answerLines bytesOfWords bytesOf
+unfolding firstRefusal tableFrom mapFrom mutateAt writeAt filter any sumOf refusal next isAboveWithin relation descendants preorder visitingOrder rowRefusal nodeRefusal visitRefusal nodeAfter visited cellsFit isFreeze nestedMask freezeMask wrappingOffset checkPtr accessRefusalIn accessRefusal afterAccessIn afterAccess loadedWords acceptAccess performAccess isPickable exceedsBounds newAllocation allocateRefusal acceptAllocate allocate deallocateRefusal afterDeallocateIn acceptDeallocate deallocate dereferenceable firstLeak leakCheck newCall releaseRefusalIn releaseRefusal afterReleaseIn afterRelease releaseAllRefusal afterReleaseAll endCallRefusal acceptEndCall endCall childNode withChild initRefusal afterInit reborrowRefusal afterReborrowIn acceptReborrow reborrow retagWithoutNode retag request followingLength isMiscounted badByte badSettings badMetadata badRetag isMalformed isTooFar isTooBig retagWithMask performRetag perform step widthAfter turn answers final wordsOf cutRequests requestsOf performedCount program digit decimalWithin decimal ended given answerLine answerLines bytesOfWords bytesOf
 cases =
     record {
       protected-refusals = refl;
@@ -344,6 +419,26 @@ cases =
       leaks-refusals = refl;
       leaks-names = refl;
       leak-line = refl;
+      top-16 = refl;
+      top-32 = refl;
+      top-64 = refl;
+      beyond-16 = refl;
+      beyond-32 = refl;
+      last-16 = refl;
+      last-32 = refl;
+      position-16 = refl;
+      position-32 = refl;
+      position-64 = refl;
+      layout-16 = refl;
+      large-16 = refl;
+      large-32 = refl;
+      emptied-refusals = refl;
+      emptied-names = refl;
+      emptied-state = refl;
+      kept-width = refl;
+      offset-16 = refl;
+      offset-32 = refl;
+      offset-64 = refl;
       slice-mask = refl;
       tuple-mask = refl;
       empty-elements = refl;

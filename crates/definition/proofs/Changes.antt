@@ -1,10 +1,10 @@
--- What requests do to a state, for laws that go request by request. An accepted one allocates, accesses, deallocates, reborrows, opens a call or ends one; any
--- other leaves the state as it was. So what each of these changes keeps, every request keeps (`step-keeps`), and every list of them (`run-keeps`).
+-- What requests do to a state, for laws that go request by request. An accepted one allocates, accesses, deallocates, reborrows, opens a call or ends one, or
+-- empties the memory; any other leaves the state as it was. So what each of these changes keeps, every request keeps (`step-keeps`), and every list of them (`run-keeps`).
 --     KeptByRequest, KeptByEnd    a law of states that they keep
 --     Kept, KeptByRelease         a law of one allocation, which is one of states (`in-allocation`, `ended-allocation`)
 --     KeptFrames                  a law of the frames, which is one of states (`in-frames`)
 -- A new kind of request gets a field in `KeptByRequest` and a clause in `perform-keeps`; the checker then names every law that has to say what becomes of it.
-use Prim.Native.Nat.{ℕ, _<_}
+use Prim.Native.Nat.{ℕ, suc, _<_}
 use mathlib.Core.Path.{_≡_, refl, sym, ap, _∙_}
 use mathlib.Core.Bool.{Bool, false, not, _&&_, _||_}
 use mathlib.Core.Option.{Option, none, some}
@@ -13,17 +13,19 @@ use lib.Dec.{eqb}
 use lib.ListN.{length, getD, set}
 use Rattle.definition.specs.Notation.{if_then_else_, _when_, _or_, mutateAt, any}
 use Rattle.definition.specs.Refusal.{malformed, neverMade, misaligned, missingProvenance, deadAllocation, awayFromStart, anotherKind, anotherSize, anotherAlignment, strongProtector}
+use Rattle.definition.specs.Width.{Width}
 use Rattle.definition.specs.Permission.{Protected, isYes, SafePointer}
 use Rattle.definition.specs.Permission.AccessKind.{Read, Write}
 use Rattle.definition.specs.Tree.{visitRefusal, visited}
 use Rattle.definition.specs.Layout.{FreezeMask, freezeMask}
-use Rattle.definition.specs.Memory.{Allocation, AllocationKind, size, Memory, noAllocation, allocationAt, target, offset, Provenance, ThinPointer, hasNone, allocationOf, nodeOf, isLive, Answer, refusedWith, givesPointer, unlessRefused, kindNumber, namesNeverMade, wasMade, checkPtr, nodeCount, MemoryAccess, visitOf, isMisaligned, accessRefusalIn, accessRefusal, afterAccessIn, afterAccess, acceptAccess, performAccess, newAllocation, allocateRefusal, acceptAllocate, allocate, nodePreventsDeallocation, writeAll, deallocateRefusal, afterDeallocateIn, acceptDeallocate, deallocate, dereferenceable, leakCheck}
-use Rattle.definition.specs.Frame.{Frame, State, frameAt, isOpen, entries, inMemory, releaseRefusalIn, releaseRefusal, afterReleaseIn, afterRelease, releaseAllRefusal, afterReleaseAll, endCallRefusal, acceptEndCall, endCall, newCall}
+use Rattle.definition.specs.Memory.{Allocation, AllocationKind, size, Memory, noAllocation, allocationAt, target, offset, Provenance, ThinPointer, hasNone, allocationOf, nodeOf, isLive, Answer, refusedWith, accepted, givesPointer, unlessRefused, kindNumber, namesNeverMade, wasMade, checkPtr, nodeCount, MemoryAccess, visitOf, isMisaligned, accessRefusalIn, accessRefusal, afterAccessIn, afterAccess, acceptAccess, performAccess, newAllocation, allocateRefusal, acceptAllocate, allocate, nodePreventsDeallocation, writeAll, deallocateRefusal, afterDeallocateIn, acceptDeallocate, deallocate, dereferenceable, leakCheck}
+use Rattle.definition.specs.Frame.{Frame, State, empty, frameAt, isOpen, entries, inMemory, releaseRefusalIn, releaseRefusal, afterReleaseIn, afterRelease, releaseAllRefusal, afterReleaseAll, endCallRefusal, acceptEndCall, endCall, newCall}
 use Rattle.definition.specs.Frame.Frame.{Closed, Open}
 use Rattle.definition.specs.Retag.{ReborrowSettings, reborrowSettings, withChild, initRefusal, afterReborrowIn, reborrowRefusal, acceptReborrow, reborrow, retagWithoutNode, retag}
-use Rattle.definition.specs.Request.{Kind, Request, request, pointer, allocationKind, frameNumber, safePointer, protectorOf, freeze, addsNoNode, loadOf, storeOf, isMiscounted, isMalformed, badCall, isOpenFrame}
-use Rattle.definition.specs.Request.Kind.{Allocate, Deallocate, Load, Store, Retag, NewCall, EndCall, Dereferenceable, SignedDereferenceable, LeakCheck, Unused}
-use Rattle.definition.specs.Run.{retagWithMask, performRetag, perform, step, final}
+use Rattle.definition.specs.Request.{Kind, Request, request, pointer, allocationKind, frameNumber, safePointer, protectorOf, freeze, addsNoNode, loadOf, storeOf, isMiscounted, isMalformed, isTooBig, badCall, isOpenFrame}
+use Rattle.definition.specs.Request.Kind.{Allocate, Deallocate, Load, Store, Retag, NewCall, EndCall, Dereferenceable, SignedDereferenceable, LeakCheck, Empty, Unused}
+use Rattle.definition.specs.Run.{retagWithMask, performRetag, perform, step, RunState, turn, answers, final}
+use Rattle.definition.specs.SharedArguments.{NeverEmpties}
 use Rattle.definition.proofs.Booleans.{or-neither, or-left, or-right}
 use Rattle.definition.proofs.Alls.{if-holds, outcome-holds}
 use Rattle.definition.proofs.Places.{mutate-holds, append-holds}
@@ -91,48 +93,60 @@ module _ (P : State → Type 0) (kept : KeptByRequest P) where
   with-mask-keeps none s q h = h
   with-mask-keeps (some mask) s q h = retag-keeps (safePointer q) (protectorOf q) mask (freeze q) (frameNumber q) (pointer q) s h
 
-  perform-keeps : (kind : Kind) (s : State) (q : Request) → isMalformed kind s q ≡ false → (kind ≡ EndCall → KeptByEnd P s (q .fourth)) → P s → P (perform kind s q .1)
+  perform-keeps : (width : Width) (kind : Kind) (s : State) (q : Request) → isMalformed kind s q ≡ false → (kind ≡ EndCall → KeptByEnd P s (q .fourth))
+      → (kind ≡ Empty → P empty) → P s → P (perform width kind s q .1)
   unfolding perform isMalformed
-  perform-keeps Allocate s q fine ended h =
+  perform-keeps width Allocate s q fine ended emptied h =
       unfold allocate in
-      in-memory-keeps s (allocateRefusal (s .memory) (q .fourth) (q .exponent) (q .address)) (acceptAllocate (allocationKind q) (q .fourth) (q .exponent) (q .address) (s .memory))
+      in-memory-keeps s (allocateRefusal width (s .memory) (q .fourth) (q .exponent) (q .address)) (acceptAllocate (allocationKind q) (q .fourth) (q .exponent) (q .address) (s .memory))
       (λ e. kept .allocated (allocationKind q) (q .fourth) (q .exponent) (q .address) s) h
-  perform-keeps Deallocate s q fine ended h =
+  perform-keeps width Deallocate s q fine ended emptied h =
       unfold deallocate in
       in-memory-keeps s (deallocateRefusal (s .memory) (pointer q) (allocationKind q) (q .fourth) (q .exponent)) (acceptDeallocate (pointer q) (s .memory))
       (kept .deallocated (pointer q) (allocationKind q) (q .fourth) (q .exponent) s) h
-  perform-keeps Load s q fine ended h = access-keeps (loadOf q) (load refl refl) s h
-  perform-keeps Store s q fine ended h = access-keeps (storeOf q) (store refl refl) s h
-  perform-keeps Retag s q fine ended h =
+  perform-keeps width Load s q fine ended emptied h = access-keeps (loadOf q) (load refl refl) s h
+  perform-keeps width Store s q fine ended emptied h = access-keeps (storeOf q) (store refl refl) s h
+  perform-keeps width Retag s q fine ended emptied h =
       unfold performRetag in
       if-holds (λ (o : Answer × State). P (o .1)) (addsNoNode q) (retagWithoutNode (pointer q) s) (retagWithMask (freezeMask (q .following)) s q)
       (λ z. without-node-keeps (pointer q) s h) (λ z. with-mask-keeps (freezeMask (q .following)) s q h)
-  perform-keeps NewCall s q fine ended h = kept .opened (q .fourth) s (or-neither (badCall q) (isOpenFrame s q) fine .1) h
-  perform-keeps EndCall s q fine ended h =
+  perform-keeps width NewCall s q fine ended emptied h = kept .opened (q .fourth) s (or-neither (badCall q) (isOpenFrame s q) fine .1) h
+  perform-keeps width EndCall s q fine ended emptied h =
       unfold endCall in
       outcome-holds P (endCallRefusal (s .memory) (entries (frameAt s (q .fourth)))) s (acceptEndCall (q .fourth) s) h (λ e. ended refl e h)
-  perform-keeps Dereferenceable s q fine ended h = unfold dereferenceable in h
-  perform-keeps SignedDereferenceable s q fine ended h = unfold dereferenceable in h
-  perform-keeps LeakCheck s q fine ended h = unfold leakCheck in h
-  perform-keeps Unused s q fine ended h = h
+  perform-keeps width Dereferenceable s q fine ended emptied h = unfold dereferenceable in h
+  perform-keeps width SignedDereferenceable s q fine ended emptied h = unfold dereferenceable in h
+  perform-keeps width LeakCheck s q fine ended emptied h = unfold leakCheck in h
+  perform-keeps width Empty s q fine ended emptied h = emptied refl
+  perform-keeps width Unused s q fine ended emptied h = h
 
-  -- the end of a call has to keep it where the request comes to one
-  pub step-keeps : (s : State) (ws : List ℕ) → (request ws .kind ≡ EndCall → step s ws ≡ endCall (request ws .fourth) s → KeptByEnd P s (request ws .fourth))
-      → P s → P (step s ws .1)
+  -- the end of a call has to keep it where the request comes to one; where it empties the memory, it has to hold of the empty one
+  pub step-keeps : (width : Width) (s : State) (ws : List ℕ)
+      → (request ws .kind ≡ EndCall → step width s ws ≡ endCall (request ws .fourth) s → KeptByEnd P s (request ws .fourth))
+      → (request ws .kind ≡ Empty → step width s ws ≡ (accepted, empty) → P empty)
+      → P s → P (step width s ws .1)
   unfolding step perform
-  step-keeps s ws ended h =
+  step-keeps width s ws ended emptied h =
       let q : Request = request ws in
       let refused : Answer × State = (refusedWith malformed, s) in
-      let performed : Kind → Answer × State = λ kind. perform kind s q in
-      if-holds (λ (o : Answer × State). P (o .1)) (isMiscounted ws || isMalformed (q .kind) s q) refused (performed (q .kind)) (λ e. h)
+      let performed : Kind → Answer × State = λ kind. perform width kind s q in
+      let tests : Bool = isMiscounted ws || isMalformed (q .kind) s q in
+      if-holds (λ (o : Answer × State). P (o .1)) (tests || isTooBig width q) refused (performed (q .kind)) (λ e. h)
       (λ e.
-      perform-keeps (q .kind) s q (or-neither (isMiscounted ws) (isMalformed (q .kind) s q) e .1)
-      (λ end. ended end (ap (λ (t : Bool). if t then refused else performed (q .kind)) e ∙ ap performed end)) h)
+      let comes : (kind : Kind) → q .kind ≡ kind → step width s ws ≡ performed kind =
+      λ kind is. ap (λ (t : Bool). if t then refused else performed (q .kind)) e ∙ ap performed is
+      in
+      perform-keeps width (q .kind) s q (or-neither (isMiscounted ws) (isMalformed (q .kind) s q) (or-neither tests (isTooBig width q) e .0) .1)
+      (λ end. ended end (comes EndCall end)) (λ empties. emptied empties (comes Empty empties)) h)
 
-  pub run-keeps : ((s : State) (f : ℕ) → KeptByEnd P s f) → (s : State) (wss : List (List ℕ)) → P s → P (final s wss)
-  unfolding final
-  run-keeps ended s [] h = h
-  run-keeps ended s (ws ∷ wss) h = run-keeps ended (step s ws .1) wss (step-keeps s ws (λ end performed. ended s (request ws .fourth)) h)
+  -- a run that is never emptied
+  pub run-keeps : ((s : State) (f : ℕ) → KeptByEnd P s f) → (r : RunState) (wss : List (List ℕ)) → NeverEmpties r wss → P (r .state) → P (final r wss .state)
+  unfolding final answers turn
+  run-keeps ended r [] never h = h
+  run-keeps ended r (ws ∷ wss) never h =
+      run-keeps ended (turn r ws .1) wss (λ i. never (suc i))
+      (step-keeps (r .width) (r .state) ws (λ end performed. ended (r .state) (request ws .fourth))
+      (λ empties performed. absurd (never 0 empties (ap (λ (o : Answer × State). o .0) performed))) h)
 
 -- ---- laws of an allocation
 -- by all changes but a release. Where no allocation is, `noAllocation` stands, so that a new one comes in its place

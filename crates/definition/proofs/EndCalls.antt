@@ -3,7 +3,7 @@
 -- Both hold of the empty memory, and every request keeps them (`Sound`).
 use Prim.Native.Nat.{ℕ, zero, suc, _+_, _≤_, _<_}
 use mathlib.Core.Path.{_≡_, refl, sym, ap, ap₂, _∙_}
-use mathlib.Core.Bool.{Bool, true, false, not, _||_, false≢true}
+use mathlib.Core.Bool.{Bool, true, false, not, false≢true}
 use mathlib.Core.Logic.{inl, inr}
 use mathlib.Core.Option.{none}
 use mathlib.Core.List.{List, [], _∷_, _++_}
@@ -11,8 +11,10 @@ use native.Mathlib.Decide.{decLt}
 use native.Mathlib.Omega.{arith}
 use borrow.Author.Tests.{lt-ltb}
 use lib.ListN.{length, getD, replicate, set, length-set, List·getD-eq-default}
-use Rattle.definition.specs.Notation.{if_then_else_, _when_, _or_, sumOf}
+use Rattle.definition.specs.Notation.{if_then_else_, _when_, _or_, any, sumOf}
 use Rattle.definition.specs.Refusal.{malformed, neverMade, notProtected}
+use Rattle.definition.specs.Width.{Width}
+use Rattle.definition.specs.Width.Width.{Bits16, Bits32, Bits64}
 use Rattle.definition.specs.Permission.{PermissionUnprot, Protected, endAccess}
 use Rattle.definition.specs.Permission.Permission.{Unprot}
 use Rattle.definition.specs.Tree.{nodeAt}
@@ -20,10 +22,10 @@ use Rattle.definition.specs.Memory.{Allocation, Memory, allocationAt, of
 use Rattle.definition.specs.Frame.{Frame, State, frameCount, frameAt, isOpen, entries, empty, lacksProtector, releaseVisitRefusal, releaseRefusalIn, releaseRefusal, afterReleaseIn, afterRelease, releaseAllRefusal, endCallRefusal, acceptEndCall, endCall}
 use Rattle.definition.specs.Frame.Frame.{Closed, Open}
 use Rattle.definition.specs.Retag.{ReborrowSettings, reborrowSettings, withChild, afterReborrowIn}
-use Rattle.definition.specs.Request.{request, followingLength, isMiscounted, isMalformed}
+use Rattle.definition.specs.Request.{request, followingLength, isMiscounted, isMalformed, isTooBig}
 use Rattle.definition.specs.Request.Kind.{Allocate, EndCall}
-use Rattle.definition.specs.Run.{perform, step, answers, final}
-use Rattle.definition.specs.EndCalls.{EndCallsAccepted, Blameless, EndCallsBlameless}
+use Rattle.definition.specs.Run.{perform, isRefused, step, RunState, start, turn, answers, final}
+use Rattle.definition.specs.EndCalls.{endCallWords, EndCallsAccepted, Blameless, EndCallsBlameless}
 use Rattle.definition.proofs.Booleans.{or-right}
 use Rattle.definition.proofs.Any.{none-any}
 use Rattle.definition.proofs.Alls.{all-getD, all-replicate}
@@ -139,41 +141,53 @@ counted-kept =
       entered = λ f frames e. set-counted f (Open (entries (getD frames f Closed) ++ (e ∷ []))) frames;
     }
 
-pub step-sound : (s : State) (ws : List ℕ) → Sound s → Sound (step s ws .1)
+pub step-sound : (w : Width) (s : State) (ws : List ℕ) → Sound s → Sound (step w s ws .1)
 unfolding acceptEndCall
-step-sound s ws h =
+step-sound w s ws h =
     let f : ℕ = request ws .fourth in
     record {
-      count = step-keeps (λ s. Counted (s .frames)) (in-frames Counted counted-kept) s ws (λ end performed e. set-counted f Closed (s .frames)) (h .count);
+      count = step-keeps (λ s. Counted (s .frames)) (in-frames Counted counted-kept) w s ws (λ end performed e. set-counted f Closed (s .frames)) (λ empties performed. empty-sound .count) (h .count);
       releases =
           λ k.
-          step-keeps (InAllocation HasReleasable k) (in-allocation HasReleasable k releasable-kept) s ws
-          (λ end performed. ended-allocation HasReleasable k releasable-released s f)
+          step-keeps (InAllocation HasReleasable k) (in-allocation HasReleasable k releasable-kept) w s ws
+          (λ end performed. ended-allocation HasReleasable k releasable-released s f) (λ empties performed. empty-sound .releases k)
           (h .releases k);
-      entered = λ e. step-keeps (EnteredOnce e) (entered-kept e) s ws (λ end performed. entered-ended e s f) (h .entered e);
+      entered =
+          λ e.
+          step-keeps (EnteredOnce e) (entered-kept e) w s ws (λ end performed. entered-ended e s f) (λ empties performed. empty-sound .entered e)
+          (h .entered e);
     }
 
-pub run-sound : (s : State) (wss : List (List ℕ)) → Sound s → Sound (final s wss)
-unfolding final
-run-sound s [] h = h
-run-sound s (ws ∷ wss) h = run-sound (step s ws .1) wss (step-sound s ws h)
+pub run-sound : (r : RunState) (wss : List (List ℕ)) → Sound (r .state) → Sound (final r wss .state)
+unfolding final turn
+run-sound r [] h = h
+run-sound r (ws ∷ wss) h = run-sound (turn r ws .1) wss (step-sound (r .width) (r .state) ws h)
 
 -- ---- an end call by its words
 pub open-frame : (frames : List Frame) (f : ℕ) → isOpen (getD frames f Closed) ≡ true → f < length frames
 open-frame frames f o = elim (decLt f (length frames)) [ yes l ↦ l | no l ↦ absurd (false≢true (ap isOpen (sym (List·getD-eq-default frames Closed {n = f} (omega arith))) ∙ o)) ]
 
-sound-accepted : (s : State) → Sound s → EndCallsAccepted s
-unfolding step request isMiscounted followingLength isMalformed perform endCall acceptEndCall
-sound-accepted s h f o = rw (lt-ltb f 32 (omega (arith, open-frame (s .frames) f o, h .count)), o, end-call-unrefused s h f)
+-- its address is 0, and it stores nothing
+end-call-fits : (w : Width) (f : ℕ) → isTooBig w (request (endCallWords f)) ≡ false
+unfolding isTooBig request any
+end-call-fits Bits16 f = refl
+end-call-fits Bits32 f = refl
+end-call-fits Bits64 f = refl
 
-step-blameless : (s : State) → Sound s → (ws : List ℕ) → request ws .kind ≡ EndCall → Blameless (step s ws .0)
-unfolding step perform endCall acceptEndCall
-step-blameless s h ws k = go (isMiscounted ws || isMalformed (request ws .kind) s (request ws))
+sound-accepted : (r : RunState) → Sound (r .state) → EndCallsAccepted r
+unfolding turn step request isMiscounted followingLength isMalformed perform endCall acceptEndCall
+sound-accepted r h f o =
+    let s : State = r .state in
+    rw (lt-ltb f 32 (omega (arith, open-frame (s .frames) f o, h .count)), o, end-call-fits (r .width) f, end-call-unrefused s h f)
+
+turn-blameless : (r : RunState) → Sound (r .state) → (ws : List ℕ) → request ws .kind ≡ EndCall → Blameless (turn r ws .0)
+unfolding turn step perform endCall acceptEndCall
+turn-blameless r h ws k = go (isRefused (r .width) (r .state) ws)
   where
-    performed : perform (request ws .kind) s (request ws) .0 ≡ accepted
-    performed = rw (k, end-call-unrefused s h (request ws .fourth))
+    performed : perform (r .width) (request ws .kind) (r .state) (request ws) .0 ≡ accepted
+    performed = rw (k, end-call-unrefused (r .state) h (request ws .fourth))
 
-    go : (t : Bool) → Blameless ((if t then (refusedWith malformed, s) else perform (request ws .kind) s (request ws)) .0)
+    go : (t : Bool) → Blameless ((if t then (refusedWith malformed, r .state) else perform (r .width) (request ws .kind) (r .state) (request ws)) .0)
     go true = inr refl
     go false = inl performed
 
@@ -185,15 +199,15 @@ no-words k =
     let z : _≡_ {A = ℕ} 0 1 = cc in
     omega arith
 
-sound-blameless : (s : State) → Sound s → (wss : List (List ℕ)) → EndCallsBlameless s wss
-unfolding answers
-sound-blameless s h [] i k = absurd (no-words k)
-sound-blameless s h (ws ∷ wss) zero k = step-blameless s h ws k
-sound-blameless s h (ws ∷ wss) (suc i) k = sound-blameless (step s ws .1) (step-sound s ws h) wss i k
+sound-blameless : (r : RunState) → Sound (r .state) → (wss : List (List ℕ)) → EndCallsBlameless r wss
+unfolding answers turn
+sound-blameless r h [] i k = absurd (no-words k)
+sound-blameless r h (ws ∷ wss) zero k = turn-blameless r h ws k
+sound-blameless r h (ws ∷ wss) (suc i) k = sound-blameless (turn r ws .1) (step-sound (r .width) (r .state) ws h) wss i k
 
 -- ---- M-109
-pub end-calls-accepted : (wss : List (List ℕ)) → EndCallsAccepted (final empty wss)
-end-calls-accepted wss = sound-accepted (final empty wss) (run-sound empty wss empty-sound)
+pub end-calls-accepted : (wss : List (List ℕ)) → EndCallsAccepted (final start wss)
+end-calls-accepted wss = sound-accepted (final start wss) (run-sound start wss empty-sound)
 
-pub end-calls-blameless : (wss : List (List ℕ)) → EndCallsBlameless empty wss
-end-calls-blameless wss = sound-blameless empty empty-sound wss
+pub end-calls-blameless : (wss : List (List ℕ)) → EndCallsBlameless start wss
+end-calls-blameless wss = sound-blameless start empty-sound wss

@@ -11,6 +11,7 @@ use borrow.Author.Tests.{eq-eqb, eqb-true}
 use lib.ListN.{length, getD, set, List·getD-eq-default}
 use lib.Seq.{getD-append-seam}
 use Rattle.definition.specs.Notation.{if_then_else_, mutateAt, any, sumOf}
+use Rattle.definition.specs.Width.{Width}
 use Rattle.definition.specs.Permission.{Protected, SafePointer, isProtected, isYes}
 use Rattle.definition.specs.Tree.{Node, noNode, nodeAt}
 use Rattle.definition.specs.Layout.{FreezeMask}
@@ -19,9 +20,10 @@ use Rattle.definition.specs.Frame.{Frame, State, frameAt, isOpen, entrie
 use Rattle.definition.specs.Frame.Frame.{Closed, Open}
 use Rattle.definition.specs.Retag.{ReborrowSettings, reborrowSettings, childNode, withChild, afterReborrowIn, framesAfter, acceptReborrow}
 use Rattle.definition.specs.Request.{request}
-use Rattle.definition.specs.Run.{step, answers, final}
+use Rattle.definition.specs.Request.Kind.{Empty}
+use Rattle.definition.specs.Run.{step, RunState, turn, answers, final}
 use Rattle.definition.specs.Valid.{All, ValidFrame}
-use Rattle.definition.specs.SharedArguments.{isSame, IsEntered, AsksToEnd, NeverEnds}
+use Rattle.definition.specs.SharedArguments.{isSame, IsEntered, AsksToEnd, NeverEnds, NeverEmpties}
 use Rattle.definition.proofs.Booleans.{and-left, and-right}
 use Rattle.definition.proofs.Any.{none-any, any-more}
 use Rattle.definition.proofs.Counts.{sum-append, sum-set}
@@ -262,22 +264,25 @@ module _ (e : Provenance) (f : ℕ) where
             set-holds Lists Closed frames k (Open (es ++ (t ∷ []))) f (λ i h. lists-more es t h);
       }
 
-  step-lists : (s : State) (ws : List ℕ) → (AsksToEnd f ws → step s ws .0 ≡ accepted → ⊥) → Lists (frameAt s f) → Lists (frameAt (step s ws .1) f)
+  step-lists : (w : Width) (s : State) (ws : List ℕ) → (AsksToEnd f ws → step w s ws .0 ≡ accepted → ⊥) → (request ws .kind ≡ Empty → step w s ws .0 ≡ accepted → ⊥)
+      → Lists (frameAt s f) → Lists (frameAt (step w s ws .1) f)
   unfolding endCall acceptEndCall
-  step-lists s ws never =
+  step-lists w s ws never unemptied =
       let g : ℕ = request ws .fourth in
-      step-keeps (λ s. Lists (frameAt s f)) (in-frames (λ frames. Lists (getD frames f Closed)) lists-kept) s ws
+      step-keeps (λ s. Lists (frameAt s f)) (in-frames (λ frames. Lists (getD frames f Closed)) lists-kept) w s ws
       (λ end performed unrefused.
-      let answer : step s ws .0 ≡ accepted =
+      let answer : step w s ws .0 ≡ accepted =
       ap (λ (o : Answer × State). o .0) performed ∙ ap (λ (r : ℕ). unlessRefused r s (acceptEndCall g s) .0) unrefused
       in
       set-holds Lists Closed (s .frames) g Closed f (λ i h. absurd (never (record { kind = end; frame = i }) answer)))
+      (λ empties performed. absurd (unemptied empties (ap (λ (o : Answer × State). o .0) performed)))
 
-  pub run-lists : (s : State) (wss : List (List ℕ)) → NeverEnds f s wss → any (isSame e) (entries (frameAt s f)) ≡ true
-      → any (isSame e) (entries (frameAt (final s wss) f)) ≡ true
-  unfolding answers final
-  run-lists s [] never h = h
-  run-lists s (ws ∷ wss) never h = run-lists (step s ws .1) wss (λ i. never (suc i)) (step-lists s ws (never 0) h)
+  pub run-lists : (r : RunState) (wss : List (List ℕ)) → NeverEmpties r wss → NeverEnds f r wss → any (isSame e) (entries (frameAt (r .state) f)) ≡ true
+      → any (isSame e) (entries (frameAt (final r wss .state) f)) ≡ true
+  unfolding answers final turn
+  run-lists r [] unemptied never h = h
+  run-lists r (ws ∷ wss) unemptied never h =
+      run-lists (turn r ws .1) wss (λ i. unemptied (suc i)) (λ i. never (suc i)) (step-lists (r .width) (r .state) ws (never 0) (unemptied 0) h)
 
 -- ---- a node that is not made yet is in no frame of a well-formed state
 module _ (m : Memory) (e : Provenance) (unmade : wasMade m e ≡ false) where

@@ -5,9 +5,8 @@ use mathlib.Core.Path.{_≡_, refl}
 use mathlib.Core.Logic.{inl, inr}
 use mathlib.Core.List.{List, [], _∷_}
 use native.Mathlib.Omega.{arith}
-use Rattle.definition.specs.Frame.{empty}
 use Rattle.definition.specs.Request.{request}
-use Rattle.definition.specs.Run.{answers}
+use Rattle.definition.specs.Run.{start, answers}
 use Rattle.definition.specs.Exchange.{exchange, exchangeAll, Exchanged}
 use Rattle.definition.specs.Exchange.Independent.{both-loads, no-common-address}
 use Rattle.definition.proofs.Exchanges.{order-is-free}
@@ -45,5 +44,5 @@ other-order : exchangeAll places list ≡ allocation ∷ storeTo17 ∷ refusedLo
 unfolding exchangeAll exchange
 other-order = refl
 
-same-answers : answers empty (exchangeAll places list) ≡ exchangeAll places (answers empty list)
-same-answers = order-is-free empty list .same-answers places exchanged
+same-answers : answers start (exchangeAll places list) ≡ exchangeAll places (answers start list)
+same-answers = order-is-free start list .same-answers places exchanged

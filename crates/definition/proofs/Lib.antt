@@ -30,6 +30,7 @@ mod Cases
 pub mod ValidTrees
 pub mod ValidMemory
 pub mod ValidFrames
+pub mod NarrowRuns
 pub mod ValidRuns
 pub mod Changes
 pub mod Protectors

@@ -13,6 +13,7 @@ use lib.ListN.{length, getD, set, replicate, length-map, length-replicate, List�
 use lib.Seq.{getD-append-seam, getD-set-same}
 use Rattle.definition.specs.Notation.{if_then_else_, any}
 use Rattle.definition.specs.Refusal.{malformed}
+use Rattle.definition.specs.Width.{Width}
 use Rattle.definition.specs.Permission.{AccessKind, PermissionUnprot, PermissionProt, Permission, Protected, SafePointer, next, nextBy, isYes, initAccess}
 use Rattle.definition.specs.Permission.AccessKind.{Read}
 use Rattle.definition.specs.Permission.NodeRelation.{Local, Foreign}
@@ -23,14 +24,14 @@ use Rattle.definition.specs.Permission.SafePointer.{SharedRef, MutableRe
 use Rattle.definition.specs.Tree.{Node, noNode, parents, relation}
 use Rattle.definition.specs.Layout.{FreezeMask, freezeMask}
 use Rattle.definition.specs.Memory.{Allocation, size, Memory, noAllocation, allocationAt, target, offset, Provenance, ThinPointer, hasNone, allocationOf, Answer, namedPointer, refusedWith, unlessRefused, wasMade}
-use Rattle.definition.specs.Frame.{Frame, State, frameAt, isOpen, entries, empty}
+use Rattle.definition.specs.Frame.{Frame, State, frameAt, isOpen, entries}
 use Rattle.definition.specs.Frame.Frame.{Closed, Open}
 use Rattle.definition.specs.Retag.{ReborrowSettings, startPerm, childNode, withChild, reborrowRefusal, afterReborrowIn, acceptReborrow, reborrow, retagWithoutNode, retag}
-use Rattle.definition.specs.Request.{Kind, Request, request, pointer, functionEntry, unpin, freeze, frameNumber, isPinned, safePointer, entryProtector, protectorOf, settingsOf, isMiscounted, isMalformed, strayName, nonzero, bit, badSettings, badMetadata, badRetag}
+use Rattle.definition.specs.Request.{Kind, Request, request, pointer, functionEntry, unpin, freeze, frameNumber, isPinned, safePointer, entryProtector, protectorOf, settingsOf, isMiscounted, isMalformed, isTooBig, strayName, nonzero, bit, badSettings, badMetadata, badRetag}
 use Rattle.definition.specs.Request.Kind.{Retag}
-use Rattle.definition.specs.Run.{retagWithMask, performRetag, perform, step, final}
+use Rattle.definition.specs.Run.{retagWithMask, performRetag, perform, isRefused, step, RunState, start, turn, final}
 use Rattle.definition.specs.Valid.{Valid, ValidState}
-use Rattle.definition.specs.SharedArguments.{SharedArgument, StaysPut, isSame, IsEntered, NeverEnds, SharedArgumentStays}
+use Rattle.definition.specs.SharedArguments.{SharedArgument, StaysPut, isSame, IsEntered, NeverEnds, NeverEmpties, SharedArgumentStays}
 use Rattle.definition.proofs.Booleans.{or-neither, not-not-false}
 use Rattle.definition.proofs.Any.{any-more}
 use Rattle.definition.proofs.Alls.{not-refused}
@@ -72,7 +73,13 @@ abbrev newNode : Memory → ThinPointer → Provenance
 newNode m p = record { allocation = allocationOf (p .provenance); node = length (target m p .nodes) }
 
 -- ---- the retag
-module _ (s : State) (ws : List ℕ) (arg : SharedArgument s ws) where
+module _ (r : RunState) (ws : List ℕ) (arg : SharedArgument r ws) where
+  abbrev s : State
+  s = r .state
+
+  abbrev width : Width
+  width = r .width
+
   abbrev q : Request
   q = request ws
 
@@ -120,31 +127,34 @@ module _ (s : State) (ws : List ℕ) (arg : SharedArgument s ws) where
   protector : protectorOf q ≡ entryProtector SharedRef
   protector = ap₂ {C = Protected} (λ (x : SafePointer) (t : Bool). if t then entryProtector x else No) (arg .shared) (arg .atEntry)
 
-  well-formed : isMiscounted ws || isMalformed (q .kind) s q ≡ false
-  unfolding step
-  well-formed = not-malformed (isMiscounted ws || isMalformed (q .kind) s q) s (perform (q .kind) s q) (ap (λ (x : Answer). x .refusal) (arg .accept))
+  passes : isRefused width s ws ≡ false
+  unfolding turn step
+  passes = not-malformed (isRefused width s ws) s (perform width (q .kind) s q) (ap (λ (x : Answer). x .refusal) (arg .accept))
 
-  is-reborrow : step s ws ≡ reborrow w f p s
+  well-formed : isMiscounted ws || isMalformed (q .kind) s q ≡ false
+  well-formed = or-neither (isMiscounted ws || isMalformed (q .kind) s q) (isTooBig width q) passes .0
+
+  is-reborrow : step width s ws ≡ reborrow w f p s
   unfolding step perform performRetag retagWithMask retag
   is-reborrow =
-      ap (λ (t : Bool). if t then (refusedWith malformed, s) else perform (q .kind) s q) well-formed
-      ∙ ap (λ (k : Kind). perform k s q) (arg .retag)
+      ap (λ (t : Bool). if t then (refusedWith malformed, s) else perform width (q .kind) s q) passes
+      ∙ ap (λ (k : Kind). perform width k s q) (arg .retag)
       ∙ ap (λ (t : Bool). if t then retagWithoutNode p s else retagWithMask (freezeMask (q .following)) s q) (ap (λ (k : ℕ). not (ltb k 3) || (eqb k 1 && not (unpin q))) extra)
       ∙ ap (λ (o : Option FreezeMask). retagWithMask o s q) (arg .masked)
       ∙ ap (λ (t : Bool). if t then retagWithoutNode p s else reborrow w f p s) not-empty
 
   unrefused : reborrowRefusal w f p s ≡ 0
-  unfolding reborrow
+  unfolding reborrow turn
   unrefused =
       not-refused (reborrowRefusal w f p s) s (acceptReborrow w f p s)
       (ap (λ (o : Answer × State). o .0 .refusal) (sym is-reborrow) ∙ ap (λ (x : Answer). x .refusal) (arg .accept))
 
-  is-accepted : step s ws ≡ acceptReborrow w f p s
+  is-accepted : step width s ws ≡ acceptReborrow w f p s
   unfolding reborrow
   is-accepted = is-reborrow ∙ ap (λ (r : ℕ). unlessRefused r s (acceptReborrow w f p s)) unrefused
 
   made-is : child ≡ arg .made
-  unfolding acceptReborrow
+  unfolding acceptReborrow turn
   made-is =
       let e : some child ≡ some (arg .made) = ap (λ (o : Answer × State). namedPointer (o .0 .names)) (sym is-accepted) ∙ ap (λ (x : Answer). namedPointer (x .names)) (arg .accept) in
       cc
@@ -176,7 +186,7 @@ module _ (s : State) (ws : List ℕ) (arg : SharedArgument s ws) where
       in
       not-not-false (isOpen (frameAt s f)) (ap (λ (t : Bool). if t then unopened else nonzero f) (sym (arg .atEntry)) ∙ frame)
 
-  child-entered : any (isSame child) (entries (frameAt (step s ws .1) f)) ≡ true
+  child-entered : any (isSame child) (entries (frameAt (step width s ws .1) f)) ≡ true
   unfolding acceptReborrow
   child-entered =
       let es : List Provenance = entries (frameAt s f) in
@@ -240,54 +250,59 @@ module _ (s : State) (ws : List ℕ) (arg : SharedArgument s ws) where
           held = λ protected. held;
         }
 
-    after-at : allocationAt (step s ws .1 .memory) n ≡ afterReborrowIn w p a
+    after-at : allocationAt (step width s ws .1 .memory) n ≡ afterReborrowIn w p a
     unfolding acceptReborrow
     after-at = ap (λ (o : Answer × State). allocationAt (o .1 .memory) n) is-accepted ∙ mutate-here (afterReborrowIn w p) noAllocation m n (parent .allocation)
 
-    after-once : EnteredOnce child (step s ws .1)
+    after-once : EnteredOnce child (step width s ws .1)
     after-once =
         subst (λ (o : Answer × State). EnteredOnce child (o .1)) (sym is-accepted)
         (entered-kept child .reborrowed (safePointer q) (protectorOf q) mask (freeze q) f p s tests parent once)
 
     -- and in every later one in which the node is entered
-    module _ (wss : List (List ℕ)) where
+    module _ (wss : List (List ℕ)) (unemptied : NeverEmpties (turn r ws .1) wss) where
       abbrev end : State
-      end = final (step s ws .1) wss
+      end = final (turn r ws .1) wss .state
 
       end-held : IsEntered child end → Held (length (a .nodes)) b word (allocationAt (end .memory) n)
+      unfolding turn
       end-held entered =
           let k : ℕ = length (a .nodes) in
           let P : Allocation → Type 0 = HeldWhileProtected k b word in
-          run-keeps (InAllocation P n) (in-allocation P n (held-kept k b word)) (ended-allocation P n (held-released k b word)) (step s ws .1) wss (subst P (sym after-at) after-held) .held
-          (entered-protected child end (run-keeps (EnteredOnce child) (entered-kept child) (entered-ended child) (step s ws .1) wss after-once) entered)
+          run-keeps (InAllocation P n) (in-allocation P n (held-kept k b word)) (ended-allocation P n (held-released k b word)) (turn r ws .1) wss unemptied
+          (subst P (sym after-at) after-held) .held
+          (entered-protected child end (run-keeps (EnteredOnce child) (entered-kept child) (entered-ended child) (turn r ws .1) wss unemptied after-once) entered)
 
       stays-put : IsEntered (arg .made) end → StaysPut (arg .made .allocation) b s end
       stays-put =
           subst (λ (t : Provenance). IsEntered t end → StaysPut (t .allocation) b s end) made-is
           (λ entered. let h = end-held entered in record { live = h .live; within = h .within; contents = h .contents })
 
-      still-entered : NeverEnds f (step s ws .1) wss → IsEntered (arg .made) end
+      still-entered : NeverEnds f (turn r ws .1) wss → IsEntered (arg .made) end
+      unfolding turn
       still-entered never =
-          subst (λ (t : Provenance). IsEntered t end) made-is (record { frame = f; entered = run-lists child f (step s ws .1) wss never child-entered })
+          subst (λ (t : Provenance). IsEntered t end) made-is
+          (record { frame = f; entered = run-lists child f (turn r ws .1) wss unemptied never child-entered })
 
 -- ---- M-113
 -- in a state whose trees are trees, and whose frames do not have the new node yet
-argument-stays : (s : State) (ws : List ℕ) (wss : List (List ℕ)) → ((k : ℕ) → Parents (parents (allocationAt (s .memory) k .nodes)))
-    → ((p : ThinPointer) → EnteredOnce (newNode (s .memory) p) s) → SharedArgumentStays s ws wss
+argument-stays : (r : RunState) (ws : List ℕ) (wss : List (List ℕ)) → ((k : ℕ) → Parents (parents (allocationAt (r .state .memory) k .nodes)))
+    → ((p : ThinPointer) → EnteredOnce (newNode (r .state .memory) p) (r .state)) → SharedArgumentStays r ws wss
 unfolding final
-argument-stays s ws wss trees once =
+argument-stays r ws wss trees once =
     let p : ThinPointer = pointer (request ws) in
     let tree = trees (allocationOf (p .provenance)) in
     record {
-      whileEntered = λ x. stays-put s ws x tree (once p) wss;
-      duringCall = λ x never. stays-put s ws x tree (once p) wss (still-entered s ws x tree (once p) wss never);
+      whileEntered = λ x unemptied. stays-put r ws x tree (once p) wss unemptied;
+      duringCall = λ x unemptied never. stays-put r ws x tree (once p) wss unemptied (still-entered r ws x tree (once p) wss unemptied never);
     }
 
 -- that is, in whatever a list of requests leaves of the empty memory
-pub shared-argument-stays : (before : List (List ℕ)) (ws : List ℕ) (wss : List (List ℕ)) → SharedArgumentStays (final empty before) ws wss
+pub shared-argument-stays : (before : List (List ℕ)) (ws : List ℕ) (wss : List (List ℕ)) → SharedArgumentStays (final start before) ws wss
 shared-argument-stays before ws wss =
-    let sound : Sound (final empty before) = run-sound empty before empty-sound in
-    argument-stays (final empty before) ws wss (λ k. sound .releases k .tree) (λ p. sound .entered (newNode (final empty before .memory) p))
+    let r : RunState = final start before in
+    let sound : Sound (r .state) = run-sound start before empty-sound in
+    argument-stays r ws wss (λ k. sound .releases k .tree) (λ p. sound .entered (newNode (r .state .memory) p))
 
 -- and in every well-formed state
 valid-trees : (m : Memory) → Valid m → (k : ℕ) → Parents (parents (allocationAt m k .nodes))
@@ -305,7 +320,8 @@ not-yet-made m p =
     let known : Bool = ltb (allocationOf (p .provenance)) (length m) in
     ap (λ (t : Bool). known && t) (le-ltb (length nodes) (length nodes) (omega arith)) ∙ and-false known
 
-pub valid-argument-stays : (s : State) → ValidState s → (ws : List ℕ) (wss : List (List ℕ)) → SharedArgumentStays s ws wss
-valid-argument-stays s v ws wss =
-    argument-stays s ws wss (valid-trees (s .memory) (v .memory))
+pub valid-argument-stays : (r : RunState) → ValidState (r .state) → (ws : List ℕ) (wss : List (List ℕ)) → SharedArgumentStays r ws wss
+valid-argument-stays r v ws wss =
+    let s : State = r .state in
+    argument-stays r ws wss (valid-trees (s .memory) (v .memory))
     (λ p. omega (arith, in-no-frame (s .memory) (newNode (s .memory) p) (not-yet-made (s .memory) p) (s .frames) (v .frames)))

@@ -5,14 +5,15 @@ use mathlib.Core.Option.{some}
 use mathlib.Core.List.{List, [], _∷_, _++_}
 use lib.ListN.{replicate}
 use Rattle.definition.specs.Notation.{firstRefusal, tableFrom, mapFrom, mutateAt, writeAt, filter, any, sumOf}
+use Rattle.definition.specs.Width.Width.{Bits64}
 use Rattle.definition.specs.Permission.{refusal, next, endAccess, permission}
 use Rattle.definition.specs.Tree.{isAboveWithin, relation, descendants, preorder, visitingOrder, rowRefusal, nodeRefusal, visitRefusal, nodeAfter, visited}
 use Rattle.definition.specs.Layout.{cellsFit, isFreeze, nestedMask, freezeMask}
 use Rattle.definition.specs.Memory.{wrappingOffset, checkPtr, accessRefusalIn, accessRefusal, afterAccessIn, afterAccess, loadedWords, acceptAccess, performAccess, isPickable, exceedsBounds, newAllocation, allocateRefusal, acceptAllocate, allocate, deallocateRefusal, afterDeallocateIn, acceptDeallocate, deallocate, dereferenceable, firstLeak, leakCheck, Answer, refusedWith, accepted, givesPointer, givesWords}
-use Rattle.definition.specs.Frame.{newCall, releaseRefusalIn, releaseRefusal, afterReleaseIn, afterRelease, releaseAllRefusal, afterReleaseAll, endCallRefusal, acceptEndCall, endCall, State, empty}
+use Rattle.definition.specs.Frame.{newCall, releaseRefusalIn, releaseRefusal, afterReleaseIn, afterRelease, releaseAllRefusal, afterReleaseAll, endCallRefusal, acceptEndCall, endCall, State}
 use Rattle.definition.specs.Retag.{childNode, withChild, initRefusal, afterInit, reborrowRefusal, afterReborrowIn, acceptReborrow, reborrow, retagWithoutNode, retag}
-use Rattle.definition.specs.Request.{request, followingLength, isMiscounted, badByte, badSettings, badMetadata, badRetag, isMalformed}
-use Rattle.definition.specs.Run.{retagWithMask, performRetag, perform, step, answers, final, wordsOf, cutRequests, requestsOf, performedCount, program}
+use Rattle.definition.specs.Request.{request, followingLength, isMiscounted, badByte, badSettings, badMetadata, badRetag, isMalformed, isTooFar, isTooBig}
+use Rattle.definition.specs.Run.{retagWithMask, performRetag, perform, step, RunState, start, widthAfter, turn, answers, final, wordsOf, cutRequests, requestsOf, performedCount, program}
 use Rattle.definition.specs.Output.{Text, ascii, digit, decimalWithin, decimal, hexadecimal, ended, pointed, given, answerLine, livenessName, kindName, allocationLine, dataLine, protectorName, parentName, codes, nodeLine, nodeLines, allocationLines, memoryLines, answerLines, output}
 use Rattle.definition.specs.Permission.AccessKind.{Read, Write}
 use Rattle.definition.specs.Permission.NodeRelation.{Foreign}
@@ -85,23 +86,23 @@ abbrev heapAt : ℕ → ℕ → ℕ → List ℕ
 heapAt high low bytes = 0x00000001 ∷ high ∷ low ∷ bytes ∷ []
 
 -- the memory with the bytes 16..18 allocated
-abbrev beside : State
-beside = final empty (heapAt 0 16 2 ∷ [])
+abbrev beside : RunState
+beside = final start (heapAt 0 16 2 ∷ [])
 
 pub record Stars : Type 0 where
   -- "★the run above": its answers and all that it leaves, as a list, and as the program reads it; and the text that the program prints of it
-  pub run-answers : answers empty theRun ≡ itsAnswers
-  pub run-state : final empty theRun ≡ itsState
+  pub run-answers : answers start theRun ≡ itsAnswers
+  pub run-state : final start theRun ≡ record { state = itsState; width = Bits64 }
   pub run-requests : requestsOf (bytesOf theRun) ≡ theRun
-  pub run-program : program (bytesOf theRun) ≡ (itsAnswers, itsState)
+  pub run-program : program (bytesOf theRun) ≡ (itsAnswers, record { state = itsState; width = Bits64 })
   pub run-output : output (bytesOf theRun) ≡ itsText
   -- "size 1 at 2^64 − 2 ★accepted, size 2 ★5"
-  pub size-1 : step empty (heapAt 0xffffffff 0xfffffffe 1) .0 ≡ pointerTo 0 0
-  pub size-2 : step empty (heapAt 0xffffffff 0xfffffffe 2) .0 ≡ refusedWith 5
+  pub size-1 : turn start (heapAt 0xffffffff 0xfffffffe 1) .0 ≡ pointerTo 0 0
+  pub size-2 : turn start (heapAt 0xffffffff 0xfffffffe 2) .0 ≡ refusedWith 5
   -- "beside 16..18, size 0 at 16 ★5, 17 ★5, 18 ★accepted"
-  pub at-16 : step beside (heapAt 0 16 0) .0 ≡ refusedWith 5
-  pub at-17 : step beside (heapAt 0 17 0) .0 ≡ refusedWith 5
-  pub at-18 : step beside (heapAt 0 18 0) .0 ≡ pointerTo 1 0
+  pub at-16 : turn beside (heapAt 0 16 0) .0 ≡ refusedWith 5
+  pub at-17 : turn beside (heapAt 0 17 0) .0 ≡ refusedWith 5
+  pub at-18 : turn beside (heapAt 0 18 0) .0 ≡ pointerTo 1 0
   -- "★code 8 releases a read; ★b a write"
   pub code-8 : endAccess (permission 8) ≡ some Read
   pub code-b : endAccess (permission 11) ≡ some Write
@@ -109,10 +110,10 @@ pub record Stars : Type 0 where
   pub foreign-write-7 : (refusal Write Foreign (permission 7) ≡ 0) × (next Write Foreign (permission 7) ≡ permission 14)
   pub foreign-write-d : refusal Write Foreign (permission 13) ≡ 22
   -- "★signed length −1 at the start 9"
-  pub signed : step beside (0x80000100 ∷ 0 ∷ 16 ∷ 0xffffffff ∷ []) .0 ≡ refusedWith 9
+  pub signed : turn beside (0x80000100 ∷ 0 ∷ 16 ∷ 0xffffffff ∷ []) .0 ≡ refusedWith 9
 
 pub stars : Stars
-unfolding firstRefusal tableFrom mapFrom mutateAt writeAt filter any sumOf refusal next isAboveWithin relation descendants preorder visitingOrder rowRefusal nodeRefusal visitRefusal nodeAfter visited cellsFit isFreeze nestedMask freezeMask wrappingOffset checkPtr accessRefusalIn accessRefusal afterAccessIn afterAccess loadedWords acceptAccess performAccess isPickable exceedsBounds newAllocation allocateRefusal acceptAllocate allocate deallocateRefusal afterDeallocateIn acceptDeallocate deallocate dereferenceable firstLeak leakCheck newCall releaseRefusalIn releaseRefusal afterReleaseIn afterRelease releaseAllRefusal afterReleaseAll endCallRefusal acceptEndCall endCall childNode withChild initRefusal afterInit reborrowRefusal afterReborrowIn acceptReborrow reborrow retagWithoutNode retag request followingLength isMiscounted badByte badSettings badMetadata badRetag isMalformed retagWithMask performRetag perform step answers final wordsOf cutRequests requestsOf performedCount program bytesOfWords bytesOf digit decimalWithin decimal hexadecimal ended pointed given answerLine livenessName kindName allocationLine dataLine protectorName parentName codes nodeLine nodeLines allocationLines memoryLines answerLines output
+unfolding firstRefusal tableFrom mapFrom mutateAt writeAt filter any sumOf refusal next isAboveWithin relation descendants preorder visitingOrder rowRefusal nodeRefusal visitRefusal nodeAfter visited cellsFit isFreeze nestedMask freezeMask wrappingOffset checkPtr accessRefusalIn accessRefusal afterAccessIn afterAccess loadedWords acceptAccess performAccess isPickable exceedsBounds newAllocation allocateRefusal acceptAllocate allocate deallocateRefusal afterDeallocateIn acceptDeallocate deallocate dereferenceable firstLeak leakCheck newCall releaseRefusalIn releaseRefusal afterReleaseIn afterRelease releaseAllRefusal afterReleaseAll endCallRefusal acceptEndCall endCall childNode withChild initRefusal afterInit reborrowRefusal afterReborrowIn acceptReborrow reborrow retagWithoutNode retag request followingLength isMiscounted badByte badSettings badMetadata badRetag isMalformed isTooFar isTooBig retagWithMask performRetag perform step widthAfter turn answers final wordsOf cutRequests requestsOf performedCount program bytesOfWords bytesOf digit decimalWithin decimal hexadecimal ended pointed given answerLine livenessName kindName allocationLine dataLine protectorName parentName codes nodeLine nodeLines allocationLines memoryLines answerLines output
 stars =
     record {
       run-answers = refl;

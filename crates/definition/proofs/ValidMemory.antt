@@ -11,6 +11,8 @@ use borrow.Author.Tests.{ltb-true, lt-ltb, ltb-false, leb-true, eqb-false, not-t
 use lib.ListN.{length, length-append, length-replicate, List·getD-append}
 use Rattle.definition.specs.Notation.{_when_, mutateAt, writeAt, any, sumOf}
 use Rattle.definition.specs.Refusal.{failsPick, sizeExceeded}
+use Rattle.definition.specs.Width.{Width, addresses}
+use Rattle.definition.specs.Width.Width.{Bits16, Bits32, Bits64}
 use Rattle.definition.specs.Permission.{isProtected}
 use Rattle.definition.specs.Permission.Permission.{Unprot}
 use Rattle.definition.specs.Permission.PermissionUnprot.{Unique}
@@ -255,27 +257,38 @@ room m more e =
 
 -- ---- allocate
 -- what `pick` accepts, taken apart
-record Pickable (m : Memory) (len exponent address : ℕ) : Type 0 where
-  positive : 0 < address
-  aligned : isMisaligned address exponent ≡ false
-  inSpace : address + len < 2 ^ 64
-  separate : All (λ a. overlaps address len a ≡ false) m
+pub record Pickable (w : Width) (m : Memory) (len exponent address : ℕ) : Type 0 where
+  pub positive : 0 < address
+  pub aligned : isMisaligned address exponent ≡ false
+  pub inSpace : address + len < addresses w
+  pub separate : All (λ a. overlaps address len a ≡ false) m
 
-pickable : (m : Memory) (len exponent address : ℕ) → isPickable m len exponent address ≡ true → Pickable m len exponent address
+-- every target has an address, and none more than 2^64
+pub some-address : (w : Width) → 0 < addresses w
+some-address Bits16 = omega arith
+some-address Bits32 = omega arith
+some-address Bits64 = omega arith
+
+pub most-addresses : (w : Width) → addresses w ≤ 2 ^ 64
+most-addresses Bits16 = omega arith
+most-addresses Bits32 = omega arith
+most-addresses Bits64 = omega arith
+
+pub pickable : (w : Width) (m : Memory) (len exponent address : ℕ) → isPickable w m len exponent address ≡ true → Pickable w m len exponent address
 unfolding isPickable
-pickable m len exponent address e =
+pickable w m len exponent address e =
     let positive : Bool = not (eqb address 0) in
     let aligned : Bool = not (isMisaligned address exponent) in
-    let inSpace : Bool = leb (address + len) (2 ^ 64 - 1) in
+    let inSpace : Bool = leb (address + len) (addresses w - 1) in
     let separate : Bool = not (any (overlaps address len) m) in
     let three = and-left (positive && aligned && inSpace) separate e in
     let two = and-left (positive && aligned) inSpace three in
     let nonzero : address ≡ 0 → ⊥ = eqb-false address 0 (not-true (eqb address 0) (and-left positive aligned two)) in
-    let fits : address + len ≤ 2 ^ 64 - 1 = leb-true (address + len) (2 ^ 64 - 1) (and-right (positive && aligned) inSpace three) in
+    let fits : address + len ≤ addresses w - 1 = leb-true (address + len) (addresses w - 1) (and-right (positive && aligned) inSpace three) in
     record {
       positive = omega arith;
       aligned = not-true (isMisaligned address exponent) (and-right positive aligned two);
-      inSpace = omega arith;
+      inSpace = omega (arith, fits, some-address w);
       separate = none-pass (overlaps address len) m (not-true (any (overlaps address len) m) (and-right (positive && aligned && inSpace) separate e));
     }
 
@@ -295,7 +308,7 @@ made-append m a e h =
       node = rw (List·getD-append m (a ∷ []) noAllocation (e .allocation) (old .allocation)) (old .node);
     })
 
-module _ (kind : AllocationKind) (len exponent address : ℕ) where
+module _ (w : Width) (kind : AllocationKind) (len exponent address : ℕ) where
   abbrev new : Allocation
   new = newAllocation kind len exponent address
 
@@ -310,14 +323,14 @@ module _ (kind : AllocationKind) (len exponent address : ℕ) where
   new-codes : codeCount new ≡ len
   new-codes = ap₂ _*_ new-node new-size ∙ one-mul len
 
-  new-valid : exponent ≤ 29 → (m : Memory) → Pickable m len exponent address → ValidAllocation new
+  new-valid : exponent ≤ 29 → (m : Memory) → Pickable w m len exponent address → ValidAllocation new
   unfolding newAllocation badByte
   new-valid x m h =
       record {
         exponent = x;
         positive = h .positive;
         aligned = h .aligned;
-        inSpace = rw length-replicate (h .inSpace);
+        inSpace = rw length-replicate (omega (arith, h .inSpace, most-addresses w));
         words = all-replicate ValidByte len 0 (record { word = omega arith; wellFormed = refl });
         root = omega arith;
         nodes = (
@@ -334,7 +347,7 @@ module _ (kind : AllocationKind) (len exponent address : ℕ) where
   unfolding newAllocation
   new-separate m h = subst (λ (n : ℕ). All (λ a. overlaps address n a ≡ false) m) (sym new-size) h
 
-  appended-kept : (m : Memory) → exponent ≤ 29 → Pickable m len exponent address → Room m (ofAllocation len) → Valid m → MemoryKept m (m ++ (new ∷ []))
+  appended-kept : (m : Memory) → exponent ≤ 29 → Pickable w m len exponent address → Room m (ofAllocation len) → Valid m → MemoryKept m (m ++ (new ∷ []))
   unfolding sumOf
   appended-kept m x h r v =
       record {
@@ -353,16 +366,16 @@ module _ (kind : AllocationKind) (len exponent address : ℕ) where
         made = made-append m new;
       }
 
-  pub allocate-kept : exponent ≤ 29 → (m : Memory) → Valid m → MemoryKept m (allocate kind len exponent address m .1)
+  pub allocate-kept : exponent ≤ 29 → (m : Memory) → Valid m → MemoryKept m (allocate w kind len exponent address m .1)
   unfolding allocate acceptAllocate allocateRefusal
   allocate-kept x m v =
-      let unpickable : Bool = not (isPickable m len exponent address) in
+      let unpickable : Bool = not (isPickable w m len exponent address) in
       let tooMuch : Bool = exceedsBounds m (ofAllocation len) in
-      outcome-holds (MemoryKept m) (allocateRefusal m len exponent address) m (acceptAllocate kind len exponent address m) (same-kept m v)
+      outcome-holds (MemoryKept m) (allocateRefusal w m len exponent address) m (acceptAllocate kind len exponent address m) (same-kept m v)
       (λ e.
       appended-kept m x
-      (pickable m len exponent address (not-not-false (isPickable m len exponent address) (when-none 4 unpickable (or-left (failsPick when unpickable) (sizeExceeded when tooMuch) e))))
+      (pickable w m len exponent address (not-not-false (isPickable w m len exponent address) (when-none 4 unpickable (or-left (failsPick when unpickable) (sizeExceeded when tooMuch) e))))
       (room m (ofAllocation len) (when-none 14 tooMuch (or-right (failsPick when unpickable) (sizeExceeded when tooMuch) e))) v)
 
-  pub valid-allocate : exponent ≤ 29 → (m : Memory) → Valid m → Valid (allocate kind len exponent address m .1)
+  pub valid-allocate : exponent ≤ 29 → (m : Memory) → Valid m → Valid (allocate w kind len exponent address m .1)
   valid-allocate x m v = allocate-kept x m v .valid

@@ -8,10 +8,9 @@ use lib.Dec.{eqb}
 use lib.ListN.{getD}
 use Rattle.definition.specs.Refusal.{malformed}
 use Rattle.definition.specs.Memory.{Answer, refusedWith}
-use Rattle.definition.specs.Frame.{State}
 use Rattle.definition.specs.Request.{Kind, request}
 use Rattle.definition.specs.Request.Kind.{Load, Store}
-use Rattle.definition.specs.Run.{answers, final}
+use Rattle.definition.specs.Run.{RunState, answers, final}
 
 -- ---- neighbours that may be exchanged
 abbrev pub kindOf : List ℕ → Kind
@@ -55,9 +54,9 @@ Exchanged [] l = Unit {0}
 Exchanged (n ∷ places) l = MayExchange (getD l n []) (getD l (suc n) []) × Exchanged places (exchange n l)
 
 -- ---- an accepted load
-pub record AcceptedLoad (s : State) (l : List (List ℕ)) (n : ℕ) : Type 0 where
+pub record AcceptedLoad (r : RunState) (l : List (List ℕ)) (n : ℕ) : Type 0 where
   pub load : kindOf (getD l n []) ≡ Load
-  pub accepted : getD (answers s l) n (refusedWith malformed) .refusal ≡ 0
+  pub accepted : getD (answers r l) n (refusedWith malformed) .refusal ≡ 0
 
 -- element n made again directly after
 unfoldable pub twice : {A : Type 0} → ℕ → List A → List A
@@ -70,14 +69,14 @@ unfoldable pub allAccepted : List Answer → Bool
 allAccepted [] = true
 allAccepted (a ∷ l) = eqb (a .refusal) 0 && allAccepted l
 
--- ---- the claim about a list of requests, from a state on
-pub record OrderIsFree (s : State) (l : List (List ℕ)) : Type 0 where
+-- ---- the claim about a list of requests, from a run's state on
+pub record OrderIsFree (r : RunState) (l : List (List ℕ)) : Type 0 where
   -- each request gets the same answer in its new place
-  pub same-answers : (places : List ℕ) → Exchanged places l → answers s (exchangeAll places l) ≡ exchangeAll places (answers s l)
-  -- memory and frames are the same in the end
-  pub same-end : (places : List ℕ) → Exchanged places l → final s (exchangeAll places l) ≡ final s l
+  pub same-answers : (places : List ℕ) → Exchanged places l → answers r (exchangeAll places l) ≡ exchangeAll places (answers r l)
+  -- memory, frames and width are the same in the end
+  pub same-end : (places : List ℕ) → Exchanged places l → final r (exchangeAll places l) ≡ final r l
   -- all of the first list is accepted exactly when all of the second is
-  pub same-acceptance : (places : List ℕ) → Exchanged places l → allAccepted (answers s (exchangeAll places l)) ≡ allAccepted (answers s l)
+  pub same-acceptance : (places : List ℕ) → Exchanged places l → allAccepted (answers r (exchangeAll places l)) ≡ allAccepted (answers r l)
   -- an accepted load made again is accepted, gives the same words, and changes nothing more
-  pub again-answers : (n : ℕ) → AcceptedLoad s l n → answers s (twice n l) ≡ twice n (answers s l)
-  pub again-end : (n : ℕ) → AcceptedLoad s l n → final s (twice n l) ≡ final s l
+  pub again-answers : (n : ℕ) → AcceptedLoad r l n → answers r (twice n l) ≡ twice n (answers r l)
+  pub again-end : (n : ℕ) → AcceptedLoad r l n → final r (twice n l) ≡ final r l

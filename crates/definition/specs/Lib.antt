@@ -1,6 +1,7 @@
 -- The meaning of a run of memory requests under Tree Borrows, in reading order.
 pub mod Notation
 pub mod Refusal
+pub mod Width
 pub mod Permission
 pub mod Tree
 pub mod Layout

@@ -8,6 +8,7 @@ use lib.Dec.{eqb, leb, ltb}
 use lib.ListN.{length, getD, take, drop, replicate}
 use Rattle.definition.specs.Notation.{if_then_else_, _when_, _or_, mutateAt, writeAt, any, sumOf}
 use Rattle.definition.specs.Refusal.{neverMade, failsPick, misaligned, missingProvenance, deadAllocation, outOfBounds, awayFromStart, anotherKind, anotherSize, anotherAlignment, sizeExceeded, strongProtector, memoryLeak}
+use Rattle.definition.specs.Width.{Width, addresses}
 use Rattle.definition.specs.Permission.{AccessKind, preventsDeallocation, isStrong}
 use Rattle.definition.specs.Permission.AccessKind.{Read, Write}
 use Rattle.definition.specs.Permission.Permission.{Unprot}
@@ -25,10 +26,11 @@ pub record ThinPointer : Type 0 where
   pub address : ℕ
   pub provenance : Option Provenance
 
--- `wrapping_offset`, by so many bytes back or ahead: "A pointer offset, in the library a signed 64-bit number, does wrap at 2^64."
-unfoldable pub wrappingOffset : ThinPointer → ℕ → ℕ → ThinPointer
-wrappingOffset p back ahead =
-    record { address = (p .address + ahead + (2 ^ 64 - back)) % 2 ^ 64; provenance = p .provenance }
+-- `wrapping_offset`, by so many bytes back or ahead: "A pointer offset, in the library a signed 64-bit number, does wrap at 2^64."; M-110: at the width,
+-- of which 2^64 is a multiple
+unfoldable pub wrappingOffset : Width → ThinPointer → ℕ → ℕ → ThinPointer
+wrappingOffset w p back ahead =
+    record { address = (p .address + ahead + (2 ^ 64 - back)) % addresses w; provenance = p .provenance }
 
 abbrev pub hasNone : Option Provenance → Bool
 hasNone none = true
@@ -219,12 +221,13 @@ rangesOverlap address len address′ len′ =
 abbrev pub overlaps : ℕ → ℕ → Allocation → Bool
 overlaps address len a = isLive (a .state) && rangesOverlap (a .address) (size a) address len
 
--- what `pick` accepts: "above 0, a multiple of the alignment, address + size at most 2^64 − 1, no live allocation overlapping"
-unfoldable pub isPickable : Memory → ℕ → ℕ → ℕ → Bool
-isPickable m len exponent address =
+-- what `pick` accepts: "above 0, a multiple of the alignment, address + size at most 2^64 − 1, no live allocation overlapping"; M-110: "Address plus size is
+-- at most 2 to the width, less 1."
+unfoldable pub isPickable : Width → Memory → ℕ → ℕ → ℕ → Bool
+isPickable w m len exponent address =
     not (eqb address 0)
     && not (isMisaligned address exponent)
-    && leb (address + len) (2 ^ 64 - 1)
+    && leb (address + len) (addresses w - 1)
     && not (any (overlaps address len) m)
 
 -- "128 allocations; 4,096 words; 1,024 nodes; 32,768 codes"
@@ -268,9 +271,9 @@ newAllocation kind len exponent address =
       nodes = record { parent = 0; protected = No; permissions = replicate len (Unprot Unique) } ∷ [];
     }
 
-unfoldable pub allocateRefusal : Memory → ℕ → ℕ → ℕ → ℕ
-allocateRefusal m len exponent address =
-    failsPick when not (isPickable m len exponent address) or sizeExceeded when exceedsBounds m (ofAllocation len)
+unfoldable pub allocateRefusal : Width → Memory → ℕ → ℕ → ℕ → ℕ
+allocateRefusal w m len exponent address =
+    failsPick when not (isPickable w m len exponent address) or sizeExceeded when exceedsBounds m (ofAllocation len)
 
 unfoldable pub acceptAllocate : AllocationKind → ℕ → ℕ → ℕ → Memory → Answer × Memory
 acceptAllocate kind len exponent address m = (
@@ -278,9 +281,9 @@ acceptAllocate kind len exponent address m = (
   m ++ (newAllocation kind len exponent address ∷ []),
 )
 
-unfoldable pub allocate : AllocationKind → ℕ → ℕ → ℕ → Memory → Answer × Memory
-allocate kind len exponent address m =
-    unlessRefused (allocateRefusal m len exponent address) m (acceptAllocate kind len exponent address m)
+unfoldable pub allocate : Width → AllocationKind → ℕ → ℕ → ℕ → Memory → Answer × Memory
+allocate w kind len exponent address m =
+    unlessRefused (allocateRefusal w m len exponent address) m (acceptAllocate kind len exponent address m)
 
 -- ---- deallocate: a write to all bytes, then 24 on the permissions as written (decision 31). The paper: a deallocation is a write of the whole allocation,
 -- and undefined behaviour under a protector. "Deallocation under a strong protector that prevents it.": one that protects a byte which was accessed, the

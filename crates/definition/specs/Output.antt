@@ -154,7 +154,7 @@ answerLines i (a ∷ rest) = answerLine i a ++ answerLines (suc i) rest
 
 -- what the program prints of the run that it reads
 unfoldable pub output : List ℕ → Text
-output bytes = let left = program bytes in answerLines 0 (left .0) ++ memoryLines 0 (left .1 .memory)
+output bytes = let left = program bytes in answerLines 0 (left .0) ++ memoryLines 0 (left .1 .state .memory)
 
 -- the text is that
 abbrev pub IsOutput : List ℕ → Text → Type 0

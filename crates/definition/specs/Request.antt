@@ -3,9 +3,11 @@ use Prim.Native.Nat.{ℕ, _+_, _-_, _*_, _/_, _%_, _^_}
 use mathlib.Core.Bool.{Bool, true, false, not, _&&_, _||_}
 use mathlib.Core.Option.{none, some}
 use mathlib.Core.List.{List, [], _∷_}
-use lib.Dec.{eqb, ltb}
+use lib.Dec.{eqb, leb, ltb}
 use lib.ListN.{length, getD, drop}
 use Rattle.definition.specs.Notation.{if_then_else_, any}
+use Rattle.definition.specs.Width.{Width, addresses, pointerBytes}
+use Rattle.definition.specs.Width.Width.{Bits16, Bits32, Bits64}
 use Rattle.definition.specs.Permission.{Protected, SafePointer}
 use Rattle.definition.specs.Permission.AccessKind.{Read, Write}
 use Rattle.definition.specs.Permission.Protected.{No, Weak, Strong}
@@ -17,13 +19,14 @@ use Rattle.definition.specs.Frame.{State, frameAt, frameCount, isOpen}
 use Rattle.definition.specs.Retag.{ReborrowSettings, reborrowSettings}
 
 -- "0 allocate, 1 deallocate, 2 load, 3 store, 4 retag, 5 new call, 6 end call, 7 dereferenceable, 8 signed dereferenceable .., 9 leak check;
--- 10 to 15 fall under 2"
+-- 10 to 15 fall under 2", of which M-110 takes the last: "kind 15 empties the memory"
 pub data Kind : Type 0 where
-  Allocate Deallocate Load Store Retag NewCall EndCall Dereferenceable SignedDereferenceable LeakCheck Unused : Kind
+  Allocate Deallocate Load Store Retag NewCall EndCall Dereferenceable SignedDereferenceable LeakCheck Empty Unused : Kind
 
 abbrev pub requestKinds : List Kind
 requestKinds =
-    Allocate ∷ Deallocate ∷ Load ∷ Store ∷ Retag ∷ NewCall ∷ EndCall ∷ Dereferenceable ∷ SignedDereferenceable ∷ LeakCheck ∷ []
+    Allocate ∷ Deallocate ∷ Load ∷ Store ∷ Retag ∷ NewCall ∷ EndCall ∷ Dereferenceable ∷ SignedDereferenceable ∷ LeakCheck
+    ∷ Unused ∷ Unused ∷ Unused ∷ Unused ∷ Unused ∷ Empty ∷ []
 
 pub record Request : Type 0 where
   pub kind : Kind
@@ -85,6 +88,13 @@ frameNumber q = q .fourth / 2 ^ 23 % 2 ^ 5
 abbrev pub layoutLength : Request → ℕ
 layoutLength q = q .fourth % 2 ^ 23
 
+-- extra of an emptying: "extra 0, 1 or 2 for 16, 32 or 64 bits"; from 3 on it is outside its list
+abbrev pub widths : List Width
+widths = Bits16 ∷ Bits32 ∷ Bits64 ∷ []
+
+abbrev pub chosenWidth : Request → Width
+chosenWidth q = getD widths (q .extra) Bits64
+
 -- extra of a retag: "0 shared reference, 1 mutable reference, 2 box, 3 raw, 4 function, 5 vtable pointer"; the first three are safe
 abbrev pub isSafe : Request → Bool
 isSafe q = ltb (q .extra) 3
@@ -140,6 +150,7 @@ followingLength q =
       | Dereferenceable ↦ 0
       | SignedDereferenceable ↦ 0
       | LeakCheck ↦ 0
+      | Empty ↦ 0
       | Unused ↦ 0
     ]
 
@@ -165,6 +176,9 @@ badExponent q = ltb 29 (q .exponent)
 
 abbrev pub badAllocationKind : Request → Bool
 badAllocationKind q = ltb 4 (q .extra)
+
+abbrev pub badWidth : Request → Bool
+badWidth q = ltb 2 (q .extra)
 
 -- "A byte is a word: initialised (1), has provenance (1), position (3), allocation (7), node (12), value (8). An uninitialised byte is 0;
 -- without provenance the middle fields are 0."
@@ -208,4 +222,36 @@ isMalformed Dereferenceable s q = strayName q || nonzero (q .exponent) || nonzer
 isMalformed SignedDereferenceable s q = strayName q || nonzero (q .exponent) || nonzero (q .extra)
 isMalformed LeakCheck s q =
     anyName q || nonzero (q .exponent) || nonzero (q .extra) || nonzero (q .address) || nonzero (q .fourth)
+isMalformed Empty s q =
+    anyName q || nonzero (q .exponent) || badWidth q || nonzero (q .address) || nonzero (q .fourth)
 isMalformed Unused s q = true
+
+-- ---- 2 by the width. M-110: "An address or position too big for the width falls under 2."
+abbrev pub isTooHigh : Width → ℕ → Bool
+isTooHigh w address = leb (addresses w) address
+
+-- which byte of a pointer a byte is a fragment of: "position (3)"
+abbrev pub position : ℕ → ℕ
+position byte = byte / 2 ^ 27 % 2 ^ 3
+
+unfoldable pub isTooFar : Width → ℕ → Bool
+isTooFar w byte = leb (pointerBytes w) (position byte)
+
+-- the bytes that a request stores
+abbrev pub storedBytes : Kind → List ℕ → List ℕ
+storedBytes Allocate following = []
+storedBytes Deallocate following = []
+storedBytes Load following = []
+storedBytes Store following = following
+storedBytes Retag following = []
+storedBytes NewCall following = []
+storedBytes EndCall following = []
+storedBytes Dereferenceable following = []
+storedBytes SignedDereferenceable following = []
+storedBytes LeakCheck following = []
+storedBytes Empty following = []
+storedBytes Unused following = []
+
+-- of every request that has an address, at any length, with or without provenance; in the others it is 0 (decision 105)
+unfoldable pub isTooBig : Width → Request → Bool
+isTooBig w q = isTooHigh w (q .address) || any (isTooFar w) (storedBytes (q .kind) (q .following))

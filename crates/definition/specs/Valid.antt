@@ -5,13 +5,14 @@ use mathlib.Core.Bool.{Bool, true, false}
 use mathlib.Core.List.{List, [], _∷_}
 use lib.ListN.{length}
 use Rattle.definition.specs.Notation.{sumOf}
+use Rattle.definition.specs.Width.{Width, addresses}
 use Rattle.definition.specs.Permission.{isProtected, isYes}
 use Rattle.definition.specs.Tree.{Node}
 use Rattle.definition.specs.Memory.{Memory, Allocation, isLive, size, isMisaligned, overlaps, bounds, nodeCount, codeCount, wasMade}
 use Rattle.definition.specs.Frame.{Frame, entries, State, frameCount}
 use Rattle.definition.specs.Retag.{entryBound}
-use Rattle.definition.specs.Request.{badByte}
-use Rattle.definition.specs.Run.{IsWord}
+use Rattle.definition.specs.Request.{badByte, isTooFar}
+use Rattle.definition.specs.Run.{IsWord, RunState}
 
 -- P of each element; P of each element and its number, counted from n on
 abbrev pub All {ℓ} : {A : Type 0} → (A → Type ℓ) → List A → Type ℓ
@@ -75,3 +76,16 @@ pub record ValidState (s : State) : Type 0 where
   pub memory : Valid (s .memory)
   pub count : length (s .frames) ≡ frameCount
   pub frames : All (ValidFrame (s .memory)) (s .frames)
+
+-- ---- at a width. M-110: "Address sums .. fragment positions .. follow it."
+-- "Address plus size is at most 2 to the width, less 1.", and no byte's position is too big, of dead allocations too
+pub record NarrowAllocation (w : Width) (a : Allocation) : Type 0 where
+  pub inSpace : a .address + size a < addresses w
+  pub positions : All (λ b. isTooFar w b ≡ false) (a .words)
+
+abbrev pub Narrow : Width → Memory → Type 0
+Narrow w m = All (NarrowAllocation w) m
+
+pub record ValidRun (r : RunState) : Type 0 where
+  pub state : ValidState (r .state)
+  pub narrow : Narrow (r .width) (r .state .memory)

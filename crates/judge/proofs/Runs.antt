@@ -12,15 +12,16 @@ use lib.ListN.{length, take, drop, length-append, length-drop, drop-of-length-le
 use lib.Seq.{drop-drop, take-all, take-length}
 use Rattle.definition.specs.Notation.{if_then_else_}
 use Rattle.definition.specs.Memory.{Answer, Memory}
-use Rattle.definition.specs.Frame.{State, empty}
 use Rattle.definition.specs.Request.{request, followingLength}
-use Rattle.definition.specs.Run.{step, program, wordsOf}
+use Rattle.definition.specs.Run.{RunState, start, turn, program, wordsOf}
 use Rattle.definition.specs.Output.{answerLine, answerLines, memoryLines, output, IsOutput}
 use Rattle.definition.proofs.Booleans.{and-left, and-right, or-neither}
 use Rattle.definition.proofs.Writes.{write-length, take-write}
 use Rattle.tables.specs.Encoding.{Buffers}
 use Rattle.tables.specs.Held.{Holds}
-use Rattle.state.specs.State.{HoldsState}
+use Rattle.pointer.specs.declared.width.Width.{Width}
+use Rattle.pointer.specs.Width.{widthOf}
+use Rattle.state.specs.State.{HoldsRun}
 use Rattle.report.specs.Written.{Written}
 use Rattle.report.proofs.Lengths.{memory-length}
 use Rattle.stream.specs.Stream.{requestSize, nextRequest, programFrom}
@@ -90,17 +91,17 @@ text-behind {before} {at} text {after} {end} w fits =
 
 -- ---- the run
 -- before the first request
-pub performing-start : (run : List ℕ) (p : Advance) {b : Buffers} {F : List ℕ} → HoldsState empty b F → p .from ≡ 0 → p .index ≡ 0 → p .refused ≡ false → Performing run p [] b F
+pub performing-start : (run : List ℕ) (p : Advance) {b : Buffers} {F : List ℕ} → HoldsRun start b F (widthOf (p .width)) → p .from ≡ 0 → p .index ≡ 0 → p .refused ≡ false → Performing run p [] b F
 performing-start run p h from index going =
-    let left : leftAt empty run p ≡ program run =
-    ap (λ (t : Bool). if t then ([], empty) else programFrom empty (drop (p .from) run)) going
-    ∙ ap (λ (n : ℕ). programFrom empty (drop n run)) from
+    let left : leftAt start run p ≡ program run =
+    ap (λ (t : Bool). if t then ([], start) else programFrom start (drop (p .from) run)) going
+    ∙ ap (λ (n : ℕ). programFrom start (drop n run)) from
     ∙ program-from run in
     record {
-      state = empty;
+      state = start;
       holds = h;
-      text = ap (λ (n : ℕ). answerLines n (leftAt empty run p .0)) index ∙ ap (λ (o : List Answer × State). answerLines 0 (o .0)) left;
-      final = ap (λ (o : List Answer × State). o .1) left;
+      text = ap (λ (n : ℕ). answerLines n (leftAt start run p .0)) index ∙ ap (λ (o : List Answer × RunState). answerLines 0 (o .0)) left;
+      final = ap (λ (o : List Answer × RunState). o .1) left;
       within = omega (arith, from);
       counted = omega (arith, from, index);
     }
@@ -109,23 +110,23 @@ not-both : {t : Bool} → t ≡ false → t ≡ true → ⊥
 not-both e e′ = false≢true (sym e ∙ e′)
 
 -- the line of a request's answer is added to the others
-pub record LineAdded (s : State) (ws : List ℕ) (index : ℕ) (lines : List ℕ) (refused : Bool) (lines′ : List ℕ) (b : Buffers) (F : List ℕ) : Type 0 where
-  pub holds : HoldsState (step s ws .1) b F
-  pub line : lines′ ≡ lines ++ answerLine index (step s ws .0)
-  pub told : refused ≡ not (eqb (step s ws .0 .refusal) 0)
+pub record LineAdded (s : RunState) (ws : List ℕ) (index : ℕ) (lines : List ℕ) (refused : Bool) (width : Width) (lines′ : List ℕ) (b : Buffers) (F : List ℕ) : Type 0 where
+  pub holds : HoldsRun (turn s ws .1) b F (widthOf width)
+  pub line : lines′ ≡ lines ++ answerLine index (turn s ws .0)
+  pub told : refused ≡ not (eqb (turn s ws .0 .refusal) 0)
 
 -- the request of a run at p, and how far the run is behind it
-pub record Advanced (s : State) (run : List ℕ) (p : Advance) (lines : List ℕ) (r : Advance) (lines′ : List ℕ) (b : Buffers) (F : List ℕ) : Type 0 where
-  pub added : LineAdded s (nextRequest (drop (p .from) run)) (p .index) lines (r .refused) lines′ b F
+pub record Advanced (s : RunState) (run : List ℕ) (p : Advance) (lines : List ℕ) (r : Advance) (lines′ : List ℕ) (b : Buffers) (F : List ℕ) : Type 0 where
+  pub added : LineAdded s (nextRequest (drop (p .from) run)) (p .index) lines (r .refused) (r .width) lines′ b F
   pub from : r .from ≡ requestEnd run (p .from)
   pub index : r .index ≡ p .index + 1
 
 -- the line stands in the buffer, behind the others
-pub advanced : {s : State} {run : List ℕ} {p : Advance} {before : List ℕ} {r : Advance} {after : List ℕ} {b : Buffers} {F : List ℕ} → Taken s run p before r after b F
+pub advanced : {s : RunState} {run : List ℕ} {p : Advance} {before : List ℕ} {r : Advance} {after : List ℕ} {b : Buffers} {F : List ℕ} → Taken s run p before r after b F
     → Advanced s run p (take (p .at) before) r (take (r .at) after) b F
 advanced {s} {run} {p} k =
     let w = k .turned .line .written in
-    let o : Answer × State = step s (nextRequest (drop (p .from) run)) in
+    let o : Answer × RunState = turn s (nextRequest (drop (p .from) run)) in
     record {
       added = record {
         holds = k .turned .holds;
@@ -137,13 +138,13 @@ advanced {s} {run} {p} k =
     }
 
 -- one request more
-module _ {s : State} {run : List ℕ} {p : Advance} {lines : List ℕ} {r : Advance} {lines′ : List ℕ} {b′ : Buffers} {F′ : List ℕ}
+module _ {s : RunState} {run : List ℕ} {p : Advance} {lines : List ℕ} {r : Advance} {lines′ : List ℕ} {b′ : Buffers} {F′ : List ℕ}
     (going : p .refused ≡ false) (more : p .from < length run) (k : Advanced s run p lines r lines′ b′ F′) where
   abbrev bytes : List ℕ
   bytes = drop (p .from) run
 
-  abbrev outcome : Answer × State
-  outcome = step s (nextRequest bytes)
+  abbrev outcome : Answer × RunState
+  outcome = turn s (nextRequest bytes)
 
   some-bytes : 0 < length bytes
   some-bytes = omega (arith, length-drop (p .from) run)
@@ -176,23 +177,23 @@ module _ {s : State} {run : List ℕ} {p : Advance} {lines : List ℕ} {r : Adva
       ap (λ (t : List ℕ). t ++ later (r .index)) (k .added .line)
       ∙ append-assoc lines line (later (r .index))
       ∙ ap (λ (n : ℕ). lines ++ (line ++ later n)) one
-      ∙ ap (λ (o : List Answer × State). lines ++ answerLines (p .index) (o .0)) (sym left-more)
+      ∙ ap (λ (o : List Answer × RunState). lines ++ answerLines (p .index) (o .0)) (sym left-more)
 
 pub performing-next : {run : List ℕ} {p : Advance} {lines : List ℕ} {b : Buffers} {F : List ℕ} (h : Performing run p lines b F)
     {r : Advance} {lines′ : List ℕ} {b′ : Buffers} {F′ : List ℕ} → p .refused ≡ false → p .from < length run → Advanced (h .state) run p lines r lines′ b′ F′
     → Performing run r lines′ b′ F′
 performing-next {run} {p} h {r} going more k =
     record {
-      state = step (h .state) (nextRequest (drop (p .from) run)) .1;
+      state = turn (h .state) (nextRequest (drop (p .from) run)) .1;
       holds = k .added .holds;
       text = text-more going more k ∙ h .text;
-      final = sym (ap (λ (o : List Answer × State). o .1) (left-more going more k)) ∙ h .final;
+      final = sym (ap (λ (o : List Answer × RunState). o .1) (left-more going more k)) ∙ h .final;
       within = subst (λ (n : ℕ). n ≤ length run) (sym (k .from)) (end-within run (p .from) (omega arith));
       counted = omega (arith, k .index, k .from, h .counted, end-ahead run (p .from) more);
     }
 
 -- no request is left
-pub record Performed (run lines : List ℕ) (s : State) : Type 0 where
+pub record Performed (run lines : List ℕ) (s : RunState) : Type 0 where
   pub text : lines ≡ answerLines 0 (program run .0)
   pub final : s ≡ program run .1
 
@@ -202,8 +203,8 @@ unfolding answerLines
 performing-end {run} {p} {lines} h over =
     let none : leftAt (h .state) run p ≡ ([], h .state) = by (p .refused) refl in
     record {
-      text = sym (append-nil lines) ∙ ap (λ (o : List Answer × State). lines ++ answerLines (p .index) (o .0)) (sym none) ∙ h .text;
-      final = ap (λ (o : List Answer × State). o .1) (sym none) ∙ h .final;
+      text = sym (append-nil lines) ∙ ap (λ (o : List Answer × RunState). lines ++ answerLines (p .index) (o .0)) (sym none) ∙ h .text;
+      final = ap (λ (o : List Answer × RunState). o .1) (sym none) ∙ h .final;
     }
   where
     by : (t : Bool) → p .refused ≡ t → leftAt (h .state) run p ≡ ([], h .state)
@@ -224,7 +225,7 @@ text-short {run} {p} {lines} h =
       arith,
       ap length (h .text),
       length-append lines left,
-      length-append whole (memoryLines 0 (program run .1 .memory)),
+      length-append whole (memoryLines 0 (program run .1 .state .memory)),
     )
 
 -- the lines of the memory end in the buffer
@@ -234,11 +235,11 @@ memory-inside {m} h {out} {at} w room =
     omega (arith, w .place, ap length (w .contents) ∙ write-length at (memoryLines 0 m) out, memory-length m (h .valid))
 
 -- and with the lines of the memory it is the whole
-pub text-whole : {run lines : List ℕ} {s : State} → Performed run lines s → IsOutput run (lines ++ memoryLines 0 (s .memory))
+pub text-whole : {run lines : List ℕ} {s : RunState} → Performed run lines s → IsOutput run (lines ++ memoryLines 0 (s .state .memory))
 unfolding output
 text-whole {run} {lines} {s} k =
-    ap (λ (t : List ℕ). t ++ memoryLines 0 (s .memory)) (k .text)
-    ∙ ap (λ (o : State). answerLines 0 (program run .0) ++ memoryLines 0 (o .memory)) (k .final)
+    ap (λ (t : List ℕ). t ++ memoryLines 0 (s .state .memory)) (k .text)
+    ∙ ap (λ (o : RunState). answerLines 0 (program run .0) ++ memoryLines 0 (o .state .memory)) (k .final)
 
 -- ---- the tests before the memory's lines
 pub not-over : (refused : Bool) (from bytes : ℕ) (room : Bool) → (not refused && ltb from bytes) || not room ≡ false
@@ -252,13 +253,13 @@ too-long true at room e f = omega (arith, leb-false (at + lineRoom) room e)
 too-long false at room e f = leb-false (at + memoryRoom) room (not-true (leb (at + memoryRoom) room) f)
 
 -- ---- the next request
-pub turned-as : {s : State} {ws ws′ : List ℕ} {index : ℕ} {before : List ℕ} {at : ℕ} {after : List ℕ} {end : ℕ} {refused : Bool} {b : Buffers} {F : List ℕ}
-    → ws ≡ ws′ → Turned s ws index before at after end refused b F → Turned s ws′ index before at after end refused b F
-turned-as {s} {ws} {ws′} {index} {before} {at} {after} {end} {refused} {b} {F} e k =
-    subst (λ (l : List ℕ). Turned s l index before at after end refused b F) e k
+pub turned-as : {s : RunState} {ws ws′ : List ℕ} {index : ℕ} {before : List ℕ} {at : ℕ} {after : List ℕ} {end : ℕ} {refused : Bool} {width : Width} {b : Buffers} {F : List ℕ}
+    → ws ≡ ws′ → Turned s ws index before at after end refused width b F → Turned s ws′ index before at after end refused width b F
+turned-as {s} {ws} {ws′} {index} {before} {at} {after} {end} {refused} {width} {b} {F} e k =
+    subst (λ (l : List ℕ). Turned s l index before at after end refused width b F) e k
 
-pub taken : {s : State} {run : List ℕ} {p : Advance} {before : List ℕ} {r : Advance} {after : List ℕ} {b : Buffers} {F : List ℕ} {ws : List ℕ}
-    → ws ≡ nextRequest (drop (p .from) run) → Turned s ws (p .index) before (p .at) after (r .at) (r .refused) b F
+pub taken : {s : RunState} {run : List ℕ} {p : Advance} {before : List ℕ} {r : Advance} {after : List ℕ} {b : Buffers} {F : List ℕ} {ws : List ℕ}
+    → ws ≡ nextRequest (drop (p .from) run) → Turned s ws (p .index) before (p .at) after (r .at) (r .refused) (r .width) b F
     → r .from ≡ requestEnd run (p .from) → r .index ≡ p .index + 1 → Taken s run p before r after b F
 taken {s} {run} {p} {before} {r} {after} {b} {F} e k from index =
     record {

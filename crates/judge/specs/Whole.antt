@@ -7,11 +7,11 @@ use lib.Dec.{ltb, leb}
 use lib.ListN.{length, take, drop}
 use Rattle.definition.specs.Notation.{if_then_else_}
 use Rattle.definition.specs.Memory.{Answer}
-use Rattle.definition.specs.Frame.{State}
-use Rattle.definition.specs.Run.{program}
+use Rattle.definition.specs.Run.{RunState, program}
 use Rattle.definition.specs.Output.{answerLines, output, IsOutput}
 use Rattle.tables.specs.Encoding.{Buffers}
-use Rattle.state.specs.State.{HoldsState}
+use Rattle.pointer.specs.Width.{widthOf}
+use Rattle.state.specs.State.{HoldsRun}
 use Rattle.stream.specs.Stream.{programFrom}
 use Rattle.judge.specs.declared.Advance.{Advance}
 use Rattle.judge.specs.declared.Judged.{Judged}
@@ -21,14 +21,14 @@ use Rattle.judge.specs.Turn.{lineRoom}
 abbrev pub goesOn : Advance → ℕ → ℕ → Bool
 goesOn p bytes room = (not (p .refused) && ltb (p .from) bytes) && leb (p .at + lineRoom) room
 
--- what is left of the run at p, in state s: no request behind the one that is refused
-abbrev pub leftAt : State → List ℕ → Advance → List Answer × State
+-- what is left of the run at p, in the run's state s: no request behind the one that is refused
+abbrev pub leftAt : RunState → List ℕ → Advance → List Answer × RunState
 leftAt s run p = if p .refused then ([], s) else programFrom s (drop (p .from) run)
 
 -- the run came to p: the lines so far, and those of what is left, are the definition's
 pub record Performing (run : List ℕ) (p : Advance) (lines : List ℕ) (b : Buffers) (F : List ℕ) : Type 0 where
-  pub state : State
-  pub holds : HoldsState state b F
+  pub state : RunState
+  pub holds : HoldsRun state b F (widthOf (p .width))
   pub text : lines ++ answerLines (p .index) (leftAt state run p .0) ≡ answerLines 0 (program run .0)
   pub final : leftAt state run p .1 ≡ program run .1
   pub within : p .from ≤ length run

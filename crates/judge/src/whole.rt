@@ -1,6 +1,7 @@
 // A whole run at hand, and the text of its verdict.
 use crate::Advance;
 use crate::Judged;
+use pointer::width::Width;
 ghost use Prim.Native.Nat.{ℕ, _+_};
 ghost use mathlib.Core.List.{List};
 ghost use mathlib.Core.Path.{_≡_};
@@ -52,6 +53,7 @@ fn answer_all(
         at: 0,
         index: 0,
         refused: false,
+        width: Width::Bits64,
     };
     while goes_on(p, run.len(), out.len()) {
         let from = p.from;

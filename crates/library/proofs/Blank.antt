@@ -11,6 +11,7 @@ use Rattle.answer.specs.declared.Answer.{Answer}
 use Rattle.answer.specs.declared.Answer.the-variants.{Refused, Accepted}
 use Rattle.definition.specs.Frame.{empty}
 use Rattle.tables.specs.Encoding.{Buffers, encode}
+use Rattle.pointer.specs.Width.{isWidth}
 use Rattle.state.specs.Lengths.{haveMemoryLengths}
 use Rattle.library.specs.Start.{renewed, noPlace, opened}
 
@@ -37,12 +38,16 @@ module _ (places : List (List ℕ)) where
   all-blank e f = rw (eq-eqb (length places) 64 e) (ap (λ (l : List (List ℕ)). (Accepted, l)) (f ∙ ap (λ (k : ℕ). replicate k noPlace) e))
 
 -- ---- a memory
-module _ (b : Buffers) where
-  pub not-lengths : haveMemoryLengths b ≡ false → _≡_ {A = Answer × Buffers} (Refused 1, b) (renewed b)
+module _ (width : ℕ) (b : Buffers) where
+  pub not-width : isWidth width ≡ false → _≡_ {A = Answer × Buffers} (Refused 1, b) (renewed width b)
   unfolding renewed
-  not-lengths e = rw e
+  not-width w = rw w
 
-  module _ (e : haveMemoryLengths b ≡ true) where
-    pub made-new : {b′ : Buffers} → b′ ≡ encode (empty .memory) → _≡_ {A = Answer × Buffers} (Accepted, b′) (renewed b)
+  module _ (w : isWidth width ≡ true) where
+    pub not-lengths : haveMemoryLengths b ≡ false → _≡_ {A = Answer × Buffers} (Refused 1, b) (renewed width b)
     unfolding renewed
-    made-new f = rw e (ap (λ (x : Buffers). (Accepted, x)) f)
+    not-lengths e = rw (w, e)
+
+    pub made-new : haveMemoryLengths b ≡ true → {b′ : Buffers} → b′ ≡ encode (empty .memory) → _≡_ {A = Answer × Buffers} (Accepted, b′) (renewed width b)
+    unfolding renewed
+    made-new e f = rw (w, e) (ap (λ (x : Buffers). (Accepted, x)) f)

@@ -16,20 +16,21 @@ pub fn deallocate(
     protectors: &[u8],
     words: &[u32],
     codes: &mut [u8],
+    width: u64,
     p: ThinPointer,
     kind: u64,
     len: u64,
     exponent: u64,
 ) -> Answer
-    ensures { λ r. ⌜ Served Nothing (badAllocation kind exponent) (definition.deallocate (thinPointerOf p) (allocationKind kind) len exponent)
+    ensures { λ r. ⌜ Served width Nothing (badAllocation width kind exponent (thinPointerOf p .address)) (definition.deallocate (thinPointerOf p) (allocationKind kind) len exponent)
         (buffers (now (allocs .entry)) (now (parents .entry)) (now (protectors .entry)) (now (words .entry)) (now (codes .entry)))
         r
         (buffers (now (allocs .exit)) (now (parents .entry)) (now (protectors .entry)) (now (words .entry)) (now (codes .exit))) ⌝ }
 {
-    if !wellformed::well_formed(allocs, parents, protectors, words, codes) {
+    if !wellformed::at_width::well_formed_at(allocs, parents, protectors, words, codes, width) {
         return Answer::Refused(1);
     }
-    if crate::fields::bad_allocation(kind, exponent) {
+    if crate::fields::bad_allocation(width, kind, exponent, p.addr) {
         return Answer::Refused(2);
     }
     memory::deallocate::deallocate(allocs, parents, protectors, codes, p, kind, len, exponent)

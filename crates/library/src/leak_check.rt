@@ -13,13 +13,14 @@ pub fn leak_check(
     protectors: &[u8],
     words: &[u32],
     codes: &[u8],
+    width: u64,
 ) -> Answer
-    ensures { λ r. ⌜ Served Nothing false leakCheck
+    ensures { λ r. ⌜ Served width Nothing false leakCheck
         (buffers (now (allocs .entry)) (now (parents .entry)) (now (protectors .entry)) (now (words .entry)) (now (codes .entry)))
         r
         (buffers (now (allocs .entry)) (now (parents .entry)) (now (protectors .entry)) (now (words .entry)) (now (codes .entry))) ⌝ }
 {
-    if !wellformed::well_formed(allocs, parents, protectors, words, codes) {
+    if !wellformed::at_width::well_formed_at(allocs, parents, protectors, words, codes, width) {
         return Answer::Refused(1);
     }
     bounds::leak_check(allocs)

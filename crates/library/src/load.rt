@@ -6,7 +6,7 @@ ghost use Rattle.pointer.specs.Pointer.{thinPointerOf};
 ghost use Rattle.answer.specs.Answer.{HandsOut};
 ghost use Rattle.tables.specs.Held.{buffers};
 ghost use Rattle.memory.specs.Access.{loadOf};
-ghost use Rattle.library.specs.Fields.{badExponent};
+ghost use Rattle.library.specs.Fields.{badLoad};
 ghost use Rattle.library.specs.Entry.{Served, givenBy};
 
 // The loaded words are a part of the lent data, which the answer names: it starts at the pointer's offset behind the allocation's words, and has
@@ -17,22 +17,23 @@ pub fn load(
     protectors: &[u8],
     words: &[u32],
     codes: &mut [u8],
+    width: u64,
     p: ThinPointer,
     len: u64,
     exponent: u64,
 ) -> Answer
-    ensures { λ r. ⌜ Served
+    ensures { λ r. ⌜ Served width
         (givenBy (loadOf (thinPointerOf p) len exponent)
         (buffers (now (allocs .entry)) (now (parents .entry)) (now (protectors .entry)) (now (words .entry)) (now (codes .entry))))
-        (badExponent exponent) (performAccess (loadOf (thinPointerOf p) len exponent))
+        (badLoad width exponent (thinPointerOf p .address)) (performAccess (loadOf (thinPointerOf p) len exponent))
         (buffers (now (allocs .entry)) (now (parents .entry)) (now (protectors .entry)) (now (words .entry)) (now (codes .entry)))
         r
         (buffers (now (allocs .entry)) (now (parents .entry)) (now (protectors .entry)) (now (words .entry)) (now (codes .exit))) ⌝ }
 {
-    if !wellformed::well_formed(allocs, parents, protectors, words, codes) {
+    if !wellformed::at_width::well_formed_at(allocs, parents, protectors, words, codes, width) {
         return Answer::Refused(1);
     }
-    if crate::fields::bad_exponent(exponent) {
+    if crate::fields::bad_load(width, exponent, p.addr) {
         return Answer::Refused(2);
     }
     memory::access::load(allocs, parents, codes, p, len, exponent)

@@ -9,18 +9,22 @@ ghost use Rattle.tables.specs.Encoding.{Buffers};
 ghost use Rattle.tables.specs.Held.{buffers};
 ghost use Rattle.library.specs.Start.{renewed, noPlace, opened};
 
-// The empty memory, on buffers of any contents.
+// The empty memory, on buffers of any contents. It is one at every width.
 pub fn new(
     allocs: &mut [u64],
     parents: &mut [u16],
     protectors: &mut [u8],
     words: &mut [u32],
     codes: &mut [u8],
+    width: u64,
 ) -> Answer
     ensures { λ r. ⌜ _≡_ {A = answers.Answer × Buffers}
         (r, buffers (now (allocs .exit)) (now (parents .exit)) (now (protectors .exit)) (now (words .exit)) (now (codes .exit)))
-        (renewed (buffers (now (allocs .entry)) (now (parents .entry)) (now (protectors .entry)) (now (words .entry)) (now (codes .entry)))) ⌝ }
+        (renewed width (buffers (now (allocs .entry)) (now (parents .entry)) (now (protectors .entry)) (now (words .entry)) (now (codes .entry)))) ⌝ }
 {
+    if !pointer::width::is_width(width) {
+        return Answer::Refused(1);
+    }
     if !state::have_memory_lengths(allocs, parents, protectors, words, codes) {
         return Answer::Refused(1);
     }

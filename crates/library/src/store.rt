@@ -16,19 +16,20 @@ pub fn store(
     protectors: &[u8],
     words: &mut [u32],
     codes: &mut [u8],
+    width: u64,
     p: ThinPointer,
     bytes: &[u32],
     exponent: u64,
 ) -> Answer
-    ensures { λ r. ⌜ Served Nothing (badStore (now (bytes .entry)) exponent) (performAccess (storeOf (thinPointerOf p) (now (bytes .entry)) exponent))
+    ensures { λ r. ⌜ Served width Nothing (badStore width (now (bytes .entry)) exponent (thinPointerOf p .address)) (performAccess (storeOf (thinPointerOf p) (now (bytes .entry)) exponent))
         (buffers (now (allocs .entry)) (now (parents .entry)) (now (protectors .entry)) (now (words .entry)) (now (codes .entry)))
         r
         (buffers (now (allocs .entry)) (now (parents .entry)) (now (protectors .entry)) (now (words .exit)) (now (codes .exit))) ⌝ }
 {
-    if !wellformed::well_formed(allocs, parents, protectors, words, codes) {
+    if !wellformed::at_width::well_formed_at(allocs, parents, protectors, words, codes, width) {
         return Answer::Refused(1);
     }
-    if crate::fields::bad_store(bytes, exponent) {
+    if crate::fields::bad_store(width, bytes, exponent, p.addr) {
         return Answer::Refused(2);
     }
     memory::access::store(allocs, parents, words, codes, p, bytes, exponent)

@@ -15,17 +15,18 @@ use Rattle.definition.specs.Frame.{entries, State, frameAt}
 use Rattle.definition.specs.Frame.Frame.{Open}
 use Rattle.definition.specs.Retag.{ReborrowSettings, withChild, initRefusal, isBelowStart, ofNode, entryBound, exceedsEntries, reborrowRefusal, acceptReborrow, reborrow, retagWithoutNode, retag}
 use Rattle.definition.specs.Request.{Request, settingsOf, safePointer, protectorOf, freeze}
-use Rattle.definition.specs.Valid.{Valid}
+use Rattle.definition.specs.Valid.{Valid, Narrow}
 use Rattle.definition.proofs.Booleans.{or-neither, or-left, or-right, when-none}
 use Rattle.definition.proofs.Alls.{if-holds, outcome-holds}
 use Rattle.definition.proofs.Writes.{write-length}
 use Rattle.definition.proofs.ValidTrees.{settings-agree}
 use Rattle.definition.proofs.ValidFrames.{valid-retag}
+use Rattle.definition.proofs.NarrowRuns.{reborrow-narrow}
+use Rattle.pointer.specs.Width.{widthAt}
 use Rattle.tables.specs.Encoding.{encode}
 use Rattle.tables.specs.Decoding.{view}
-use Rattle.tables.specs.Held.{Holds}
-use Rattle.wellformed.proofs.Sound.{sound}
-use Rattle.wellformed.proofs.Complete.{complete}
+use Rattle.wellformed.specs.AtWidth.{HoldsAt}
+use Rattle.wellformed.proofs.AtWidth.{holds-at, complete-at}
 use Rattle.frames.specs.List.{entryOf, firstOf}
 use Rattle.retag.proofs.Requests.{without-node-same}
 use Rattle.library_frames.specs.declared.retags.RetagSettings.{RetagSettings}
@@ -35,8 +36,8 @@ use Rattle.library_frames.proofs.Performed.{by-cases}
 use Rattle.library_frames.proofs.Lent.{lent-places, lent-count, lent-formed, first-length, served-bad, served-good}
 
 -- not refused with 1
-abbrev pub Passes : Lent → Type 0
-Passes l = isLent (length (l .places)) (l .count) (l .memory) ≡ true
+abbrev pub Passes : ℕ → Lent → Type 0
+Passes width l = isLent width (length (l .places)) (l .count) (l .memory) ≡ true
 
 -- the frame has 64 entries at most
 abbrev Few : State → Type 0
@@ -80,41 +81,56 @@ module _ (w : ReborrowSettings) (p : ThinPointer) (m : Memory) (es : List Proven
         (λ z. outcome-holds Few (reborrowRefusal w 0 p s) s (acceptReborrow w 0 p s) few accepted-few)
 
 -- ---- the entry
-module _ (settings : RetagSettings) (p : ThinPointer) (layout : List ℕ) (l : Lent) (passes : Passes l) where
+module _ (width : ℕ) (settings : RetagSettings) (p : ThinPointer) (layout : List ℕ) (l : Lent) (passes : Passes width l) where
   abbrev outcome : Answer × State
   outcome = retagOf settings p layout (stateOf l)
 
-  held : Holds (view (l .memory)) (l .memory)
-  held = sound (l .memory) (lent-formed (length (l .places)) (l .count) (l .memory) passes)
+  held : HoldsAt width (view (l .memory)) (l .memory)
+  held = holds-at width (l .memory) (lent-formed width (length (l .places)) (l .count) (l .memory) passes)
 
   left-valid : Valid (outcome .1 .memory)
   left-valid =
-      by-cases settings p layout (stateOf l) (λ (o : Answer × State). Valid (o .1 .memory)) (λ e. subst⁻¹ (λ (x : State). Valid (x .memory)) (without-node-same p (stateOf l)) (held .valid))
-      (held .valid)
+      by-cases settings p layout (stateOf l) (λ (o : Answer × State). Valid (o .1 .memory)) (λ e. subst⁻¹ (λ (x : State). Valid (x .memory)) (without-node-same p (stateOf l)) (held .holds .valid))
+      (held .holds .valid)
       (λ e mask.
       let q : Request = fieldsOf settings in
-      valid-retag (settingsOf q mask) (settings-agree (safePointer q) (protectorOf q) mask (freeze q)) 0 p (stateOf l) (held .valid))
+      valid-retag (settingsOf q mask) (settings-agree (safePointer q) (protectorOf q) mask (freeze q)) 0 p (stateOf l) (held .holds .valid))
+
+  -- in the addresses and positions of the width
+  abbrev Near : State → Type 0
+  Near x = Narrow (widthAt width) (x .memory)
+
+  retag-near : (w : ReborrowSettings) → Near (retag w 0 p (stateOf l) .1)
+  unfolding retag
+  retag-near w =
+      if-holds (λ (o : Answer × State). Near (o .1)) (hasNone (p .provenance) && eqb (length (w .inside)) 0) (retagWithoutNode p (stateOf l)) (reborrow w 0 p (stateOf l))
+      (λ z. subst⁻¹ Near (without-node-same p (stateOf l)) (held .narrow)) (λ z. reborrow-narrow (widthAt width) w 0 p (stateOf l) (held .narrow))
+
+  left-narrow : Near (outcome .1)
+  left-narrow =
+      by-cases settings p layout (stateOf l) (λ (o : Answer × State). Near (o .1)) (λ e. subst⁻¹ Near (without-node-same p (stateOf l)) (held .narrow)) (held .narrow)
+      (λ e mask. retag-near (settingsOf (fieldsOf settings) mask))
 
   left-few : Few (outcome .1)
   left-few =
-      let places = lent-places (length (l .places)) (l .count) (l .memory) passes in
-      let taken = lent-count (length (l .places)) (l .count) (l .memory) passes in
+      let places = lent-places width (length (l .places)) (l .count) (l .memory) passes in
+      let taken = lent-count width (length (l .places)) (l .count) (l .memory) passes in
       let few : length (firstOf (l .count) (l .places)) ≤ 64 = omega (arith, first-length (l .count) (l .places) (omega arith)) in
       by-cases settings p layout (stateOf l) (λ (o : Answer × State). Few (o .1)) (λ e. subst⁻¹ Few (without-node-same p (stateOf l)) few) few
       (λ e mask. retag-few (settingsOf (fieldsOf settings) mask) p (view (l .memory)) (firstOf (l .count) (l .places)) few)
 
-  left-passes : Passes (left l (outcome .1))
+  left-passes : Passes width (left l (outcome .1))
   left-passes =
       let m : Memory = outcome .1 .memory in
       rw (
-        eq-eqb _ 64 (write-length 0 (map entryOf (entries (frameAt (outcome .1) 0))) (l .places) ∙ lent-places (length (l .places)) (l .count) (l .memory) passes),
+        eq-eqb _ 64 (write-length 0 (map entryOf (entries (frameAt (outcome .1) 0))) (l .places) ∙ lent-places width (length (l .places)) (l .count) (l .memory) passes),
         le-leb _ 64 left-few,
       )
-      (complete m (encode m) (record { valid = left-valid; equal = refl }))
+      (complete-at width (encode m) m (record { numbered = held .numbered; holds = record { valid = left-valid; equal = refl }; narrow = left-narrow }))
 
-  pub passes-again : Passes (served (badFields settings layout) (retagOf settings p layout) l .1)
-  passes-again = by (badFields settings layout) refl
+  pub passes-again : Passes width (served width (badFields width settings (p .address) layout) (retagOf settings p layout) l .1)
+  passes-again = by (badFields width settings (p .address) layout) refl
     where
-      by : (bad : Bool) → badFields settings layout ≡ bad → Passes (served (badFields settings layout) (retagOf settings p layout) l .1)
-      by true e = subst⁻¹ (λ (o : Answer × Lent). Passes (o .1)) (served-bad (badFields settings layout) (retagOf settings p layout) l passes e) passes
-      by false e = subst⁻¹ (λ (o : Answer × Lent). Passes (o .1)) (served-good (badFields settings layout) (retagOf settings p layout) l passes e) left-passes
+      by : (bad : Bool) → badFields width settings (p .address) layout ≡ bad → Passes width (served width (badFields width settings (p .address) layout) (retagOf settings p layout) l .1)
+      by true e = subst⁻¹ (λ (o : Answer × Lent). Passes width (o .1)) (served-bad width (badFields width settings (p .address) layout) (retagOf settings p layout) l passes e) passes
+      by false e = subst⁻¹ (λ (o : Answer × Lent). Passes width (o .1)) (served-good width (badFields width settings (p .address) layout) (retagOf settings p layout) l passes e) left-passes

@@ -1,19 +1,20 @@
 -- The settings' request has the flags and the pointer that were given, and frame 0; and refusal 2 is the definition's of such a request.
 use Prim.Native.Nat.{ℕ, _+_, _/_, _%_, _^_}
-use mathlib.Core.Path.{_≡_, refl, ap}
+use mathlib.Core.Path.{_≡_, refl, ap, ap₂}
 use mathlib.Core.Bool.{Bool, true, false, not, _&&_, _||_}
 use mathlib.Core.Option.{Option, none, some}
 use mathlib.Core.List.{List, [], _∷_}
 use lib.Dec.{ltb}
 use lib.ListN.{getD}
-use Rattle.definition.specs.Notation.{if_then_else_}
+use Rattle.definition.specs.Notation.{if_then_else_, any}
 use Rattle.definition.specs.Permission.{SafePointer, isYes}
 use Rattle.definition.specs.Permission.SafePointer.{SharedRef, MutableRef, Box}
 use Rattle.definition.specs.Permission.Protected.{No}
 use Rattle.definition.specs.Memory.{Provenance, ThinPointer}
 use Rattle.definition.specs.Frame.{State, isOpen, frameAt}
-use Rattle.definition.specs.Request.{bit, pointer, functionEntry, unpin, freeze, frameNumber, isSafe, isPinned, entryProtector, protectorOf, nonzero, strayName, badSettings, badMetadata, badRetag, isMalformed}
+use Rattle.definition.specs.Request.{bit, pointer, functionEntry, unpin, freeze, frameNumber, isSafe, isPinned, addsNoNode, entryProtector, protectorOf, nonzero, strayName, badSettings, badMetadata, badRetag, isMalformed, isTooHigh, isTooBig}
 use Rattle.definition.specs.Request.Kind.{Retag}
+use Rattle.pointer.specs.Width.{widthAt}
 use Rattle.library_frames.specs.declared.retags.RetagSettings.{RetagSettings}
 use Rattle.library_frames.specs.Settings.{flag, fourthOf, requestOf, fieldsOf, badFields}
 
@@ -81,7 +82,7 @@ stray p settings layout = by (p .provenance)
     by none = refl
     by (some t) = refl
 
-module _ (settings : RetagSettings) (p : ThinPointer) (layout : List ℕ) (s : State) (opened : isOpen (frameAt s 0) ≡ true) where
+module _ (width : ℕ) (settings : RetagSettings) (p : ThinPointer) (layout : List ℕ) (s : State) (opened : isOpen (frameAt s 0) ≡ true) where
   good-settings : badSettings s (requestOf settings p layout) ≡ false
   unfolding badSettings
   good-settings = rw (zero-bit settings, frame-zero settings, opened) (by (functionEntry (fieldsOf settings)))
@@ -90,9 +91,19 @@ module _ (settings : RetagSettings) (p : ThinPointer) (layout : List ℕ) (s : S
       by true = refl
       by false = refl
 
-  pub malformed-fields : (isSafe (fieldsOf settings) ≡ false → fourthOf settings ≡ 0) → isMalformed Retag s (requestOf settings p layout) ≡ badFields settings layout
+  -- it stores nothing
+  only-high : isTooBig (widthAt width) (requestOf settings p layout) ≡ isTooHigh (widthAt width) (p .address)
+  unfolding isTooBig any
+  only-high = by (isTooHigh (widthAt width) (p .address))
+    where
+      by : (high : Bool) → high || false ≡ high
+      by true = refl
+      by false = refl
+
+  listed : (isSafe (fieldsOf settings) ≡ false → fourthOf settings ≡ 0)
+      → isMalformed Retag s (requestOf settings p layout) ≡ ltb 5 (settings .extra) || (not (addsNoNode (fieldsOf settings)) && badMetadata layout)
   unfolding isMalformed badRetag
-  malformed-fields unused =
+  listed unused =
       rw (stray p settings layout, good-settings)
       (ap (λ (t : Bool). ltb 5 (settings .extra) || t)
       (by (isSafe (fieldsOf settings)) (isPinned (fieldsOf settings)) (badMetadata layout) (λ e. ap nonzero (unused e))))
@@ -101,3 +112,7 @@ module _ (settings : RetagSettings) (p : ThinPointer) (layout : List ℕ) (s : S
           → (if safe then false || (not pinned && bad) else other) ≡ (not (not safe || pinned) && bad)
       by true pinned bad e = refl
       by false pinned bad e = e refl
+
+  pub malformed-fields : (isSafe (fieldsOf settings) ≡ false → fourthOf settings ≡ 0)
+      → isMalformed Retag s (requestOf settings p layout) || isTooBig (widthAt width) (requestOf settings p layout) ≡ badFields width settings (p .address) layout
+  malformed-fields unused = ap₂ _||_ (listed unused) only-high

@@ -26,11 +26,10 @@ use Rattle.answer.specs.declared.Answer.the-variants.{Refused}
 use Rattle.answer.proofs.Replies.{refused-reply}
 use Rattle.tables.specs.Encoding.{Buffers, encode}
 use Rattle.tables.specs.Decoding.{view}
-use Rattle.tables.specs.Held.{buffers, Holds}
+use Rattle.tables.specs.Held.{buffers}
 use Rattle.tables.proofs.ReadBack.{view-held, encode-of, holds-words}
-use Rattle.wellformed.specs.WellFormed.{wellFormed}
-use Rattle.wellformed.proofs.Sound.{sound}
-use Rattle.wellformed.proofs.Complete.{complete}
+use Rattle.wellformed.specs.AtWidth.{wellFormedAt, HoldsAt}
+use Rattle.wellformed.proofs.AtWidth.{sound-at, complete-at}
 use Rattle.frames.specs.List as list
 use Rattle.frames.specs.List.{entryOf, firstOf, noEntry}
 use Rattle.frames.specs.declared.Entry.{Entry}
@@ -67,50 +66,50 @@ pub first-length : (count : ℕ) (xs : List Entry) → count ≤ length xs → l
 first-length count xs l = length-map (take count xs) _ ∙ length-take-le count xs l
 
 -- ---- what passes 1
-module _ (len count : ℕ) (b : Buffers) (fine : isLent len count b ≡ true) where
+module _ (width len count : ℕ) (b : Buffers) (fine : isLent width len count b ≡ true) where
   pub lent-places : len ≡ 64
-  lent-places = eqb-true len 64 (and-left (eqb len 64) (leb count 64 && wellFormed b) fine)
+  lent-places = eqb-true len 64 (and-left (eqb len 64) (leb count 64 && wellFormedAt width b) fine)
 
-  counted : leb count 64 && wellFormed b ≡ true
-  counted = and-right (eqb len 64) (leb count 64 && wellFormed b) fine
+  counted : leb count 64 && wellFormedAt width b ≡ true
+  counted = and-right (eqb len 64) (leb count 64 && wellFormedAt width b) fine
 
   pub lent-count : count ≤ 64
-  lent-count = leb-true count 64 (and-left (leb count 64) (wellFormed b) counted)
+  lent-count = leb-true count 64 (and-left (leb count 64) (wellFormedAt width b) counted)
 
-  pub lent-formed : wellFormed b ≡ true
-  lent-formed = and-right (leb count 64) (wellFormed b) counted
+  pub lent-formed : wellFormedAt width b ≡ true
+  lent-formed = and-right (leb count 64) (wellFormedAt width b) counted
 
   pub lent-nodes : HoldsMarked (view b) (b .allocs) (b .parents) (b .protectors) (b .codes)
-  lent-nodes = holds-marked (sound b lent-formed)
+  lent-nodes = holds-marked (sound-at width b lent-formed)
 
 -- ---- what `served` is
-module _ (bad : Bool) (request : State → definition.Answer × State) (l : Lent) where
-  -- other than 64 places, more than 64 entries, or buffers that no valid memory encodes to
-  pub served-none : isLent (length (l .places)) (l .count) (l .memory) ≡ false → served bad request l ≡ (definition.refusedWith 1, l)
+module _ (width : ℕ) (bad : Bool) (request : State → definition.Answer × State) (l : Lent) where
+  -- other than 64 places, more than 64 entries, or buffers that no valid memory at the width encodes to
+  pub served-none : isLent width (length (l .places)) (l .count) (l .memory) ≡ false → served width bad request l ≡ (definition.refusedWith 1, l)
   unfolding served
   served-none e = rw e
 
-  module _ (fine : isLent (length (l .places)) (l .count) (l .memory) ≡ true) where
-    pub served-bad : bad ≡ true → served bad request l ≡ (definition.refusedWith 2, l)
+  module _ (fine : isLent width (length (l .places)) (l .count) (l .memory) ≡ true) where
+    pub served-bad : bad ≡ true → served width bad request l ≡ (definition.refusedWith 2, l)
     unfolding served
     served-bad e = rw (fine, e)
 
-    pub served-good : bad ≡ false → served bad request l ≡ (request (stateOf l) .0, left l (request (stateOf l) .1))
+    pub served-good : bad ≡ false → served width bad request l ≡ (request (stateOf l) .0, left l (request (stateOf l) .1))
     unfolding served
     served-good e = rw (fine, e)
 
 -- the request of a memory that they hold
-pub served-held : (request : State → definition.Answer × State) (l : Lent) (m : Memory) → Holds m (l .memory) → length (l .places) ≡ 64 → l .count ≤ 64
-    → served false request l
+pub served-held : (width : ℕ) (request : State → definition.Answer × State) (l : Lent) (m : Memory) → HoldsAt width m (l .memory) → length (l .places) ≡ 64 → l .count ≤ 64
+    → served width false request l
     ≡ (let outcome = request (record { memory = m; frames = Open (firstOf (l .count) (l .places)) ∷ [] }) in (outcome .0, left l (outcome .1)))
-served-held request l m h places few =
-    let fine : isLent (length (l .places)) (l .count) (l .memory) ≡ true = rw (eq-eqb _ 64 places, le-leb _ 64 few) (complete m (l .memory) h) in
-    served-good false request l fine refl
+served-held width request l m h places few =
+    let fine : isLent width (length (l .places)) (l .count) (l .memory) ≡ true = rw (eq-eqb _ 64 places, le-leb _ 64 few) (complete-at width (l .memory) m h) in
+    served-good width false request l fine refl
     ∙ ap (λ (x : Memory). let outcome = request (record { memory = x; frames = Open (firstOf (l .count) (l .places)) ∷ [] }) in (outcome .0, left l (outcome .1)))
-    (view-held m (l .memory) h)
+    (view-held m (l .memory) (h .holds))
 
 -- ---- refused with 1 or 2, for whatever stands in the places
-module _ (len count : ℕ) (b : Buffers) where
+module _ (width len count : ℕ) (b : Buffers) where
   -- nothing is put in
   refused-same : (n : ℕ) → (n ≡ 0 → ⊥) → (places : List Entry) → length places ≡ len
       → _≡_ {A = Answer × Lent} (Refused n, lent (set places len noEntry) count b) (replied ThePointer (definition.refusedWith n, lent places count b))
@@ -121,46 +120,46 @@ module _ (len count : ℕ) (b : Buffers) where
       λ i. (exact i, lent (same i) count b)
 
   module _ (places : List Entry) (whole : length places ≡ len) where
-    passes : {t : Bool} → isLent len count b ≡ t → isLent (length places) count b ≡ t
-    passes e = ap (λ (n : ℕ). isLent n count b) whole ∙ e
+    passes : {t : Bool} → isLent width len count b ≡ t → isLent width (length places) count b ≡ t
+    passes e = ap (λ (n : ℕ). isLent width n count b) whole ∙ e
 
   module _ (bad : Bool) (request : State → definition.Answer × State) (places : List Entry) (whole : length places ≡ len) where
-    refused-one : isLent len count b ≡ false → _≡_ {A = Answer × Lent} (Refused 1, lent (set places len noEntry) count b) (replied ThePointer (served bad request (lent places count b)))
-    refused-one e = refused-same 1 (λ z. omega arith) places whole ∙ ap (replied ThePointer) (sym (served-none bad request (lent places count b) (passes places whole e)))
+    refused-one : isLent width len count b ≡ false → _≡_ {A = Answer × Lent} (Refused 1, lent (set places len noEntry) count b) (replied ThePointer (served width bad request (lent places count b)))
+    refused-one e = refused-same 1 (λ z. omega arith) places whole ∙ ap (replied ThePointer) (sym (served-none width bad request (lent places count b) (passes places whole e)))
 
-    refused-two : isLent len count b ≡ true → bad ≡ true → _≡_ {A = Answer × Lent} (Refused 2, lent (set places len noEntry) count b) (replied ThePointer (served bad request (lent places count b)))
-    refused-two e f = refused-same 2 (λ z. omega arith) places whole ∙ ap (replied ThePointer) (sym (served-bad bad request (lent places count b) (passes places whole e) f))
+    refused-two : isLent width len count b ≡ true → bad ≡ true → _≡_ {A = Answer × Lent} (Refused 2, lent (set places len noEntry) count b) (replied ThePointer (served width bad request (lent places count b)))
+    refused-two e f = refused-same 2 (λ z. omega arith) places whole ∙ ap (replied ThePointer) (sym (served-bad width bad request (lent places count b) (passes places whole e) f))
 
   -- where a field falls under 2
   pub malformed-served : (request : State → definition.Answer × State) (places : List Entry) → length places ≡ len
-      → let r = malformedOutcome len count b in
-      _≡_ {A = Answer × Lent} (r .answer .answer, lent (set places (r .at) (r .entry)) (r .answer .count) b) (replied ThePointer (served true request (lent places count b)))
-  malformed-served request places whole = by (isLent len count b) refl
+      → let r = malformedOutcome width len count b in
+      _≡_ {A = Answer × Lent} (r .answer .answer, lent (set places (r .at) (r .entry)) (r .answer .count) b) (replied ThePointer (served width true request (lent places count b)))
+  malformed-served request places whole = by (isLent width len count b) refl
     where
-      by : (t : Bool) → isLent len count b ≡ t
-          → _≡_ {A = Answer × Lent} ((if t then Refused 2 else Refused 1), lent (set places len noEntry) count b) (replied ThePointer (served true request (lent places count b)))
+      by : (t : Bool) → isLent width len count b ≡ t
+          → _≡_ {A = Answer × Lent} ((if t then Refused 2 else Refused 1), lent (set places len noEntry) count b) (replied ThePointer (served width true request (lent places count b)))
       by true e = refused-two true request places whole e refl
       by false e = refused-one true request places whole e
 
 -- ---- a return each, for whatever stands in the places
-module _ (settings : RetagSettings) (p : definition.ThinPointer) (layout : List ℕ) (len count : ℕ) (b : Buffers) where
+module _ (width : ℕ) (settings : RetagSettings) (p : definition.ThinPointer) (layout : List ℕ) (len count : ℕ) (b : Buffers) where
   -- the entry's promise of an outcome of the code, which leaves b′
   abbrev Promised : RetagOutcome → Buffers → Type 0
-  Promised r b′ = (places : List Entry) → length places ≡ len → Served settings p layout (lent places count b) (r .answer) (set places (r .at) (r .entry)) b′
+  Promised r b′ = (places : List Entry) → length places ≡ len → Served width settings p layout (lent places count b) (r .answer) (set places (r .at) (r .entry)) b′
 
-  pub not-lent : isLent len count b ≡ false → {r : RetagOutcome} → r ≡ outcomeOf (Refused 1) None count len → Promised r b
+  pub not-lent : isLent width len count b ≡ false → {r : RetagOutcome} → r ≡ outcomeOf (Refused 1) None count len → Promised r b
   not-lent e is =
       subst⁻¹ (λ (r : RetagOutcome). Promised r b) is
-      (λ places whole. refused-one len count b (badFields settings layout) (retagOf settings p layout) places whole e)
+      (λ places whole. refused-one width len count b (badFields width settings (p .address) layout) (retagOf settings p layout) places whole e)
 
-  module _ (fine : isLent len count b ≡ true) where
-    pub bad-field : badFields settings layout ≡ true → {r : RetagOutcome} → r ≡ outcomeOf (Refused 2) None count len → Promised r b
+  module _ (fine : isLent width len count b ≡ true) where
+    pub bad-field : badFields width settings (p .address) layout ≡ true → {r : RetagOutcome} → r ≡ outcomeOf (Refused 2) None count len → Promised r b
     bad-field e is =
         subst⁻¹ (λ (r : RetagOutcome). Promised r b) is
-        (λ places whole. refused-two len count b (badFields settings layout) (retagOf settings p layout) places whole fine e)
+        (λ places whole. refused-two width len count b (badFields width settings (p .address) layout) (retagOf settings p layout) places whole fine e)
 
     -- ---- the retag
-    module _ (good : badFields settings layout ≡ false) (places : List Entry) (whole : length places ≡ len) where
+    module _ (good : badFields width settings (p .address) layout ≡ false) (places : List Entry) (whole : length places ≡ len) where
       abbrev s : State
       s = stateOf (lent places count b)
 
@@ -172,7 +171,7 @@ module _ (settings : RetagSettings) (p : definition.ThinPointer) (layout : List 
       entriesWith node = entries (getD (framesEntered (provenanceOf node) s) 0 Closed)
 
       all-first : length (firstOf count places) ≡ count
-      all-first = first-length count places (omega (arith, lent-places len count b fine, lent-count len count b fine))
+      all-first = first-length count places (omega (arith, lent-places width len count b fine, lent-count width len count b fine))
 
       left-answer : (answer : Answer) (node : Provenance) → outcomeOf answer node count len .answer .answer ≡ answer
       left-answer answer None = refl
@@ -199,7 +198,7 @@ module _ (settings : RetagSettings) (p : definition.ThinPointer) (layout : List 
         left-memory : buffers A P R (b .words) C ≡ encode (outcome .1 .memory)
         left-memory =
             encode-of (outcome .1 .memory) (k .trees .allocs) (k .trees .parents) (k .trees .protectors)
-            (holds-words (sound b (lent-formed len count b fine)) ∙ sym (perform-words settings p layout s)) (k .trees .codes)
+            (holds-words (sound-at width b (lent-formed width len count b fine)) ∙ sym (perform-words settings p layout s)) (k .trees .codes)
 
         all-left : lent (set places (outcomeOf answer node count len .at) (outcomeOf answer node count len .entry)) (outcomeOf answer node count len .answer .count) (buffers A P R (b .words) C)
             ≡ left (lent places count b) (outcome .1)
@@ -208,15 +207,15 @@ module _ (settings : RetagSettings) (p : definition.ThinPointer) (layout : List 
             let counted = left-count answer node ∙ ap (λ (fs : List Frame). length (entries (getD fs 0 Closed))) left-frames in
             λ i. record { places = placed i; count = counted i; memory = left-memory i }
 
-        pub performed : Served settings p layout (lent places count b) (outcomeOf answer node count len .answer)
+        pub performed : Served width settings p layout (lent places count b) (outcomeOf answer node count len .answer)
             (set places (outcomeOf answer node count len .at) (outcomeOf answer node count len .entry)) (buffers A P R (b .words) C)
         unfolding replied
         performed =
             let answered = left-answer answer node ∙ k .reply in
             (λ i. (answered i, all-left i))
-            ∙ ap (replied ThePointer) (sym (served-good (badFields settings layout) (retagOf settings p layout) (lent places count b) (passes len count b places whole fine) good))
+            ∙ ap (replied ThePointer) (sym (served-good width (badFields width settings (p .address) layout) (retagOf settings p layout) (lent places count b) (passes width len count b places whole fine) good))
 
-    pub retagged : badFields settings layout ≡ false → {answer : Answer} {A P R C : List ℕ}
+    pub retagged : badFields width settings (p .address) layout ≡ false → {answer : Answer} {A P R C : List ℕ}
         → ((s : State) → HoldsMarked (s .memory) (b .allocs) (b .parents) (b .protectors) (b .codes) → count ≡ length (entries (frameAt s 0))
         → Performed (retagOf settings p layout s) answer A P R C)
         → (node : Provenance) → ((words : List ℕ) → provenanceOf node ≡ enteredNode (protects settings) (namedPointer (answerOf answer words .names)))
@@ -224,4 +223,4 @@ module _ (settings : RetagSettings) (p : definition.ThinPointer) (layout : List 
     retagged good {answer} {A} {P} {R} {C} f node entering {r} is =
         subst⁻¹ (λ (r : RetagOutcome). Promised r (buffers A P R (b .words) C)) is
         (λ places whole.
-        performed good places whole (f (stateOf (lent places count b)) (lent-nodes len count b fine) (sym (all-first good places whole))) node entering)
+        performed good places whole (f (stateOf (lent places count b)) (lent-nodes width len count b fine) (sym (all-first good places whole))) node entering)

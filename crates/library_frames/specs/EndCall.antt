@@ -19,17 +19,17 @@ use Rattle.end_call.specs.Release.{afterEndCall}
 use Rattle.library_frames.specs.Retag.{isLent}
 
 -- what a retag is lent, and a working area of 32,768 bytes
-abbrev pub isLentWithArea : (places count : ℕ) → List ℕ → Buffers → Bool
-isLentWithArea places count area b = isLent places count b && eqb (length area) 32768
+abbrev pub isLentWithArea : (width places count : ℕ) → List ℕ → Buffers → Bool
+isLentWithArea width places count area b = isLent width places count b && eqb (length area) 32768
 
 -- the answer, and the buffers and the area afterwards: `places` are lent for the entries, the first `count` of them are es.
 -- 1 changes nothing; else the area is zero, whatever it held and whatever the answer
-unfoldable pub ended : (places count : ℕ) → List Provenance → Buffers → List ℕ → Answer × (Buffers × List ℕ)
-ended places count es b area =
-    if isLentWithArea places count area b
+unfoldable pub ended : (width places count : ℕ) → List Provenance → Buffers → List ℕ → Answer × (Buffers × List ℕ)
+ended width places count es b area =
+    if isLentWithArea width places count area b
     then (replyTo Nothing (refusedWith (endCallRefusal (view b) es)), (encode (afterEndCall (view b) es), replicate 32768 0))
     else (Refused notWellFormed, (b, area))
 
 -- the entry's promise: it answers `answer`, and leaves b′ and area′
-abbrev pub EndedLent : (places count : ℕ) → List Provenance → Buffers → List ℕ → Answer → Buffers → List ℕ → Type 0
-EndedLent places count es b area answer b′ area′ = _≡_ {A = Answer × (Buffers × List ℕ)} (answer, (b′, area′)) (ended places count es b area)
+abbrev pub EndedLent : (width places count : ℕ) → List Provenance → Buffers → List ℕ → Answer → Buffers → List ℕ → Type 0
+EndedLent width places count es b area answer b′ area′ = _≡_ {A = Answer × (Buffers × List ℕ)} (answer, (b′, area′)) (ended width places count es b area)

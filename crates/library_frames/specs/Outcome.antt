@@ -38,5 +38,5 @@ outcomeOf answer (Of allocation node) count places =
     record { answer = record { answer = answer; count = count + 1 }; at = count; entry = record { allocation = allocation; node = node } }
 
 -- the outcome where a field falls under 2, if 1 was passed
-abbrev pub malformedOutcome : ℕ → ℕ → Buffers → RetagOutcome
-malformedOutcome len count b = outcomeOf (if isLent len count b then Refused malformed else Refused notWellFormed) None count len
+abbrev pub malformedOutcome : (width len count : ℕ) → Buffers → RetagOutcome
+malformedOutcome width len count b = outcomeOf (if isLent width len count b then Refused malformed else Refused notWellFormed) None count len

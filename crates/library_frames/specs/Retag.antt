@@ -1,5 +1,5 @@
 -- What the entry of a retag comes to, for whatever reaches it: 1, then 2, then the definition's `performRetag` on the memory that the lent buffers
--- hold, with the lent frame as its only one.
+-- hold, with the lent frame as its only one. The width is a number of bits.
 use Prim.Native.Nat.{ℕ}
 use mathlib.Core.Path.{_≡_}
 use mathlib.Core.Bool.{Bool, not, _&&_}
@@ -18,7 +18,7 @@ use Rattle.answer.specs.Answer.Gives.{ThePointer}
 use Rattle.answer.specs.declared.Answer.{Answer}
 use Rattle.tables.specs.Encoding.{Buffers, encode}
 use Rattle.tables.specs.Decoding.{view}
-use Rattle.wellformed.specs.WellFormed.{wellFormed}
+use Rattle.wellformed.specs.AtWidth.{wellFormedAt}
 use Rattle.frames.specs.List.{entryOf, firstOf}
 use Rattle.frames.specs.declared.Entry.{Entry}
 use Rattle.library_frames.specs.declared.retags.RetagSettings.{RetagSettings}
@@ -34,9 +34,9 @@ pub record Lent : Type 0 where
 abbrev pub lent : List Entry → ℕ → Buffers → Lent
 lent places count memory = record { places = places; count = count; memory = memory }
 
--- not refused with 1: 64 places, as many entries at most, and buffers that hold a memory
-abbrev pub isLent : ℕ → ℕ → Buffers → Bool
-isLent places count b = eqb places entryBound && (leb count entryBound && wellFormed b)
+-- not refused with 1: 64 places, as many entries at most, and buffers that hold a memory at the width
+abbrev pub isLent : (width places count : ℕ) → Buffers → Bool
+isLent width places count b = eqb places entryBound && (leb count entryBound && wellFormedAt width b)
 
 -- the state that is lent: the memory, and one open frame
 abbrev pub stateOf : Lent → State
@@ -52,13 +52,13 @@ left l s =
     }
 
 -- the answer, and what is lent afterwards; `bad` says that a field falls under 2
-unfoldable pub served : Bool → (State → definition.Answer × State) → Lent → definition.Answer × Lent
-served bad request l =
+unfoldable pub served : ℕ → Bool → (State → definition.Answer × State) → Lent → definition.Answer × Lent
+served width bad request l =
     let outcome = request (stateOf l) in
-    unlessRefused (notWellFormed when not (isLent (length (l .places)) (l .count) (l .memory)) or malformed when bad) l
+    unlessRefused (notWellFormed when not (isLent width (length (l .places)) (l .count) (l .memory)) or malformed when bad) l
     (outcome .0, left l (outcome .1))
 
 -- the entry's promise: it answers r, with the number of entries, and leaves these places and buffers
-abbrev pub Served : RetagSettings → ThinPointer → List ℕ → Lent → RetagAnswer → List Entry → Buffers → Type 0
-Served settings p layout l r places b =
-    _≡_ {A = Answer × Lent} (r .answer, lent places (r .count) b) (replied ThePointer (served (badFields settings layout) (retagOf settings p layout) l))
+abbrev pub Served : ℕ → RetagSettings → ThinPointer → List ℕ → Lent → RetagAnswer → List Entry → Buffers → Type 0
+Served width settings p layout l r places b =
+    _≡_ {A = Answer × Lent} (r .answer, lent places (r .count) b) (replied ThePointer (served width (badFields width settings (p .address) layout) (retagOf settings p layout) l))

@@ -1,4 +1,4 @@
--- The settings of a retag as the definition's request, and refusal 2 of what the entry takes.
+-- The settings of a retag as the definition's request, and refusal 2 of what the entry takes, at a width that is a number of bits.
 use Prim.Native.Nat.{ℕ, _+_, _^_}
 use mathlib.Core.Bool.{Bool, true, false, not, _&&_, _||_}
 use mathlib.Core.Option.{none}
@@ -6,9 +6,10 @@ use mathlib.Core.List.{List, []}
 use lib.Dec.{ltb}
 use Rattle.definition.specs.Memory.{ThinPointer, hasNone, allocationOf, nodeOf, Answer}
 use Rattle.definition.specs.Frame.{State}
-use Rattle.definition.specs.Request.{Request, functionEntry, addsNoNode, badMetadata}
+use Rattle.definition.specs.Request.{Request, functionEntry, addsNoNode, badMetadata, isTooHigh}
 use Rattle.definition.specs.Request.Kind.{Retag}
 use Rattle.definition.specs.Run.{performRetag}
+use Rattle.pointer.specs.Width.{widthAt}
 use Rattle.library_frames.specs.declared.retags.RetagSettings.{RetagSettings}
 
 -- a flag that stands for n in a word
@@ -43,9 +44,10 @@ retagOf settings p layout s = performRetag s (requestOf settings p layout)
 abbrev pub fieldsOf : RetagSettings → Request
 fieldsOf settings = requestOf settings (record { address = 0; provenance = none }) []
 
--- 2: "A field is outside its list". The layout is read where a node may be added
-abbrev pub badFields : RetagSettings → List ℕ → Bool
-badFields settings layout = ltb 5 (settings .extra) || (not (addsNoNode (fieldsOf settings)) && badMetadata layout)
+-- 2: "A field is outside its list", "An address .. too big for the width". The layout is read where a node may be added
+abbrev pub badFields : (width : ℕ) → RetagSettings → (address : ℕ) → List ℕ → Bool
+badFields width settings address layout =
+    (ltb 5 (settings .extra) || (not (addsNoNode (fieldsOf settings)) && badMetadata layout)) || isTooHigh (widthAt width) address
 
 -- a node that is added is entered in the frame
 abbrev pub protects : RetagSettings → Bool

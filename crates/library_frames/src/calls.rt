@@ -18,11 +18,12 @@ fn is_lent_with_area(
     protectors: &[u8],
     words: &[u32],
     codes: &[u8],
+    width: u64,
 ) -> bool
-    ensures { λ r. ⌜ r ≡ isLentWithArea len count (now (area .entry))
+    ensures { λ r. ⌜ r ≡ isLentWithArea width len count (now (area .entry))
         (buffers (now (allocs .entry)) (now (parents .entry)) (now (protectors .entry)) (now (words .entry)) (now (codes .entry))) ⌝ }
 {
-    crate::retags::is_lent(len, count, allocs, parents, protectors, words, codes)
+    crate::retags::is_lent(len, count, allocs, parents, protectors, words, codes, width)
         & (area.len() == 32768)
 }
 
@@ -37,13 +38,24 @@ pub fn end_call_list(
     protectors: &mut [u8],
     words: &[u32],
     codes: &mut [u8],
+    width: u64,
     area: &mut [u8],
 ) -> Answer
-    ensures { λ r. ⌜ EndedLent len count (firstOf count list)
+    ensures { λ r. ⌜ EndedLent width len count (firstOf count list)
         (buffers (now (allocs .entry)) (now (parents .entry)) (now (protectors .entry)) (now (words .entry)) (now (codes .entry))) (now (area .entry))
         r (buffers (now (allocs .entry)) (now (parents .entry)) (now (protectors .exit)) (now (words .entry)) (now (codes .exit))) (now (area .exit)) ⌝ }
 {
-    if !is_lent_with_area(len, count, area, allocs, parents, protectors, words, codes) {
+    if !is_lent_with_area(
+        len,
+        count,
+        area,
+        allocs,
+        parents,
+        protectors,
+        words,
+        codes,
+        width,
+    ) {
         return Answer::Refused(1);
     }
     let list = Entries { list, count };

@@ -58,10 +58,13 @@ fn adds_no_node(settings: RetagSettings) -> bool
 }
 
 // 2. The layout is read where a node may be added.
-fn bad_fields(settings: RetagSettings, layout: &[u32]) -> bool
-    ensures { λ r. ⌜ r ≡ badFields settings (now (layout .entry)) ⌝ }
+fn bad_fields(width: u64, settings: RetagSettings, address: u64, layout: &[u32]) -> bool
+    ensures { λ r. ⌜ r ≡ badFields width settings address (now (layout .entry)) ⌝ }
 {
-    (settings.extra > 5) | (!adds_no_node(settings) & request::bad_metadata(layout))
+    let width = pointer::width::width_at(width);
+    (settings.extra > 5)
+        | (!adds_no_node(settings) & request::bad_metadata(layout))
+        | width.is_too_high(address)
 }
 
 fn protector(settings: RetagSettings) -> Protected
@@ -191,8 +194,9 @@ pub(crate) fn is_lent(
     protectors: &[u8],
     words: &[u32],
     codes: &[u8],
+    width: u64,
 ) -> bool
-    ensures { λ r. ⌜ r ≡ isLent len count
+    ensures { λ r. ⌜ r ≡ isLent width len count
         (buffers (now (allocs .entry)) (now (parents .entry)) (now (protectors .entry)) (now (words .entry)) (now (codes .entry))) ⌝ }
 {
     if len != 64 {
@@ -201,7 +205,7 @@ pub(crate) fn is_lent(
     if count > 64 {
         return false;
     }
-    wellformed::well_formed(allocs, parents, protectors, words, codes)
+    wellformed::at_width::well_formed_at(allocs, parents, protectors, words, codes, width)
 }
 
 // What a retag comes to where one of its fields falls under 2: 1 comes first.
@@ -213,11 +217,12 @@ pub fn malformed(
     protectors: &[u8],
     words: &[u32],
     codes: &[u8],
+    width: u64,
 ) -> RetagOutcome
-    ensures { λ r. ⌜ r ≡ malformedOutcome len count
+    ensures { λ r. ⌜ r ≡ malformedOutcome width len count
         (buffers (now (allocs .entry)) (now (parents .entry)) (now (protectors .entry)) (now (words .entry)) (now (codes .entry))) ⌝ }
 {
-    if is_lent(len, count, allocs, parents, protectors, words, codes) {
+    if is_lent(len, count, allocs, parents, protectors, words, codes, width) {
         return without_entry(Answer::Refused(2), count, len);
     }
     without_entry(Answer::Refused(1), count, len)
@@ -233,20 +238,21 @@ pub fn retag_list(
     protectors: &mut [u8],
     words: &[u32],
     codes: &mut [u8],
+    width: u64,
     layout: &[u32],
     p: ThinPointer,
     settings: RetagSettings,
 ) -> RetagOutcome
     ensures { λ r. ⌜ ((places : List Entry) → length places ≡ len
-        → Served settings (thinPointerOf p) (now (layout .entry))
+        → Served width settings (thinPointerOf p) (now (layout .entry))
         (lent places count (buffers (now (allocs .entry)) (now (parents .entry)) (now (protectors .entry)) (now (words .entry)) (now (codes .entry))))
         (r .answer) (set places (r .at) (r .entry))
         (buffers (now (allocs .exit)) (now (parents .exit)) (now (protectors .exit)) (now (words .entry)) (now (codes .exit)))) ⌝ }
 {
-    if !is_lent(len, count, allocs, parents, protectors, words, codes) {
+    if !is_lent(len, count, allocs, parents, protectors, words, codes, width) {
         return without_entry(Answer::Refused(1), count, len);
     }
-    if bad_fields(settings, layout) {
+    if bad_fields(width, settings, p.addr, layout) {
         return without_entry(Answer::Refused(2), count, len);
     }
     let answer = retag_held(

@@ -1,6 +1,7 @@
 // Kind 0: an allocation at a proposed address.
 use answer::Answer;
 use pointer::Provenance;
+use pointer::width::Width;
 ghost use mathlib.Core.Path.{_≡_};
 ghost use mathlib.Core.Bool.{not};
 ghost use Prim.Native.Nat.{_<_};
@@ -8,6 +9,7 @@ ghost use lib.ListN.{length};
 ghost use Rattle.definition.specs.Notation.{any};
 ghost use Rattle.definition.specs.Memory.{Memory, AllocationKind, allocationAt, overlaps, isPickable};
 ghost use Rattle.definition.specs.Memory as definition;
+ghost use Rattle.pointer.specs.Width.{widthOf};
 ghost use Rattle.tables.specs.Held.{Records};
 ghost use Rattle.memory.specs.Allocate.{CanAllocate, Allocated};
 
@@ -39,11 +41,12 @@ fn overlaps_any(allocs: &[u64], address: u64, len: u64) -> bool
     false
 }
 
-// 5: what `pick` asks of an address. "above 0, a multiple of the alignment, address + size at most 2^64 − 1, no live allocation overlapping"
-fn fails_pick(allocs: &[u64], len: u64, exponent: u64, address: u64) -> bool
+// 5: what `pick` asks of an address. "above 0, a multiple of the alignment, address + size at most 2^64 − 1, no live allocation overlapping", where the sum
+// is at most the last address of the width
+fn fails_pick(allocs: &[u64], width: Width, len: u64, exponent: u64, address: u64) -> bool
     requires { ⌜ ((m : Memory) × Records m (now allocs)) ⌝ }
     requires { ⌜ exponent < 64 ⌝ }
-    ensures { λ r. ⌜ ((m : Memory) → Records m (now (allocs .entry)) → r ≡ not (isPickable m len exponent address)) ⌝ }
+    ensures { λ r. ⌜ ((m : Memory) → Records m (now (allocs .entry)) → r ≡ not (isPickable (widthOf width) m len exponent address)) ⌝ }
 {
     if address == 0 {
         return true;
@@ -51,9 +54,10 @@ fn fails_pick(allocs: &[u64], len: u64, exponent: u64, address: u64) -> bool
     if bounds::is_misaligned(address, exponent) {
         return true;
     }
-    // the bytes from the address up to 2^64
-    let room = 0xffff_ffff_ffff_ffff - address + 1;
-    if room <= len {
+    if width.is_too_high(address) {
+        return true;
+    }
+    if width.last_address() - address < len {
         return true;
     }
     overlaps_any(allocs, address, len)
@@ -63,6 +67,7 @@ fn fails_pick(allocs: &[u64], len: u64, exponent: u64, address: u64) -> bool
 pub fn allocate(
     allocs: &mut [u64],
     codes: &mut [u8],
+    width: Width,
     kind: u64,
     len: u64,
     exponent: u64,
@@ -70,9 +75,9 @@ pub fn allocate(
 ) -> Answer
     requires { ⌜ ((m : Memory) × ((k : AllocationKind) × CanAllocate m k (now allocs) (now codes) kind exponent)) ⌝ }
     ensures { λ r. ⌜ ((m : Memory) (k : AllocationKind) → CanAllocate m k (now (allocs .entry)) (now (codes .entry)) kind exponent
-        → Allocated (definition.allocate k len exponent address m) r (now (allocs .exit)) (now (codes .exit))) ⌝ }
+        → Allocated (definition.allocate (widthOf width) k len exponent address m) r (now (allocs .exit)) (now (codes .exit))) ⌝ }
 {
-    if fails_pick(allocs, len, exponent, address) {
+    if fails_pick(allocs, width, len, exponent, address) {
         return Answer::Refused(5);
     }
     let bytes = len as usize;

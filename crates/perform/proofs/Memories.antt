@@ -5,6 +5,7 @@ use mathlib.Core.Bool.{false, false≢true}
 use mathlib.Core.List.{List}
 use native.Mathlib.Omega.{arith}
 use lib.IntN.{ℤ}
+use Rattle.definition.specs.Width.{Width}
 use Rattle.definition.specs.Memory.{Memory, ThinPointer, performAccess, allocate, deallocate, dereferenceable, leakCheck}
 use Rattle.definition.specs.Memory as definition
 use Rattle.definition.specs.Frame.{State, inMemory}
@@ -33,10 +34,10 @@ module _ {s : State} {q : Request} {ws A P R W C : List ℕ} (h : Asked s q ws (
   fine e = subst (λ (k : Kind). isMalformed (kindOf k) s (requestOf q ws) ≡ false) e (h .formed .fine)
 
   -- from an outcome of the memory
-  left : {k : Kind} → q .kind ≡ k → {o : definition.Answer × Memory} → perform (kindOf k) s (requestOf q ws) ≡ inMemory s o → {r : Answer} {b : Buffers}
-      → answerOf r (b .words) ≡ o .0 → b ≡ encode (o .1) → LeftMemory (outcomeOf s q ws) r b
-  left {k} e same {r} {b} f g =
-      subst⁻¹ (λ (k : Kind). LeftMemory (perform (kindOf k) s (requestOf q ws)) r b) e
+  left : (w : Width) {k : Kind} → q .kind ≡ k → {o : definition.Answer × Memory} → perform w (kindOf k) s (requestOf q ws) ≡ inMemory s o → {r : Answer} {b : Buffers}
+      → answerOf r (b .words) ≡ o .0 → b ≡ encode (o .1) → LeftMemory (outcomeOf w s q ws) r b
+  left w {k} e same {r} {b} f g =
+      subst⁻¹ (λ (k : Kind). LeftMemory (perform w (kindOf k) s (requestOf q ws)) r b) e
       (subst⁻¹ (λ (x : definition.Answer × State). LeftMemory x r b) same (record { answer = f; memory = g }))
 
   -- ---- 0
@@ -44,25 +45,25 @@ module _ {s : State} {q : Request} {ws A P R W C : List ℕ} (h : Asked s q ws (
     pub can : CanAllocate (s .memory) (allocationKind (requestOf q ws)) A C kind exponent
     can =
         let b = allocate-bounds s (requestOf q ws) (fine e) in
-        can-allocate (s .memory) (allocationKind (requestOf q ws)) len exponent (q .address) (h .holds) (is-kind ∙ sym (kind-number (q .extra) (b .1))) (omega (arith, b .0))
+        can-allocate (s .memory) (allocationKind (requestOf q ws)) (h .holds) (is-kind ∙ sym (kind-number (q .extra) (b .1))) (omega (arith, b .0))
 
-    pub allocate-left : {r : Answer} {A′ C′ : List ℕ} → Allocated (allocate (allocationKind (requestOf q ws)) len exponent (q .address) (s .memory)) r A′ C′
-        → LeftMemory (outcomeOf s q ws) r (buffers A′ P R W C′)
+    pub allocate-left : (w : Width) {r : Answer} {A′ C′ : List ℕ} → Allocated (allocate w (allocationKind (requestOf q ws)) len exponent (q .address) (s .memory)) r A′ C′
+        → LeftMemory (outcomeOf w s q ws) r (buffers A′ P R W C′)
     unfolding perform
-    allocate-left a =
-        left e (λ i. inMemory s (allocate (allocationKind (requestOf q ws)) (sym is-len i) (sym is-exponent i) (q .address) (s .memory))) (a .answer W)
-        (allocate-encode (s .memory) (allocationKind (requestOf q ws)) len exponent (q .address) (h .holds) a)
+    allocate-left w a =
+        left w e (λ i. inMemory s (allocate w (allocationKind (requestOf q ws)) (sym is-len i) (sym is-exponent i) (q .address) (s .memory))) (a .answer W)
+        (allocate-encode w (s .memory) (allocationKind (requestOf q ws)) len exponent (q .address) (h .holds) a)
 
   -- ---- 1
   module _ (e : q .kind ≡ Deallocate) {p : ThinPointer} {kind len exponent : ℕ} (is-pointer : p ≡ pointer (requestOf q ws)) (is-kind : kind ≡ q .extra) (is-len : len ≡ q .fourth) (is-exponent : exponent ≡ q .exponent) where
     pub deallocate-kind : kind ≡ definition.kindNumber (allocationKind (requestOf q ws))
     deallocate-kind = is-kind ∙ sym (kind-number (q .extra) (deallocate-bounds s (requestOf q ws) (fine e) .1))
 
-    pub deallocate-left : {r : Answer} {A′ C′ : List ℕ} → Deallocated p (allocationKind (requestOf q ws)) len exponent (s .memory) r A′ C′
-        → LeftMemory (outcomeOf s q ws) r (buffers A′ P R W C′)
+    pub deallocate-left : (w : Width) {r : Answer} {A′ C′ : List ℕ} → Deallocated p (allocationKind (requestOf q ws)) len exponent (s .memory) r A′ C′
+        → LeftMemory (outcomeOf w s q ws) r (buffers A′ P R W C′)
     unfolding perform
-    deallocate-left a =
-        left e (λ i. inMemory s (deallocate (sym is-pointer i) (allocationKind (requestOf q ws)) (sym is-len i) (sym is-exponent i) (s .memory))) (a .answers W)
+    deallocate-left w a =
+        left w e (λ i. inMemory s (deallocate (sym is-pointer i) (allocationKind (requestOf q ws)) (sym is-len i) (sym is-exponent i) (s .memory))) (a .answers W)
         (deallocate-encode p (allocationKind (requestOf q ws)) len exponent (s .memory) (h .holds) a)
 
   -- ---- 2 and 3
@@ -73,36 +74,36 @@ module _ {s : State} {q : Request} {ws A P R W C : List ℕ} (h : Asked s q ws (
   store-exponent e x = omega (arith, x, load-bound s (requestOf q ws) (store-parts s (requestOf q ws) (fine e) .0))
 
   module _ {p : ThinPointer} {exponent : ℕ} (is-pointer : p ≡ pointer (requestOf q ws)) (is-exponent : exponent ≡ q .exponent) where
-    pub load-left : q .kind ≡ Load → {len : ℕ} → len ≡ q .fourth → {r : Answer} {C′ : List ℕ} → Loaded (loadOf p len exponent) (s .memory) r C′
-        → LeftMemory (outcomeOf s q ws) r (buffers A P R W C′)
+    pub load-left : (w : Width) → q .kind ≡ Load → {len : ℕ} → len ≡ q .fourth → {r : Answer} {C′ : List ℕ} → Loaded (loadOf p len exponent) (s .memory) r C′
+        → LeftMemory (outcomeOf w s q ws) r (buffers A P R W C′)
     unfolding perform
-    load-left e {len} is-len {r} a =
-        left e (λ i. inMemory s (performAccess (loadOf (sym is-pointer i) (sym is-len i) (sym is-exponent i)) (s .memory)))
+    load-left w e {len} is-len {r} a =
+        left w e (λ i. inMemory s (performAccess (loadOf (sym is-pointer i) (sym is-len i) (sym is-exponent i)) (s .memory)))
         (ap (λ (words : List ℕ). answerOf r words) (holds-words (h .holds)) ∙ a .answers) (load-encode (h .holds) p len exponent a)
 
-    pub store-left : q .kind ≡ Store → {r : Answer} {W′ C′ : List ℕ} → Stored (storeOf p ws exponent) (s .memory) r W′ C′
-        → LeftMemory (outcomeOf s q ws) r (buffers A P R W′ C′)
+    pub store-left : (w : Width) → q .kind ≡ Store → {r : Answer} {W′ C′ : List ℕ} → Stored (storeOf p ws exponent) (s .memory) r W′ C′
+        → LeftMemory (outcomeOf w s q ws) r (buffers A P R W′ C′)
     unfolding perform
-    store-left e {r} {W′} a =
-        left e (λ i. inMemory s (performAccess (storeOf (sym is-pointer i) ws (sym is-exponent i)) (s .memory))) (a .answers W′)
+    store-left w e {r} {W′} a =
+        left w e (λ i. inMemory s (performAccess (storeOf (sym is-pointer i) ws (sym is-exponent i)) (s .memory))) (a .answers W′)
         (store-encode (h .holds) p ws exponent a)
 
   -- ---- 7, 8 and 9
   module _ {p : ThinPointer} (is-pointer : p ≡ pointer (requestOf q ws)) where
-    pub dereferenceable-left : q .kind ≡ Dereferenceable → {len : ℕ} → len ≡ q .fourth → {r : Answer} → answerOf r W ≡ dereferenceable p 0 len (s .memory) .0
-        → LeftMemory (outcomeOf s q ws) r (buffers A P R W C)
+    pub dereferenceable-left : (w : Width) → q .kind ≡ Dereferenceable → {len : ℕ} → len ≡ q .fourth → {r : Answer} → answerOf r W ≡ dereferenceable p 0 len (s .memory) .0
+        → LeftMemory (outcomeOf w s q ws) r (buffers A P R W C)
     unfolding perform dereferenceable
-    dereferenceable-left e is-len f = left e (λ i. inMemory s (dereferenceable (sym is-pointer i) 0 (sym is-len i) (s .memory))) f (h .holds .equal)
+    dereferenceable-left w e is-len f = left w e (λ i. inMemory s (dereferenceable (sym is-pointer i) 0 (sym is-len i) (s .memory))) f (h .holds .equal)
 
-    pub signed-left : q .kind ≡ SignedDereferenceable → (len : ℤ) → (back len ≡ bytesBack (q .fourth)) × (ahead len ≡ bytesAhead (q .fourth)) → {r : Answer}
-        → answerOf r W ≡ dereferenceable p (back len) (ahead len) (s .memory) .0 → LeftMemory (outcomeOf s q ws) r (buffers A P R W C)
+    pub signed-left : (w : Width) → q .kind ≡ SignedDereferenceable → (len : ℤ) → (back len ≡ bytesBack (q .fourth)) × (ahead len ≡ bytesAhead (q .fourth)) → {r : Answer}
+        → answerOf r W ≡ dereferenceable p (back len) (ahead len) (s .memory) .0 → LeftMemory (outcomeOf w s q ws) r (buffers A P R W C)
     unfolding perform dereferenceable
-    signed-left e len is-len f =
-        left e (λ i. inMemory s (dereferenceable (sym is-pointer i) (sym (is-len .0) i) (sym (is-len .1) i) (s .memory))) f (h .holds .equal)
+    signed-left w e len is-len f =
+        left w e (λ i. inMemory s (dereferenceable (sym is-pointer i) (sym (is-len .0) i) (sym (is-len .1) i) (s .memory))) f (h .holds .equal)
 
-  pub leak-left : q .kind ≡ LeakCheck → {r : Answer} → answerOf r W ≡ leakCheck (s .memory) .0 → LeftMemory (outcomeOf s q ws) r (buffers A P R W C)
+  pub leak-left : (w : Width) → q .kind ≡ LeakCheck → {r : Answer} → answerOf r W ≡ leakCheck (s .memory) .0 → LeftMemory (outcomeOf w s q ws) r (buffers A P R W C)
   unfolding perform leakCheck
-  leak-left e f = left e refl f (h .holds .equal)
+  leak-left w e f = left w e refl f (h .holds .equal)
 
   -- ---- those that are not asked
   pub not-alone : {k : Kind} → q .kind ≡ k → isInMemory k ≡ false → ⊥

@@ -3,6 +3,7 @@ use Prim.Native.Nat.{ℕ}
 use mathlib.Core.Path.{_≡_}
 use mathlib.Core.Bool.{Bool, true, false}
 use mathlib.Core.List.{List}
+use Rattle.definition.specs.Width.{Width}
 use Rattle.definition.specs.Memory as definition
 use Rattle.definition.specs.Frame.{State}
 use Rattle.definition.specs.Request.{isMalformed}
@@ -14,7 +15,7 @@ use Rattle.tables.specs.Encoding.{Buffers, encode}
 use Rattle.tables.specs.Held.{Holds, Trees}
 use Rattle.frames.specs.Buffer.{framesHeld}
 use Rattle.request.specs.declared.Kind.{Kind}
-use Rattle.request.specs.declared.Kind.the-variants.{Allocate, Deallocate, Load, Store, Retag, NewCall, EndCall, Dereferenceable, SignedDereferenceable, LeakCheck, Unused}
+use Rattle.request.specs.declared.Kind.the-variants.{Allocate, Deallocate, Load, Store, Retag, NewCall, EndCall, Dereferenceable, SignedDereferenceable, LeakCheck, Empty, Unused}
 use Rattle.request.specs.declared.Request.{Request}
 use Rattle.request.specs.Fields.{kindOf, requestOf}
 
@@ -23,9 +24,9 @@ pub record Formed (s : State) (q : Request) (following : List ℕ) : Type 0 wher
   pub fine : isMalformed (kindOf (q .kind)) s (requestOf q following) ≡ false
   pub words : All IsWord following
 
--- the definition's outcome of a request with these words behind the fourth
-abbrev pub outcomeOf : State → Request → List ℕ → definition.Answer × State
-outcomeOf s q following = perform (kindOf (q .kind)) s (requestOf q following)
+-- the definition's outcome, at a width, of a request with these words behind the fourth
+abbrev pub outcomeOf : Width → State → Request → List ℕ → definition.Answer × State
+outcomeOf w s q following = perform w (kindOf (q .kind)) s (requestOf q following)
 
 -- ---- requests to the memory alone
 abbrev pub isInMemory : Kind → Bool
@@ -39,6 +40,7 @@ isInMemory EndCall = false
 isInMemory Dereferenceable = true
 isInMemory SignedDereferenceable = true
 isInMemory LeakCheck = true
+isInMemory Empty = false
 isInMemory Unused = true
 
 -- such a request is asked of a memory that the buffers hold

@@ -1,10 +1,12 @@
 // The requests that need no frame.
 use answer::Answer;
 use permission::AccessKind;
+use pointer::width::Width;
 use request::Kind;
 use request::Request;
 ghost use mathlib.Core.Path.{_≡_};
 ghost use Rattle.definition.specs.Frame.{State};
+ghost use Rattle.pointer.specs.Width.{widthOf};
 ghost use Rattle.permission.specs.declared.AccessKind.the-variants.{Read, Write};
 ghost use Rattle.request.specs.declared.Kind.the-variants.{Load, Store};
 ghost use Rattle.tables.specs.Held.{buffers};
@@ -33,12 +35,13 @@ pub(crate) fn in_memory(
     protectors: &[u8],
     words: &mut [u32],
     codes: &mut [u8],
+    width: Width,
     q: Request,
     following: &[u32],
 ) -> Answer
     requires { ⌜ ((s : State) × Asked s q (now following) (buffers (now allocs) (now parents) (now protectors) (now words) (now codes))) ⌝ }
     ensures { λ r. ⌜ ((s : State) → Asked s q (now (following .entry)) (buffers (now (allocs .entry)) (now (parents .entry)) (now (protectors .entry)) (now (words .entry)) (now (codes .entry)))
-        → LeftMemory (outcomeOf s q (now (following .entry))) r (buffers (now (allocs .exit)) (now (parents .entry)) (now (protectors .entry)) (now (words .exit)) (now (codes .exit)))) ⌝ }
+        → LeftMemory (outcomeOf (widthOf width) s q (now (following .entry))) r (buffers (now (allocs .exit)) (now (parents .entry)) (now (protectors .entry)) (now (words .exit)) (now (codes .exit)))) ⌝ }
 {
     let kind = q.kind;
     let extra = wide(q.extra);
@@ -47,7 +50,15 @@ pub(crate) fn in_memory(
     let address = q.address;
     let p = q.pointer();
     match kind {
-        Kind::Allocate => memory::allocate::allocate(allocs, codes, extra, len, exponent, address),
+        Kind::Allocate => memory::allocate::allocate(
+            allocs,
+            codes,
+            width,
+            extra,
+            len,
+            exponent,
+            address,
+        ),
         Kind::Deallocate => memory::deallocate::deallocate(
             allocs,
             parents,
@@ -76,6 +87,7 @@ pub(crate) fn in_memory(
         Kind::Retag => Answer::Refused(2),
         Kind::NewCall => Answer::Refused(2),
         Kind::EndCall => Answer::Refused(2),
+        Kind::Empty => Answer::Refused(2),
         Kind::Unused => Answer::Refused(2),
     }
 }

@@ -1,2 +1,3 @@
 pub mod Pointer
 pub mod Byte
+pub mod Width

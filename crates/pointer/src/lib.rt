@@ -4,8 +4,12 @@ ghost use mathlib.Core.Path.{_≡_};
 ghost use Rattle.definition.specs.Notation.{any};
 ghost use Rattle.definition.specs.Memory.{wrappingOffset};
 ghost use Rattle.definition.specs.Request.{badByte};
+ghost use Rattle.pointer.specs.Width.{widthOf};
 ghost use Rattle.pointer.specs.Pointer.{provenanceOf, thinPointerOf, back, ahead};
 ghost use Rattle.pointer.specs.Byte.{initialised, hasProvenance};
+use crate::width::Width;
+
+pub mod width;
 
 // What a pointer may access: nothing, or an allocation, through one of its nodes.
 pub enum Provenance {
@@ -19,12 +23,13 @@ pub struct ThinPointer {
 }
 
 impl ThinPointer {
-    // Offsets a pointer in bytes. "A pointer offset, in the library a signed 64-bit number, does wrap at 2^64."
-    pub fn wrapping_offset(self, offset: i64) -> ThinPointer
-        ensures { λ r. ⌜ thinPointerOf r ≡ wrappingOffset (thinPointerOf self) (back offset) (ahead offset) ⌝ }
+    // Offsets a pointer in bytes. "A pointer offset, in the library a signed 64-bit number, does wrap at 2^64.", and so at any width.
+    pub fn wrapping_offset(self, offset: i64, width: Width) -> ThinPointer
+        ensures { λ r. ⌜ thinPointerOf r ≡ wrappingOffset (widthOf width) (thinPointerOf self) (back offset) (ahead offset) ⌝ }
     {
         let raised = std::num::wrapping_add_u64(self.addr, bytes_ahead(offset));
-        let addr = std::num::wrapping_sub_u64(raised, bytes_back(offset));
+        let lowered = std::num::wrapping_sub_u64(raised, bytes_back(offset));
+        let addr = width.wrapped(lowered);
         let provenance = self.provenance;
         ThinPointer { addr, provenance }
     }

@@ -6,7 +6,7 @@ use Rattle.definition.specs.Frame.{State, frameCount, frameAt, isOpen}
 use Rattle.definition.specs.Request as definition
 use Rattle.definition.specs.Request.{anyName, nonzero, frameNumber}
 use Rattle.request.specs.declared.Kind.{Kind}
-use Rattle.request.specs.declared.Kind.the-variants.{Allocate, Deallocate, Load, Store, Retag, NewCall, EndCall, Dereferenceable, SignedDereferenceable, LeakCheck, Unused}
+use Rattle.request.specs.declared.Kind.the-variants.{Allocate, Deallocate, Load, Store, Retag, NewCall, EndCall, Dereferenceable, SignedDereferenceable, LeakCheck, Empty, Unused}
 use Rattle.request.specs.declared.Request.{Request}
 
 abbrev pub kindOf : Kind → definition.Kind
@@ -20,6 +20,7 @@ kindOf EndCall = definition.Kind.EndCall
 kindOf Dereferenceable = definition.Kind.Dereferenceable
 kindOf SignedDereferenceable = definition.Kind.SignedDereferenceable
 kindOf LeakCheck = definition.Kind.LeakCheck
+kindOf Empty = definition.Kind.Empty
 kindOf Unused = definition.Kind.Unused
 
 -- the fields that the code holds, with the words that follow, which it leaves where they are
@@ -61,6 +62,7 @@ frameBy EndCall q = q .fourth % frameCount
 frameBy Dereferenceable q = q .fourth % frameCount
 frameBy SignedDereferenceable q = q .fourth % frameCount
 frameBy LeakCheck q = q .fourth % frameCount
+frameBy Empty q = q .fourth % frameCount
 frameBy Unused q = q .fourth % frameCount
 
 abbrev pub frameUsed : Request → ℕ

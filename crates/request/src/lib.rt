@@ -1,7 +1,9 @@
 // One request: its words to its fields, and refusal 2. Document 01: "A run and its requests".
 // specs/Fields.antt says what these values are in the definition.
 ghost use mathlib.Core.Path.{_≡_};
-ghost use mathlib.Core.Bool.{true};
+ghost use mathlib.Core.Bool.{true, not};
+ghost use lib.Dec.{eqb};
+ghost use Rattle.definition.specs.Notation.{any};
 ghost use mathlib.Core.List.{List};
 ghost use Prim.Native.Nat.{ℕ, _<_, _*_, _+_, _%_, _^_};
 ghost use lib.ListN.{length, getD, drop};
@@ -9,15 +11,21 @@ ghost use Rattle.definition.specs.Frame.{State};
 ghost use Rattle.definition.specs.Request as definition;
 ghost use Rattle.definition.specs.Request.{requestKinds, request, pointer, bit, functionEntry, unpin, freeze, frameNumber, layoutLength};
 ghost use Rattle.definition.specs.Request.{isSafe, isPinned, addsNoNode, safePointer, entryProtector, protectorOf, bytesBack, bytesAhead, followingLength, isMiscounted};
+ghost use Rattle.definition.specs.Request.{chosenWidth, isTooFar, storedBytes, isTooBig};
 ghost use Rattle.definition.specs.Request.{anyName, strayName, badSettings, badMetadata, badRetag, badCall, isMalformed};
-ghost use Rattle.definition.specs.Request.Kind.{Allocate, Deallocate, Load, Store, Retag, NewCall, EndCall, Dereferenceable, LeakCheck, Unused};
+ghost use Rattle.definition.specs.Request.Kind.{Allocate, Deallocate, Load, Store, Retag, NewCall, EndCall, Dereferenceable, LeakCheck, Empty, Unused};
+ghost use Rattle.definition.specs.Memory.{Answer};
+ghost use Rattle.definition.specs.Run.{widthBy, widthAfter};
 ghost use Rattle.pointer.specs.Pointer.{thinPointerOf, back, ahead};
+ghost use Rattle.pointer.specs.Width.{widthOf};
 ghost use Rattle.permission.specs.Codes as permission;
 ghost use Rattle.request.specs.Fields.{kindOf, requestOf, fieldsOf, anyField, openIn, frameUsed};
 use permission::Protected;
 use permission::SafePointer;
 use pointer::Provenance;
 use pointer::ThinPointer;
+use pointer::width::Width;
+use pointer::width::any_far_byte;
 
 pub enum Kind {
     Allocate,
@@ -30,6 +38,7 @@ pub enum Kind {
     Dereferenceable,
     SignedDereferenceable,
     LeakCheck,
+    Empty,
     Unused,
 }
 
@@ -67,6 +76,7 @@ fn kind_at(number: u32) -> Kind
         7 => Kind::Dereferenceable,
         8 => Kind::SignedDereferenceable,
         9 => Kind::LeakCheck,
+        15 => Kind::Empty,
         _ => Kind::Unused,
     }
 }
@@ -96,6 +106,17 @@ pub fn safe_pointer(extra: u32) -> SafePointer
         0 => SafePointer::SharedRef,
         1 => SafePointer::MutableRef,
         _ => SafePointer::Box,
+    }
+}
+
+// The width of a number, read where it is one of the list.
+fn chosen_width(extra: u32) -> Width
+    ensures { λ r. ⌜ ((q : definition.Request) → q .extra ≡ extra → widthOf r ≡ chosenWidth q) ⌝ }
+{
+    match extra {
+        0 => Width::Bits16,
+        1 => Width::Bits32,
+        _ => Width::Bits64,
     }
 }
 
@@ -257,6 +278,27 @@ impl Request {
             _ => (self.fourth % 32) as usize,
         }
     }
+
+    // The width that a run has after this request, if it is not refused: an emptying chooses it.
+    fn width_by(self, width: Width) -> Width
+        ensures { λ r. ⌜ ((ws : List ℕ) → widthOf r ≡ widthBy (kindOf (self .kind)) (requestOf self ws) (widthOf width)) ⌝ }
+    {
+        let kind = self.kind;
+        match kind {
+            Kind::Empty => chosen_width(self.extra),
+            _ => width,
+        }
+    }
+
+    // The same, whether it is refused or not.
+    pub fn width_after(self, refused: bool, width: Width) -> Width
+        ensures { λ r. ⌜ ((a : Answer) (ws : List ℕ) → refused ≡ not (eqb (a .refusal) 0) → widthOf r ≡ widthAfter a (requestOf self ws) (widthOf width)) ⌝ }
+    {
+        if refused {
+            return width;
+        }
+        self.width_by(width)
+    }
 }
 
 // "Input that ends inside a request falls under 2", and so does a list's request that has more words than it announces. Of the request that has
@@ -377,7 +419,13 @@ fn malformed_leak_check(q: Request) -> bool
     any_field(q) | (q.fourth != 0)
 }
 
-// Whether the request falls under 2, its number of words apart. `opened` says whether the frame that it uses is open.
+fn malformed_empty(q: Request) -> bool
+    ensures { λ r. ⌜ ((s : State) (ws : List ℕ) → r ≡ isMalformed Empty s (requestOf q ws)) ⌝ }
+{
+    any_name(q) | (q.exponent != 0) | (q.extra > 2) | (q.address != 0) | (q.fourth != 0)
+}
+
+// Whether the request falls under 2, its number of words and the width apart. `opened` says whether the frame that it uses is open.
 pub fn is_malformed(q: Request, following: &[u32], opened: bool) -> bool
     ensures { λ r. ⌜ ((s : State) → openIn s (frameUsed q) ≡ opened → r ≡ isMalformed (kindOf (q .kind)) s (requestOf q (now (following .entry)))) ⌝ }
 {
@@ -393,6 +441,25 @@ pub fn is_malformed(q: Request, following: &[u32], opened: bool) -> bool
         Kind::Dereferenceable => malformed_dereferenceable(q),
         Kind::SignedDereferenceable => malformed_dereferenceable(q),
         Kind::LeakCheck => malformed_leak_check(q),
+        Kind::Empty => malformed_empty(q),
         Kind::Unused => true,
     }
+}
+
+// ---- 2 by the width
+fn any_far_stored(kind: Kind, following: &[u32], width: Width) -> bool
+    ensures { λ r. ⌜ r ≡ any (isTooFar (widthOf width)) (storedBytes (kindOf kind) (now (following .entry))) ⌝ }
+{
+    match kind {
+        Kind::Store => any_far_byte(following, width),
+        _ => false,
+    }
+}
+
+// "An address or position too big for the width falls under 2."
+pub fn is_too_big(q: Request, following: &[u32], width: Width) -> bool
+    ensures { λ r. ⌜ r ≡ isTooBig (widthOf width) (requestOf q (now (following .entry))) ⌝ }
+{
+    let kind = q.kind;
+    width.is_too_high(q.address) | any_far_stored(kind, following, width)
 }

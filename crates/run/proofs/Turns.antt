@@ -8,9 +8,9 @@ use native.Mathlib.Numerals.{add-one}
 use native.Mathlib.Omega.{arith}
 use lib.ListN.{length, getD, take, drop, length-drop, drop-of-length-le}
 use lib.Seq.{take-all, drop-cons}
-use Rattle.definition.specs.Frame.{State, empty}
+use Rattle.definition.specs.Frame.{empty}
 use Rattle.definition.specs.Memory as definition
-use Rattle.definition.specs.Run.{step, answers, final}
+use Rattle.definition.specs.Run.{RunState, start, turn, answers, final}
 use Rattle.definition.proofs.Exchanges.{order-is-free}
 use Rattle.definition.proofs.Writes.{write-length}
 use Rattle.tables.specs.Encoding.{Buffers, encode}
@@ -19,13 +19,17 @@ use Rattle.frames.specs.Buffer.{framesHeld}
 use Rattle.state.specs.State.{HoldsState}
 use Rattle.state.proofs.Held.{state-lengths}
 use Rattle.answer.specs.Answer.{answerOf}
-use Rattle.answer.specs.declared.Answer.{Answer}
 use Rattle.answer.proofs.Loaded.{loaded-length}
 use Rattle.transcript.specs.Transcript.{answerWords, transcript, WrittenTo}
 use Rattle.transcript.specs.declared.Written.{Written}
 use Rattle.run.specs.declared.ListRun.the-variants.{Refused, Answered}
 use Rattle.run.specs.Lists.{requestsFrom, requestsIn, Lent, lent, ran, answered, listRun, ListRan}
-use Rattle.step.specs.Steps.{Stepped}
+use Rattle.pointer.specs.Width.{declaredWidth}
+use Rattle.pointer.specs.declared.width.Width.the-variants.{Bits64}
+use Rattle.pointer.proofs.Widths.{declared-same}
+use Rattle.step.specs.Steps as step
+use Rattle.step.specs.declared.Outcome.{Outcome}
+use Rattle.run.specs.declared.list.Advance.{Advance}
 use Rattle.state.specs.Lengths.{haveLengths}
 use Rattle.run.specs.Turns.{Turned, Going}
 
@@ -51,13 +55,13 @@ pub written-length : {text before out : List ℕ} {w : Written} → WrittenTo te
 written-length {text} {before} h = ap length (h .contents) ∙ write-length 0 text before
 
 -- ---- one turn
-module _ {s : State} {ws : List ℕ} {r : Answer} {A P R W C F : List ℕ} (k : Stepped s ws r (buffers A P R W C) F) where
-  pub few-words : length (answerOf r W .words) ≤ 4096
-  few-words = omega (arith, loaded-length r W, state-lengths (k .holds) .words)
+module _ {r : RunState} {ws : List ℕ} {o : Outcome} {A P R W C F : List ℕ} (k : step.Turned r ws o (buffers A P R W C) F) where
+  pub few-words : length (answerOf (o .answer) W .words) ≤ 4096
+  few-words = omega (arith, loaded-length (o .answer) W, state-lengths (k .holds .state) .words)
 
   pub turned : {w w′ : Written} {out out′ : List ℕ}
-      → ((text before : List ℕ) → WrittenTo text before out w → WrittenTo (text ++ answerWords (answerOf r W)) before out′ w′)
-      → Turned s ws w out w′ (buffers A P R W C) F out′
+      → ((text before : List ℕ) → WrittenTo text before out w → WrittenTo (text ++ answerWords (answerOf (o .answer) W)) before out′ w′)
+      → Turned r ws w out (record { written = w′; width = o .width }) (buffers A P R W C) F out′
   turned {w} {w′} {out} {out′} f = record {
     holds = k .holds;
     written = λ text before t. subst (λ (a : definition.Answer). WrittenTo (text ++ answerWords a) before out′ w′) (k .answer) (f text before t);
@@ -65,57 +69,60 @@ module _ {s : State} {ws : List ℕ} {r : Answer} {A P R W C F : List ℕ} (k : 
 
 -- ---- the list
 module _ (words ends before : List ℕ) where
-  pub going-start : {w : Written} {b : Buffers} {F : List ℕ} → HoldsState empty b F → ((out : List ℕ) → WrittenTo [] out out w) → Going words ends before 0 0 w b F before
-  going-start h f = record { state = empty; text = []; holds = h; written = f before; to-end = refl; told = refl }
+  pub going-start : {w : Written} {b : Buffers} {F : List ℕ} → HoldsState empty b F → ((out : List ℕ) → WrittenTo [] out out w)
+      → Going words ends before 0 0 (record { written = w; width = Bits64 }) b F before
+  going-start h f = record { state = start; text = []; holds = record { state = h; width = refl }; written = f before; to-end = refl; told = refl }
 
   module _ {i : ℕ} (from : ℕ) (inside : i < length ends) where
     next : {end : ℕ} → end ≡ getD ends i 0 → requestsFrom from (drop i ends) words ≡ take (end - from) (drop from words) ∷ requestsFrom end (drop (i + 1) ends) words
     unfolding requestsFrom
     next e = ap (λ (l : List ℕ). requestsFrom from l words) (drop-cons ends i 0 inside) ∙ rw (add-one, ← e)
 
-    pub going-on : {w w′ : Written} {b b′ : Buffers} {F F′ out out′ request : List ℕ} {end : ℕ} → (g : Going words ends before i from w b F out) → end ≡ getD ends i 0
-        → request ≡ take (end - from) (drop from words) → Turned (g .state) request w out w′ b′ F′ out′ → Going words ends before (i + 1) end w′ b′ F′ out′
+    pub going-on : {p p′ : Advance} {b b′ : Buffers} {F F′ out out′ request : List ℕ} {end : ℕ} → (g : Going words ends before i from p b F out) → end ≡ getD ends i 0
+        → request ≡ take (end - from) (drop from words) → Turned (g .state) request (p .written) out p′ b′ F′ out′ → Going words ends before (i + 1) end p′ b′ F′ out′
     unfolding final answers transcript
     going-on {request = request} {end} g e is t =
         let s = g .state in
         let rest = requestsFrom end (drop (i + 1) ends) words in
         let left : requestsFrom from (drop i ends) words ≡ request ∷ rest = next e ∙ ap (λ (ws : List ℕ). ws ∷ rest) (sym is) in
         record {
-          state = step s request .1;
-          text = g .text ++ answerWords (step s request .0);
+          state = turn s request .1;
+          text = g .text ++ answerWords (turn s request .0);
           holds = t .holds;
           written = t .written (g .text) before (g .written);
           to-end = sym (ap (final s) left) ∙ g .to-end;
           told =
-              append-assoc (g .text) (answerWords (step s request .0)) (transcript (answers (step s request .1) rest))
+              append-assoc (g .text) (answerWords (turn s request .0)) (transcript (answers (turn s request .1) rest))
               ∙ ap (λ (l : List (List ℕ)). g .text ++ transcript (answers s l)) (sym left)
               ∙ g .told;
         }
 
-  pub all-ran : {i from : ℕ} {w : Written} {b : Buffers} {F out : List ℕ} → length ends ≤ i → Going words ends before i from w b F out
-      → _≡_ {A = Written × Lent} (w, lent b F out) (ran (requestsIn words ends) before)
+  pub all-ran : {i from : ℕ} {p : Advance} {b : Buffers} {F out : List ℕ} → length ends ≤ i → Going words ends before i from p b F out
+      → _≡_ {A = Advance × Lent} (p, lent b F out) (ran (requestsIn words ends) before)
   unfolding requestsFrom final answers transcript ran
-  all-ran {i} {from} {w} {b} {F} {out} all g =
+  all-ran {i} {from} {p} {b} {F} {out} all g =
       let l : List (List ℕ) = requestsIn words ends in
       let none-left : drop i ends ≡ [] = drop-of-length-le ends {i = i} all in
-      let s-end : g .state ≡ final empty l = ap (λ (x : List ℕ). final (g .state) (requestsFrom from x words)) (sym none-left) ∙ g .to-end in
-      let told : g .text ≡ transcript (answers empty l) =
+      let s-end : g .state ≡ final start l = ap (λ (x : List ℕ). final (g .state) (requestsFrom from x words)) (sym none-left) ∙ g .to-end in
+      let told : g .text ≡ transcript (answers start l) =
       sym (append-nil (g .text)) ∙ ap (λ (x : List ℕ). g .text ++ transcript (answers (g .state) (requestsFrom from x words))) (sym none-left) ∙ g .told in
-      let t : WrittenTo (transcript (answers empty l)) before out w = subst (λ (text : List ℕ). WrittenTo text before out w) told (g .written) in
-      let memory : b ≡ encode (final empty l .memory) = g .holds .memory ∙ ap (λ (s : State). encode (s .memory)) s-end in
-      let frames : F ≡ framesHeld (final empty l .frames) = g .holds .frames ∙ ap (λ (s : State). framesHeld (s .frames)) s-end in
-      λ k. (record { at = t .end k; whole = t .fits k }, lent (memory k) (frames k) (t .contents k))
+      let t : WrittenTo (transcript (answers start l)) before out (p .written) = subst (λ (text : List ℕ). WrittenTo text before out (p .written)) told (g .written) in
+      let memory : b ≡ encode (final start l .state .memory) = g .holds .state .memory ∙ ap (λ (r : RunState). encode (r .state .memory)) s-end in
+      let frames : F ≡ framesHeld (final start l .state .frames) = g .holds .state .frames ∙ ap (λ (r : RunState). framesHeld (r .state .frames)) s-end in
+      let width : p .width ≡ declaredWidth (final start l .width) =
+      declared-same (p .width) ∙ ap declaredWidth (g .holds .width ∙ ap (λ (r : RunState). r .width) s-end) in
+      λ k. (record { written = record { at = t .end k; whole = t .fits k }; width = width k }, lent (memory k) (frames k) (t .contents k))
 
 -- ---- for whatever is lent
 module _ {l : List (List ℕ)} {b₀ : Buffers} {F₀ before : List ℕ} where
   pub not-lent : haveLengths b₀ F₀ ≡ false → ListRan l (lent b₀ F₀ before) (Refused 1) (lent b₀ F₀ before)
   unfolding listRun
-  not-lent e = record { outcome = rw e; order = order-is-free empty l }
+  not-lent e = record { outcome = rw e; order = order-is-free start l }
 
-  pub list-ran : haveLengths b₀ F₀ ≡ true → {w : Written} {left : Lent} → _≡_ {A = Written × Lent} (w, left) (ran l before)
-      → ListRan l (lent b₀ F₀ before) (Answered (w .at) (w .whole)) left
+  pub list-ran : haveLengths b₀ F₀ ≡ true → {p : Advance} {left : Lent} → _≡_ {A = Advance × Lent} (p, left) (ran l before)
+      → ListRan l (lent b₀ F₀ before) (Answered (p .written .at) (p .written .whole) (p .width)) left
   unfolding listRun
   list-ran e k = record {
     outcome = rw e (ap answered k);
-    order = order-is-free empty l;
+    order = order-is-free start l;
   }

@@ -5,14 +5,14 @@ use mathlib.Core.List.{List, [], _∷_}
 use lib.Dec.{leb}
 use lib.ListN.{length, take, drop}
 use Rattle.definition.specs.Notation.{if_then_else_, writeAt}
-use Rattle.definition.specs.Frame.{empty}
-use Rattle.definition.specs.Run.{answers, final}
+use Rattle.definition.specs.Run.{start, answers, final}
 use Rattle.definition.specs.Exchange.{OrderIsFree}
 use Rattle.tables.specs.Encoding.{Buffers, encode}
 use Rattle.state.specs.Lengths.{haveLengths}
 use Rattle.frames.specs.Buffer.{framesHeld}
 use Rattle.transcript.specs.Transcript.{transcript}
-use Rattle.transcript.specs.declared.Written.{Written}
+use Rattle.pointer.specs.Width.{declaredWidth}
+use Rattle.run.specs.declared.list.Advance.{Advance}
 use Rattle.run.specs.declared.ListRun.{ListRun}
 use Rattle.run.specs.declared.ListRun.the-variants.{Refused, Answered}
 
@@ -33,17 +33,17 @@ pub record Lent : Type 0 where
 abbrev pub lent : Buffers → List ℕ → List ℕ → Lent
 lent b F out = record { memory = b; frames = F; answers = out }
 
--- ---- what the list l comes to on emptied buffers, with `before` in the one for the answers. Answers, memory and frames are the definition's; of the
+-- ---- what the list l comes to on emptied buffers, with `before` in the one for the answers. Answers, memory, frames and width are the definition's; of the
 -- answers as much as there is room for, with where they end and whether that is all
-unfoldable pub ran : List (List ℕ) → List ℕ → Written × Lent
+unfoldable pub ran : List (List ℕ) → List ℕ → Advance × Lent
 ran l before =
-    let text = transcript (answers empty l) in (
-      record { at = min (length text) (length before); whole = leb (length text) (length before) },
-      lent (encode (final empty l .memory)) (framesHeld (final empty l .frames)) (writeAt 0 text before),
+    let text = transcript (answers start l) in (
+      record { written = record { at = min (length text) (length before); whole = leb (length text) (length before) }; width = declaredWidth (final start l .width) },
+      lent (encode (final start l .state .memory)) (framesHeld (final start l .state .frames)) (writeAt 0 text before),
     )
 
-abbrev pub answered : Written × Lent → ListRun × Lent
-answered o = (Answered (o .0 .at) (o .0 .whole), o .1)
+abbrev pub answered : Advance × Lent → ListRun × Lent
+answered o = (Answered (o .0 .written .at) (o .0 .written .whole) (o .0 .width), o .1)
 
 -- ---- for whatever is lent: 1, and nothing of it changes, where a buffer has another length
 unfoldable pub listRun : List (List ℕ) → Lent → ListRun × Lent
@@ -54,4 +54,4 @@ pub record ListRan (l : List (List ℕ)) (given : Lent) (r : ListRun) (left : Le
   pub outcome : _≡_ {A = ListRun × Lent} (r, left) (listRun l given)
   -- demand 3: every list made from l by exchanges has the same answers, each in its new place, and the same end, and so has the list with an
   -- accepted load made again. `listRun` is made of the answers and the end, so all that holds memory and frames is equal too (proofs/Exchanged)
-  pub order : OrderIsFree empty l
+  pub order : OrderIsFree start l

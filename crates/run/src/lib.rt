@@ -2,13 +2,18 @@
 ghost use mathlib.Core.Path.{_≡_};
 ghost use Prim.Native.Nat.{_-_};
 ghost use lib.ListN.{take, drop};
+use pointer::width::Width;
 
 pub mod list;
 
-// What a list comes to: a refusal with document 01's number, or its answers, as far as the lent buffer has room.
+// What a list comes to: a refusal with document 01's number, or its answers, as far as the lent buffer has room, and the width that it leaves.
 pub enum ListRun {
     Refused(u8),
-    Answered { at: usize, whole: bool },
+    Answered {
+        at: usize,
+        whole: bool,
+        width: Width,
+    },
 }
 
 // The words from one place up to another, as far as there are any.

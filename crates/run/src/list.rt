@@ -1,14 +1,23 @@
 // A list of requests from the empty memory. It goes on after a refusal. specs/Lists.antt says what it comes to, with demand 3.
 use crate::ListRun;
 use crate::part;
+use pointer::width::Width;
 use transcript::Written;
-ghost use Rattle.definition.specs.Frame.{State, empty};
+ghost use Rattle.definition.specs.Frame.{empty};
+ghost use Rattle.definition.specs.Run.{RunState};
+ghost use Rattle.pointer.specs.Width.{widthOf};
 ghost use Rattle.tables.specs.Held.{buffers};
 ghost use mathlib.Core.Path.{_≡_};
-ghost use Rattle.state.specs.State.{HoldsState};
-ghost use Rattle.transcript.specs.declared.Written as written;
+ghost use Rattle.state.specs.State.{HoldsState, HoldsRun};
+ghost use Rattle.run.specs.declared.list.Advance as advance;
 ghost use Rattle.run.specs.Lists.{requestsIn, Lent, lent, ran, ListRan};
 ghost use Rattle.run.specs.Turns.{Turned};
+
+// How far a list is done: its answers are written so far, and the run has this width.
+struct Advance {
+    written: Written,
+    width: Width,
+}
 
 // One request; its answer is written behind the others.
 fn turn(
@@ -20,14 +29,28 @@ fn turn(
     frames: &mut [u32],
     request: &[u32],
     answers: &mut [u32],
-    w: Written,
-) -> Written
-    requires { ⌜ ((s : State) × HoldsState s (buffers (now allocs) (now parents) (now protectors) (now words) (now codes)) (now frames)) ⌝ }
-    ensures { λ r. ⌜ ((s : State) → HoldsState s (buffers (now (allocs .entry)) (now (parents .entry)) (now (protectors .entry)) (now (words .entry)) (now (codes .entry))) (now (frames .entry))
-        → Turned s (now (request .entry)) w (now (answers .entry)) r (buffers (now (allocs .exit)) (now (parents .exit)) (now (protectors .exit)) (now (words .exit)) (now (codes .exit))) (now (frames .exit)) (now (answers .exit))) ⌝ }
+    p: Advance,
+) -> Advance
+    requires { ⌜ ((r : RunState) × HoldsRun r (buffers (now allocs) (now parents) (now protectors) (now words) (now codes)) (now frames) (widthOf (p .width))) ⌝ }
+    ensures { λ n. ⌜ ((r : RunState) → HoldsRun r (buffers (now (allocs .entry)) (now (parents .entry)) (now (protectors .entry)) (now (words .entry)) (now (codes .entry))) (now (frames .entry)) (widthOf (p .width))
+        → Turned r (now (request .entry)) (p .written) (now (answers .entry)) n (buffers (now (allocs .exit)) (now (parents .exit)) (now (protectors .exit)) (now (words .exit)) (now (codes .exit))) (now (frames .exit)) (now (answers .exit))) ⌝ }
 {
-    let answer = step::step(allocs, parents, protectors, words, codes, frames, request);
-    transcript::put_answer(answers, w, answer, words)
+    let width = p.width;
+    let outcome = step::turn(
+        allocs,
+        parents,
+        protectors,
+        words,
+        codes,
+        frames,
+        width,
+        request,
+    );
+    let answer = outcome.answer;
+    let width = outcome.width;
+    let w = p.written;
+    let written = transcript::put_answer(answers, w, answer, words);
+    Advance { written, width }
 }
 
 // The whole list, on buffers that hold the empty state.
@@ -41,19 +64,22 @@ fn run_cleared(
     requests: &[u32],
     ends: &[u32],
     answers: &mut [u32],
-) -> Written
+) -> Advance
     requires { ⌜ HoldsState empty (buffers (now allocs) (now parents) (now protectors) (now words) (now codes)) (now frames) ⌝ }
-    ensures { λ r. ⌜ _≡_ {A = written.Written × Lent}
+    ensures { λ r. ⌜ _≡_ {A = advance.Advance × Lent}
         (r, lent (buffers (now (allocs .exit)) (now (parents .exit)) (now (protectors .exit)) (now (words .exit)) (now (codes .exit))) (now (frames .exit)) (now (answers .exit)))
         (ran (requestsIn (now (requests .entry)) (now (ends .entry))) (now (answers .entry))) ⌝ }
 {
-    let mut w = transcript::nothing_written();
+    let mut p = Advance {
+        written: transcript::nothing_written(),
+        width: Width::Bits64,
+    };
     let mut from = 0;
     let mut i = 0;
     while i < ends.len() {
         let end = ends[i] as usize;
         let request = part(requests, from, end);
-        w = turn(
+        p = turn(
             allocs,
             parents,
             protectors,
@@ -62,12 +88,12 @@ fn run_cleared(
             frames,
             request,
             answers,
-            w,
+            p,
         );
         from = end;
         i += 1;
     }
-    w
+    p
 }
 
 // The requests' words, and where each ends. Memory and frames are emptied first; each answer is written to the lent buffer.
@@ -90,7 +116,7 @@ pub fn run_list(
         return ListRun::Refused(1);
     }
     state::clear(allocs, parents, protectors, words, codes, frames);
-    let w = run_cleared(
+    let p = run_cleared(
         allocs,
         parents,
         protectors,
@@ -101,8 +127,11 @@ pub fn run_list(
         ends,
         answers,
     );
+    let w = p.written;
+    let width = p.width;
     ListRun::Answered {
         at: w.at,
         whole: w.whole,
+        width,
     }
 }

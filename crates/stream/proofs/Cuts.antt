@@ -12,9 +12,9 @@ use lib.Seq.{take-all, take-nil, take-append-le}
 use Rattle.definition.specs.Notation.{if_then_else_}
 use Rattle.definition.specs.Refusal.{malformed}
 use Rattle.definition.specs.Memory.{Answer, refusedWith}
-use Rattle.definition.specs.Frame.{State, empty}
-use Rattle.definition.specs.Request.{request, followingLength, isMiscounted, isMalformed}
-use Rattle.definition.specs.Run.{wordsOf, restRequest, takenLength, cutRequests, requestsOf, performedCount, answers, final, run, perform, step, program}
+use Rattle.definition.specs.Frame.{State}
+use Rattle.definition.specs.Request.{request, followingLength, isMiscounted, isMalformed, Request, isTooBig}
+use Rattle.definition.specs.Run.{wordsOf, restRequest, takenLength, cutRequests, requestsOf, performedCount, RunState, start, widthAfter, turn, answers, final, run, perform, step, program}
 use Rattle.stream.specs.Stream.{requestSize, nextRequest, programFrom}
 use Rattle.stream.proofs.Words.{fourfold, fourfold-mul, words-take, words-drop, counted}
 
@@ -181,7 +181,7 @@ first-request bytes h = by (wordsOf bytes) refl
     by (w ∷ ws) e = first-by bytes w ws e (ltb (length (w ∷ ws)) (4 + taken (w ∷ ws))) refl
 
 -- "so does, in the program, a store or retag with more than 4,096 words after its fourth": the next request is then refused with 2, and changes nothing
-module _ (s : State) (bytes : List ℕ) (many : 4096 < follow (wordsOf bytes)) where
+module _ (r : RunState) (bytes : List ℕ) (many : 4096 < follow (wordsOf bytes)) where
   miscounted : isMiscounted (nextRequest bytes) ≡ true
   unfolding isMiscounted
   miscounted =
@@ -191,42 +191,44 @@ module _ (s : State) (bytes : List ℕ) (many : 4096 < follow (wordsOf bytes)) w
       let same : follow (nextRequest bytes) ≡ follow (wordsOf bytes) = ap follow four ∙ follow-four 0 (wordsOf bytes) in
       ap not (ne-eqb (length (nextRequest bytes)) (4 + follow (nextRequest bytes)) (omega arith))
 
-  pub too-many : step s (nextRequest bytes) ≡ (refusedWith malformed, s)
-  unfolding step
+  pub too-many : turn r (nextRequest bytes) ≡ (refusedWith malformed, r)
+  unfolding turn step widthAfter
   too-many =
       let ws : List ℕ = nextRequest bytes in
-      ap (λ (t : Bool). if t || isMalformed (request ws .kind) s (request ws) then (refusedWith malformed, s) else perform (request ws .kind) s (request ws)) miscounted
+      let q : Request = request ws in
+      let at : Answer × State → Answer × RunState = λ o. (o .0, record { state = o .1; width = widthAfter (o .0) q (r .width) }) in
+      ap (λ (t : Bool). at (if t || isMalformed (q .kind) (r .state) q || isTooBig (r .width) q then (refusedWith malformed, r .state) else perform (r .width) (q .kind) (r .state) q)) miscounted
 
 -- ---- the run, request by request
-pub program-from : (bytes : List ℕ) → programFrom empty bytes ≡ program bytes
+pub program-from : (bytes : List ℕ) → programFrom start bytes ≡ program bytes
 unfolding programFrom program
 program-from bytes = refl
 
-pub program-end : (s : State) → programFrom s [] ≡ ([], s)
+pub program-end : (s : RunState) → programFrom s [] ≡ ([], s)
 unfolding programFrom requestsOf wordsOf cutRequests answers performedCount final
 program-end s = refl
 
 -- the requests up to the first that is refused
-abbrev stopped : State → List (List ℕ) → List Answer × State
+abbrev stopped : RunState → List (List ℕ) → List Answer × RunState
 stopped s wss = run s (take (performedCount (answers s wss)) wss)
 
-stopped-more : (s : State) (ws : List ℕ) (wss : List (List ℕ)) → step s ws .0 .refusal ≡ 0
-    → stopped s (ws ∷ wss) ≡ (step s ws .0 ∷ stopped (step s ws .1) wss .0, stopped (step s ws .1) wss .1)
+stopped-more : (s : RunState) (ws : List ℕ) (wss : List (List ℕ)) → turn s ws .0 .refusal ≡ 0
+    → stopped s (ws ∷ wss) ≡ (turn s ws .0 ∷ stopped (turn s ws .1) wss .0, stopped (turn s ws .1) wss .1)
 unfolding answers performedCount final
 stopped-more s ws wss z =
-    ap (λ (r : ℕ). run s (take (suc (if eqb r 0 then performedCount (answers (step s ws .1) wss) else 0)) (ws ∷ wss))) z
+    ap (λ (r : ℕ). run s (take (suc (if eqb r 0 then performedCount (answers (turn s ws .1) wss) else 0)) (ws ∷ wss))) z
 
-stopped-last : (s : State) (ws : List ℕ) (wss : List (List ℕ)) → eqb (step s ws .0 .refusal) 0 ≡ false
-    → stopped s (ws ∷ wss) ≡ (step s ws .0 ∷ [], step s ws .1)
+stopped-last : (s : RunState) (ws : List ℕ) (wss : List (List ℕ)) → eqb (turn s ws .0 .refusal) 0 ≡ false
+    → stopped s (ws ∷ wss) ≡ (turn s ws .0 ∷ [], turn s ws .1)
 unfolding answers performedCount final
 stopped-last s ws wss z =
-    ap (λ (t : Bool). run s (take (suc (if t then performedCount (answers (step s ws .1) wss) else 0)) (ws ∷ wss))) z
+    ap (λ (t : Bool). run s (take (suc (if t then performedCount (answers (turn s ws .1) wss) else 0)) (ws ∷ wss))) z
 
-module _ (s : State) (bytes : List ℕ) (h : 0 < length bytes) where
-  abbrev outcome : Answer × State
-  outcome = step s (nextRequest bytes)
+module _ (s : RunState) (bytes : List ℕ) (h : 0 < length bytes) where
+  abbrev outcome : Answer × RunState
+  outcome = turn s (nextRequest bytes)
 
-  abbrev left : List Answer × State
+  abbrev left : List Answer × RunState
   left = programFrom (outcome .1) (drop (requestSize bytes) bytes)
 
   pub program-more : outcome .0 .refusal ≡ 0 → programFrom s bytes ≡ (outcome .0 ∷ left .0, left .1)

@@ -9,7 +9,7 @@ use lib.ListN.{length, take, drop, take-append-drop}
 use Rattle.definition.specs.Notation.{if_then_else_}
 use Rattle.definition.specs.Request.{Request, request, followingLength, isSafe}
 use Rattle.definition.specs.Request.{Kind}
-use Rattle.definition.specs.Request.Kind.{Allocate, Deallocate, Load, Store, Retag, NewCall, EndCall, Dereferenceable, SignedDereferenceable, LeakCheck, Unused}
+use Rattle.definition.specs.Request.Kind.{Allocate, Deallocate, Load, Store, Retag, NewCall, EndCall, Dereferenceable, SignedDereferenceable, LeakCheck, Empty, Unused}
 use Rattle.definition.specs.Run.{wordsOf, takenLength}
 use Rattle.request.specs.declared.Request as code
 use Rattle.request.specs.Fields.{requestOf}
@@ -33,6 +33,7 @@ by-kind EndCall q e z = rw e
 by-kind Dereferenceable q e z = rw e
 by-kind SignedDereferenceable q e z = rw e
 by-kind LeakCheck q e z = rw e
+by-kind Empty q e z = rw e
 by-kind Unused q e z = rw e
 
 no-fourth : (ws : List ℕ) → length ws < 4 → request ws .fourth ≡ 0

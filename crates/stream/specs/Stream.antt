@@ -4,12 +4,11 @@ use mathlib.Core.Path.{_≡_}
 use mathlib.Core.List.{List, _++_}
 use lib.ListN.{length, take, drop}
 use Rattle.definition.specs.Memory.{Answer}
-use Rattle.definition.specs.Frame.{State}
 use Rattle.definition.specs.Request.{request, followingLength}
 use Rattle.request.specs.declared.Request as code
 use Rattle.request.specs.Fields.{requestOf}
 use Rattle.stream.specs.declared.Cut.{Cut}
-use Rattle.definition.specs.Run.{wordsOf, takenLength, requestsOf, performedCount, answers, run}
+use Rattle.definition.specs.Run.{wordsOf, takenLength, requestsOf, performedCount, RunState, answers, run}
 
 -- "words are .. stored most significant byte first"
 abbrev pub wordFrom : ℕ → ℕ → ℕ → ℕ → ℕ
@@ -41,6 +40,6 @@ nextRequest bytes = wordsOf (take (requestSize bytes) bytes)
 abbrev pub moved : ℕ → ℕ → List ℕ → List ℕ
 moved from n bytes = take n (drop from bytes) ++ drop n bytes
 
--- the definition's `program`, from any state: the bytes that are left when the run has come to s
-unfoldable pub programFrom : State → List ℕ → List Answer × State
-programFrom s bytes = let wss = requestsOf bytes in run s (take (performedCount (answers s wss)) wss)
+-- the definition's `program`, from any state of a run: the bytes that are left when it has come to r
+unfoldable pub programFrom : RunState → List ℕ → List Answer × RunState
+programFrom r bytes = let wss = requestsOf bytes in run r (take (performedCount (answers r wss)) wss)

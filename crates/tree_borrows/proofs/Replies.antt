@@ -1,20 +1,19 @@
 -- From what the called entry comes to, with its fields that fall under 2, to the promise in numbers.
 use Prim.Native.Nat.{ℕ}
-use mathlib.Core.Path.{_≡_, ap, _∙_}
+use mathlib.Core.Path.{_≡_, sym, ap, _∙_}
 use mathlib.Core.Bool.{Bool, true, false, _||_}
 use mathlib.Core.List.{List}
 use lib.ListN.{length, set}
 use Rattle.definition.specs.Memory as definition
 use Rattle.definition.specs.Memory.{Memory}
 use Rattle.answer.specs.Answer.{Gives, replied}
-use Rattle.answer.specs.Answer.Gives.{ThePointer}
 use Rattle.answer.specs.declared.Answer.{Answer}
 use Rattle.tables.specs.Encoding.{Buffers}
 use Rattle.frames.specs.declared.Entry.{Entry}
 use Rattle.library.specs.Entry.{served, Served, malformedAnswer}
 use Rattle.library.proofs.Served.{malformed-served}
 use Rattle.library_frames.specs.Retag as retag
-use Rattle.library_frames.specs.Settings.{badFields, retagOf}
+use Rattle.library_frames.specs.Settings.{retagOf}
 use Rattle.library_frames.specs.Outcome.{malformedOutcome}
 use Rattle.library_frames.specs.declared.retags.RetagOutcome.{RetagOutcome}
 use Rattle.library_frames.proofs.Lent as retags
@@ -38,30 +37,34 @@ or-true more e = ap (λ (t : Bool). t || more) e
 pub or-false : {t : Bool} (more : Bool) → t ≡ false → t || more ≡ more
 or-false more e = ap (λ (t : Bool). t || more) e
 
+-- and the second is of the address of a pointer that was read
+pub at-address : {t : Bool} (more : ℕ → Bool) {p q : definition.ThinPointer} → t ≡ false → p ≡ q → t || more (q .address) ≡ more (p .address)
+at-address more {p} {q} e f = or-false (more (q .address)) e ∙ ap (λ (x : definition.ThinPointer). more (x .address)) (sym f)
+
 -- the fields: `all` is the test of all of them
-module _ (gives : Gives) (all : Bool) (request : Memory → definition.Answer × Memory) (b : Buffers) where
+module _ (width : ℕ) (gives : Gives) (all : Bool) (request : Memory → definition.Answer × Memory) (b : Buffers) where
   -- one that only C has falls under 2
-  pub bad-pointer : all ≡ true → {a : Answer} {r : Reply} → r ≡ replyOf a → a ≡ malformedAnswer b → Replied r b (replied gives (served all request b))
-  bad-pointer e {a} q f = rw e (in-numbers (q ∙ ap replyOf f) (malformed-served gives request b))
+  pub bad-pointer : all ≡ true → {a : Answer} {r : Reply} → r ≡ replyOf a → a ≡ malformedAnswer width b → Replied r b (replied gives (served width all request b))
+  bad-pointer e {a} q f = rw e (in-numbers (q ∙ ap replyOf f) (malformed-served width gives request b))
 
   -- none does
-  pub good-pointer : (bad : Bool) → all ≡ bad → {a : Answer} {r : Reply} {b′ : Buffers} → r ≡ replyOf a → Served gives bad request b a b′
-      → Replied r b′ (replied gives (served all request b))
+  pub good-pointer : (bad : Bool) → all ≡ bad → {a : Answer} {r : Reply} {b′ : Buffers} → r ≡ replyOf a → Served width gives bad request b a b′
+      → Replied r b′ (replied gives (served width all request b))
   good-pointer bad e q k = rw e (in-numbers q k)
 
 -- ---- a retag
-module _ (settings : Settings) (p : Pointer) (layout : List ℕ) (len count : ℕ) (b : Buffers) {made : RetagMade} (o : RetagOutcome) (is : made ≡ madeOf o)
+module _ (width : ℕ) (settings : Settings) (p : Pointer) (layout : List ℕ) (len count : ℕ) (b : Buffers) {made : RetagMade} (o : RetagOutcome) (is : made ≡ madeOf o)
     (places : List Entry) (whole : length places ≡ len) where
   abbrev Promised : RetagMade → Buffers → Type 0
-  Promised made b′ = RetagReplied settings p layout (retag.lent places count b) (made .answer) (set places (made .at) (made .entry)) b′
+  Promised made b′ = RetagReplied width settings p layout (retag.lent places count b) (made .answer) (set places (made .at) (made .entry)) b′
 
-  pub bad-retag : badPointer p || badFlags settings ≡ true → o ≡ malformedOutcome len count b → Promised made b
+  pub bad-retag : badPointer p || badFlags settings ≡ true → o ≡ malformedOutcome width len count b → Promised made b
   bad-retag e f =
       rw (is, f, e)
-      (ap (λ (x : Answer × retag.Lent). (replyOf (x .0), x .1)) (retags.malformed-served len count b (retagOf (settingsOf settings) (pointerOf p) layout) places whole))
+      (ap (λ (x : Answer × retag.Lent). (replyOf (x .0), x .1)) (retags.malformed-served width len count b (retagOf (settingsOf settings) (pointerOf p) layout) places whole))
 
   pub good-retag : badPointer p || badFlags settings ≡ false → {b′ : Buffers}
-      → retag.Served (settingsOf settings) (pointerOf p) layout (retag.lent places count b) (o .answer) (set places (o .at) (o .entry)) b′ → Promised made b′
+      → retag.Served width (settingsOf settings) (pointerOf p) layout (retag.lent places count b) (o .answer) (set places (o .at) (o .entry)) b′ → Promised made b′
   good-retag e k = rw (is, e) (ap (λ (x : Answer × retag.Lent). (replyOf (x .0), x .1)) k)
 
 -- ---- a list

@@ -9,9 +9,11 @@ use lib.ListN.{length, take, drop}
 use Rattle.definition.specs.Notation.{if_then_else_}
 use Rattle.definition.specs.Refusal.{memoryLeak}
 use Rattle.definition.specs.Exchange.{OrderIsFree}
-use Rattle.definition.specs.Frame.{empty}
+use Rattle.definition.specs.Run.{start}
 use Rattle.definition.specs.Memory as definition
 use Rattle.definition.specs.Request.{nonzero}
+use Rattle.definition.specs.Width.{bits}
+use Rattle.pointer.specs.Width.{widthOf}
 use Rattle.pointer.specs.declared.Provenance.{Provenance}
 use Rattle.pointer.specs.declared.Provenance.the-variants.{None, Of}
 use Rattle.answer.specs.Answer.{replied}
@@ -108,18 +110,18 @@ abbrev pub madeOf : RetagOutcome → RetagMade
 madeOf o = record { answer = retagReplyOf (o .answer); at = o .at; entry = o .entry }
 
 -- its promise: it replies r, with the number of entries, and leaves these places and buffers
-abbrev pub RetagReplied : Settings → Pointer → List ℕ → retag.Lent → RetagReply → List Entry → Buffers → Type 0
-RetagReplied settings p layout l r places b =
+abbrev pub RetagReplied : ℕ → Settings → Pointer → List ℕ → retag.Lent → RetagReply → List Entry → Buffers → Type 0
+RetagReplied width settings p layout l r places b =
     Replied (r .reply) (retag.lent places (r .count) b)
     (replied ThePointer
-    (retag.served ((badPointer p || badFlags settings) || badFields (settingsOf settings) layout) (retagOf (settingsOf settings) (pointerOf p) layout) l))
+    (retag.served width ((badPointer p || badFlags settings) || badFields width (settingsOf settings) (pointerOf p .address) layout) (retagOf (settingsOf settings) (pointerOf p) layout) l))
 
 -- ---- a list's
 abbrev pub listReplyOf : ListRun → ListReply
-listReplyOf (ran.Refused n) = record { refusal = n; whole = 0; at = 0 }
-listReplyOf (ran.Answered at whole) = record { refusal = 0; whole = flagOf whole; at = at }
+listReplyOf (ran.Refused n) = record { refusal = n; whole = 0; at = 0; width = 0 }
+listReplyOf (ran.Answered at whole width) = record { refusal = 0; whole = flagOf whole; at = at; width = bits (widthOf width) }
 
 -- its promise: it replies r and leaves `left` of the buffers, as the list does; with demand 3
 pub record ListReplied (l : List (List ℕ)) (given : Lent) (r : ListReply) (left : Lent) : Type 0 where
   pub outcome : _≡_ {A = ListReply × Lent} (r, left) (listReplyOf (listRun l given .0), listRun l given .1)
-  pub order : OrderIsFree empty l
+  pub order : OrderIsFree start l

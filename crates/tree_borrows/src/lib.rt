@@ -43,18 +43,19 @@ fn retag_reply(
     protectors: &mut [u8],
     words: &[u32],
     codes: &mut [u8],
+    width: u64,
     layout: &[u32],
     p: Pointer,
     settings: Settings,
 ) -> RetagMade
     ensures { λ r. ⌜ ((places : List Entry) → length places ≡ len
-        → RetagReplied settings p (now (layout .entry))
+        → RetagReplied width settings p (now (layout .entry))
         (retag.lent places count (buffers (now (allocs .entry)) (now (parents .entry)) (now (protectors .entry)) (now (words .entry)) (now (codes .entry))))
         (r .answer) (set places (r .at) (r .entry))
         (buffers (now (allocs .exit)) (now (parents .exit)) (now (protectors .exit)) (now (words .entry)) (now (codes .exit)))) ⌝ }
 {
     if bad_pointer(p) | bad_flags(settings) {
-        let outcome = malformed(len, count, allocs, parents, protectors, words, codes);
+        let outcome = malformed(len, count, allocs, parents, protectors, words, codes, width);
         return retag_made(outcome);
     }
     let pointer = thin_pointer(p);
@@ -67,6 +68,7 @@ fn retag_reply(
         protectors,
         words,
         codes,
+        width,
         layout,
         pointer,
         read,
@@ -83,11 +85,12 @@ pub extern "C" fn tree_borrows_retag(
     protectors: &mut [u8],
     words: &[u32],
     codes: &mut [u8],
+    width: u64,
     layout: &[u32],
     p: Pointer,
     settings: Settings,
 ) -> RetagReply
-    ensures { λ r. ⌜ RetagReplied settings p (now (layout .entry))
+    ensures { λ r. ⌜ RetagReplied width settings p (now (layout .entry))
         (retag.lent (now (entries .entry)) count (buffers (now (allocs .entry)) (now (parents .entry)) (now (protectors .entry)) (now (words .entry)) (now (codes .entry))))
         r (now (entries .exit))
         (buffers (now (allocs .exit)) (now (parents .exit)) (now (protectors .exit)) (now (words .entry)) (now (codes .exit))) ⌝ }
@@ -101,6 +104,7 @@ pub extern "C" fn tree_borrows_retag(
         protectors,
         words,
         codes,
+        width,
         layout,
         p,
         settings,
@@ -119,11 +123,12 @@ fn end_call_reply(
     protectors: &mut [u8],
     words: &[u32],
     codes: &mut [u8],
+    width: u64,
     area: &mut [u8],
 ) -> Reply
     ensures { λ r. ⌜ Replied r
         (buffers (now (allocs .entry)) (now (parents .entry)) (now (protectors .exit)) (now (words .entry)) (now (codes .exit)), now (area .exit))
-        (ended len count (firstOf count list)
+        (ended width len count (firstOf count list)
         (buffers (now (allocs .entry)) (now (parents .entry)) (now (protectors .entry)) (now (words .entry)) (now (codes .entry))) (now (area .entry))) ⌝ }
 {
     let answer = end_call_list(
@@ -135,6 +140,7 @@ fn end_call_reply(
         protectors,
         words,
         codes,
+        width,
         area,
     );
     reply_of(answer)
@@ -149,11 +155,12 @@ pub extern "C" fn tree_borrows_end_call(
     protectors: &mut [u8],
     words: &[u32],
     codes: &mut [u8],
+    width: u64,
     area: &mut [u8],
 ) -> Reply
     ensures { λ r. ⌜ Replied r
         (buffers (now (allocs .entry)) (now (parents .entry)) (now (protectors .exit)) (now (words .entry)) (now (codes .exit)), now (area .exit))
-        (ended (length (now (entries .entry))) count (firstOf count (now (entries .entry)))
+        (ended width (length (now (entries .entry))) count (firstOf count (now (entries .entry)))
         (buffers (now (allocs .entry)) (now (parents .entry)) (now (protectors .entry)) (now (words .entry)) (now (codes .entry))) (now (area .entry))) ⌝ }
 {
     let len = entries.len();
@@ -167,6 +174,7 @@ pub extern "C" fn tree_borrows_end_call(
         protectors,
         words,
         codes,
+        width,
         area,
     )
 }

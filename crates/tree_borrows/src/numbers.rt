@@ -50,13 +50,14 @@ pub struct RetagReply {
     pub count: usize,
 }
 
-// What a list of requests comes to: a refusal of the whole (1), or how far its answers reach in the lent buffer, and whether all of them are
-// there (1) or not (0).
+// What a list of requests comes to: a refusal of the whole (1), or how far its answers reach in the lent buffer, whether all of them are there (1)
+// or not (0), and the width that it leaves, as a number of bits (0 where it is refused).
 #[repr(C)]
 pub struct ListReply {
     pub refusal: u8,
     pub whole: u8,
     pub at: usize,
+    pub width: u64,
 }
 
 // With the entry that is put into the frame's list. For none the place is behind the list.
@@ -206,11 +207,13 @@ pub(crate) fn list_reply(answer: ListRun) -> ListReply
             refusal: reason,
             whole: 0,
             at: 0,
+            width: 0,
         },
-        ListRun::Answered { at, whole } => ListReply {
+        ListRun::Answered { at, whole, width } => ListReply {
             refusal: 0,
             whole: flag(whole),
             at,
+            width: width.bits(),
         },
     }
 }

@@ -1,4 +1,4 @@
-// Kinds 0 to 3 and 7 to 9, on five lent buffers.
+// Kinds 0 to 3 and 7 to 9, on five lent buffers, at a width that is a number of bits.
 use crate::numbers::Pointer;
 use crate::numbers::Reply;
 use crate::numbers::bad_pointer;
@@ -11,12 +11,13 @@ ghost use mathlib.Core.Bool.{false, _||_};
 ghost use lib.ListN.{length};
 ghost use Rattle.definition.specs.Memory as definition;
 ghost use Rattle.pointer.specs.Pointer.{back, ahead};
+ghost use Rattle.pointer.specs.Width.{widthAt};
 ghost use Rattle.answer.specs.Answer.{replied};
 ghost use Rattle.answer.specs.Answer.Gives.{Nothing, ThePointer};
 ghost use Rattle.tables.specs.Decoding.{allocationKind};
 ghost use Rattle.tables.specs.Held.{buffers};
 ghost use Rattle.memory.specs.Access.{loadOf, storeOf};
-ghost use Rattle.library.specs.Fields.{badExponent, badAllocation, badStore};
+ghost use Rattle.library.specs.Fields.{badAddress, badAllocation, badLoad, badStore};
 ghost use Rattle.library.specs.Entry.{served, givenBy};
 ghost use Rattle.tree_borrows.specs.Numbers.{pointerOf, badPointer, loadedWords, copiedTo, Replied};
 
@@ -28,6 +29,7 @@ pub extern "C" fn tree_borrows_allocate(
     protectors: &[u8],
     words: &[u32],
     codes: &mut [u8],
+    width: u64,
     kind: u64,
     len: u64,
     exponent: u64,
@@ -35,7 +37,7 @@ pub extern "C" fn tree_borrows_allocate(
 ) -> Reply
     ensures { λ r. ⌜ Replied r
         (buffers (now (allocs .exit)) (now (parents .entry)) (now (protectors .entry)) (now (words .entry)) (now (codes .exit)))
-        (replied ThePointer (served (badAllocation kind exponent) (definition.allocate (allocationKind kind) len exponent address)
+        (replied ThePointer (served width (badAllocation width kind exponent address) (definition.allocate (widthAt width) (allocationKind kind) len exponent address)
         (buffers (now (allocs .entry)) (now (parents .entry)) (now (protectors .entry)) (now (words .entry)) (now (codes .entry))))) ⌝ }
 {
     let answer = library::allocate::allocate(
@@ -44,6 +46,7 @@ pub extern "C" fn tree_borrows_allocate(
         protectors,
         words,
         codes,
+        width,
         kind,
         len,
         exponent,
@@ -60,6 +63,7 @@ pub extern "C" fn tree_borrows_deallocate(
     protectors: &[u8],
     words: &[u32],
     codes: &mut [u8],
+    width: u64,
     p: Pointer,
     kind: u64,
     len: u64,
@@ -67,11 +71,11 @@ pub extern "C" fn tree_borrows_deallocate(
 ) -> Reply
     ensures { λ r. ⌜ Replied r
         (buffers (now (allocs .exit)) (now (parents .entry)) (now (protectors .entry)) (now (words .entry)) (now (codes .exit)))
-        (replied Nothing (served (badPointer p || badAllocation kind exponent) (definition.deallocate (pointerOf p) (allocationKind kind) len exponent)
+        (replied Nothing (served width (badPointer p || badAllocation width kind exponent (pointerOf p .address)) (definition.deallocate (pointerOf p) (allocationKind kind) len exponent)
         (buffers (now (allocs .entry)) (now (parents .entry)) (now (protectors .entry)) (now (words .entry)) (now (codes .entry))))) ⌝ }
 {
     if bad_pointer(p) {
-        let answer = malformed(allocs, parents, protectors, words, codes);
+        let answer = malformed(allocs, parents, protectors, words, codes, width);
         return reply_of(answer);
     }
     let pointer = thin_pointer(p);
@@ -81,6 +85,7 @@ pub extern "C" fn tree_borrows_deallocate(
         protectors,
         words,
         codes,
+        width,
         pointer,
         kind,
         len,
@@ -97,6 +102,7 @@ pub extern "C" fn tree_borrows_load(
     protectors: &[u8],
     words: &[u32],
     codes: &mut [u8],
+    width: u64,
     p: Pointer,
     len: u64,
     exponent: u64,
@@ -105,11 +111,11 @@ pub extern "C" fn tree_borrows_load(
         (buffers (now (allocs .entry)) (now (parents .entry)) (now (protectors .entry)) (now (words .entry)) (now (codes .exit)))
         (replied (givenBy (loadOf (pointerOf p) len exponent)
         (buffers (now (allocs .entry)) (now (parents .entry)) (now (protectors .entry)) (now (words .entry)) (now (codes .entry))))
-        (served (badPointer p || badExponent exponent) (definition.performAccess (loadOf (pointerOf p) len exponent))
+        (served width (badPointer p || badLoad width exponent (pointerOf p .address)) (definition.performAccess (loadOf (pointerOf p) len exponent))
         (buffers (now (allocs .entry)) (now (parents .entry)) (now (protectors .entry)) (now (words .entry)) (now (codes .entry))))) ⌝ }
 {
     if bad_pointer(p) {
-        let answer = malformed(allocs, parents, protectors, words, codes);
+        let answer = malformed(allocs, parents, protectors, words, codes, width);
         return reply_of(answer);
     }
     let pointer = thin_pointer(p);
@@ -119,6 +125,7 @@ pub extern "C" fn tree_borrows_load(
         protectors,
         words,
         codes,
+        width,
         pointer,
         len,
         exponent,
@@ -149,17 +156,18 @@ pub extern "C" fn tree_borrows_store(
     protectors: &[u8],
     words: &mut [u32],
     codes: &mut [u8],
+    width: u64,
     p: Pointer,
     bytes: &[u32],
     exponent: u64,
 ) -> Reply
     ensures { λ r. ⌜ Replied r
         (buffers (now (allocs .entry)) (now (parents .entry)) (now (protectors .entry)) (now (words .exit)) (now (codes .exit)))
-        (replied Nothing (served (badPointer p || badStore (now (bytes .entry)) exponent) (definition.performAccess (storeOf (pointerOf p) (now (bytes .entry)) exponent))
+        (replied Nothing (served width (badPointer p || badStore width (now (bytes .entry)) exponent (pointerOf p .address)) (definition.performAccess (storeOf (pointerOf p) (now (bytes .entry)) exponent))
         (buffers (now (allocs .entry)) (now (parents .entry)) (now (protectors .entry)) (now (words .entry)) (now (codes .entry))))) ⌝ }
 {
     if bad_pointer(p) {
-        let answer = malformed(allocs, parents, protectors, words, codes);
+        let answer = malformed(allocs, parents, protectors, words, codes, width);
         return reply_of(answer);
     }
     let pointer = thin_pointer(p);
@@ -169,6 +177,7 @@ pub extern "C" fn tree_borrows_store(
         protectors,
         words,
         codes,
+        width,
         pointer,
         bytes,
         exponent,
@@ -184,16 +193,17 @@ pub extern "C" fn tree_borrows_dereferenceable(
     protectors: &[u8],
     words: &[u32],
     codes: &[u8],
+    width: u64,
     p: Pointer,
     len: u64,
 ) -> Reply
     ensures { λ r. ⌜ Replied r
         (buffers (now (allocs .entry)) (now (parents .entry)) (now (protectors .entry)) (now (words .entry)) (now (codes .entry)))
-        (replied Nothing (served (badPointer p) (definition.dereferenceable (pointerOf p) 0 len)
+        (replied Nothing (served width (badPointer p || badAddress width (pointerOf p .address)) (definition.dereferenceable (pointerOf p) 0 len)
         (buffers (now (allocs .entry)) (now (parents .entry)) (now (protectors .entry)) (now (words .entry)) (now (codes .entry))))) ⌝ }
 {
     if bad_pointer(p) {
-        let answer = malformed(allocs, parents, protectors, words, codes);
+        let answer = malformed(allocs, parents, protectors, words, codes, width);
         return reply_of(answer);
     }
     let pointer = thin_pointer(p);
@@ -203,6 +213,7 @@ pub extern "C" fn tree_borrows_dereferenceable(
         protectors,
         words,
         codes,
+        width,
         pointer,
         len,
     );
@@ -217,16 +228,17 @@ pub extern "C" fn tree_borrows_signed_dereferenceable(
     protectors: &[u8],
     words: &[u32],
     codes: &[u8],
+    width: u64,
     p: Pointer,
     len: i64,
 ) -> Reply
     ensures { λ r. ⌜ Replied r
         (buffers (now (allocs .entry)) (now (parents .entry)) (now (protectors .entry)) (now (words .entry)) (now (codes .entry)))
-        (replied Nothing (served (badPointer p) (definition.dereferenceable (pointerOf p) (back len) (ahead len))
+        (replied Nothing (served width (badPointer p || badAddress width (pointerOf p .address)) (definition.dereferenceable (pointerOf p) (back len) (ahead len))
         (buffers (now (allocs .entry)) (now (parents .entry)) (now (protectors .entry)) (now (words .entry)) (now (codes .entry))))) ⌝ }
 {
     if bad_pointer(p) {
-        let answer = malformed(allocs, parents, protectors, words, codes);
+        let answer = malformed(allocs, parents, protectors, words, codes, width);
         return reply_of(answer);
     }
     let pointer = thin_pointer(p);
@@ -236,6 +248,7 @@ pub extern "C" fn tree_borrows_signed_dereferenceable(
         protectors,
         words,
         codes,
+        width,
         pointer,
         len,
     );
@@ -250,12 +263,13 @@ pub extern "C" fn tree_borrows_leak_check(
     protectors: &[u8],
     words: &[u32],
     codes: &[u8],
+    width: u64,
 ) -> Reply
     ensures { λ r. ⌜ Replied r
         (buffers (now (allocs .entry)) (now (parents .entry)) (now (protectors .entry)) (now (words .entry)) (now (codes .entry)))
-        (replied Nothing (served false definition.leakCheck
+        (replied Nothing (served width false definition.leakCheck
         (buffers (now (allocs .entry)) (now (parents .entry)) (now (protectors .entry)) (now (words .entry)) (now (codes .entry))))) ⌝ }
 {
-    let answer = library::leak_check::leak_check(allocs, parents, protectors, words, codes);
+    let answer = library::leak_check::leak_check(allocs, parents, protectors, words, codes, width);
     reply_of(answer)
 }

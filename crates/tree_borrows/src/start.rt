@@ -7,7 +7,7 @@ ghost use Rattle.tables.specs.Held.{buffers};
 ghost use Rattle.library.specs.Start.{renewed, opened};
 ghost use Rattle.tree_borrows.specs.Numbers.{Replied};
 
-// The empty memory, on buffers of any contents.
+// The empty memory, on buffers of any contents. It is one at every width.
 #[no_mangle]
 pub extern "C" fn tree_borrows_new(
     allocs: &mut [u64],
@@ -15,12 +15,13 @@ pub extern "C" fn tree_borrows_new(
     protectors: &mut [u8],
     words: &mut [u32],
     codes: &mut [u8],
+    width: u64,
 ) -> Reply
     ensures { λ r. ⌜ Replied r
         (buffers (now (allocs .exit)) (now (parents .exit)) (now (protectors .exit)) (now (words .exit)) (now (codes .exit)))
-        (renewed (buffers (now (allocs .entry)) (now (parents .entry)) (now (protectors .entry)) (now (words .entry)) (now (codes .entry)))) ⌝ }
+        (renewed width (buffers (now (allocs .entry)) (now (parents .entry)) (now (protectors .entry)) (now (words .entry)) (now (codes .entry)))) ⌝ }
 {
-    let answer = library::start::new(allocs, parents, protectors, words, codes);
+    let answer = library::start::new(allocs, parents, protectors, words, codes, width);
     reply_of(answer)
 }
 

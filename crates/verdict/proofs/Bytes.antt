@@ -57,7 +57,7 @@ read-failed p input r input′ e = subst (λ (q : Progress). ReadOn (q .failed) 
 -- the bytes at hand are moved to the front, and n bytes stand behind them
 pub has-read : (p : Progress) (input : List ℕ) → Ready p input → (kept n : ℕ) (front input′ : List ℕ) → kept ≡ p .end - p .advance .from → front ≡ moved (p .advance .from) (p .end - p .advance .from) input
     → take kept input′ ≡ take kept front → kept + n ≤ length input′
-    → HasRead p input (record { advance = record { from = 0; at = 0; index = p .advance .index; refused = p .advance .refused }; end = kept + n; ended = eqb n 0; failed = false }) input′
+    → HasRead p input (record { advance = record { from = 0; at = 0; index = p .advance .index; refused = p .advance .refused; width = p .advance .width }; end = kept + n; ended = eqb n 0; failed = false }) input′
 has-read p input ready kept n front input′ e f g fits =
     let new : List ℕ = take n (drop kept input′) in
     let all : kept + n - 0 ≡ kept + n = omega arith in

@@ -10,12 +10,15 @@ use lib.ListN.{length, take, drop, length-append, take-append-drop}
 use lib.Seq.{drop-drop, drop-append-seam, length-take-le}
 use Rattle.definition.specs.Notation.{if_then_else_}
 use Rattle.definition.specs.Memory.{Memory}
-use Rattle.definition.specs.Frame.{State, empty}
+use Rattle.definition.specs.Frame.{empty}
+use Rattle.definition.specs.Run.{RunState}
+use Rattle.pointer.specs.declared.width.Width.{Width}
+use Rattle.pointer.specs.Width.{widthOf}
 use Rattle.definition.specs.Output.{memoryLines}
 use Rattle.definition.proofs.Booleans.{and-left, and-right, or-neither, not-not-false}
 use Rattle.tables.specs.Encoding.{Buffers}
 use Rattle.tables.specs.Held.{Holds, WellFormed}
-use Rattle.state.specs.State.{HoldsState}
+use Rattle.state.specs.State.{HoldsState, HoldsRun}
 use Rattle.report.specs.Written.{Written}
 use Rattle.stream.specs.Stream.{requestSize, nextRequest}
 use Rattle.judge.specs.declared.Advance.{Advance}
@@ -23,6 +26,7 @@ use Rattle.judge.specs.Turn.{requestEnd, Taken}
 use Rattle.judge.specs.Whole.{Performing}
 use Rattle.state.proofs.Held.{memory-held}
 use Rattle.judge.proofs.Runs.{LineAdded, advanced, performing-start, performing-next, performing-end, text-behind, text-whole, memory-inside}
+use Rattle.pointer.specs.declared.width.Width.the-variants.{Bits64}
 use Rattle.verdict.specs.declared.Progress.{Progress}
 use Rattle.verdict.specs.Progress.{lacks, goesOn, atHand, textAtHand, mostText, Ready, HasRead, ReadOn, isLong, flushedAs, withTextTo}
 use Rattle.verdict.specs.Came.{MayFollow, advanceIn, Came, startAt, Reached, ByTurn, Made, TurnMade, AllMade, TurnsMade, IsPrinted, Printed}
@@ -48,7 +52,7 @@ going p g =
 
 -- ---- before the first turn
 came-start : (p : Progress) (input out : List ℕ) {b : Buffers} {F : List ℕ} → HoldsState empty b F
-    → p .advance ≡ record { from = 0; at = 0; index = 0; refused = false } → p .end ≡ 0 → Came [] [] p input out b F
+    → p .advance ≡ record { from = 0; at = 0; index = 0; refused = false; width = Bits64 } → p .end ≡ 0 → Came [] [] p input out b F
 came-start p input out h e f =
     let from : p .advance .from ≡ 0 = ap (λ (q : Advance). q .from) e in
     let at : p .advance .at ≡ 0 = ap (λ (q : Advance). q .at) e in
@@ -59,7 +63,7 @@ came-start p input out h e f =
       parts = ap (λ (n : ℕ). take n (drop (p .advance .from) input)) (sym none);
       performing = λ rest _.
           performing-same refl refl (ap (λ (n : ℕ). take n out) (sym at))
-          (performing-start rest (advanceIn [] p) h refl (ap (λ (q : Advance). q .index) e) (ap (λ (q : Advance). q .refused) e));
+          (performing-start rest (advanceIn [] p) (record { state = h; width = ap (λ (q : Advance). widthOf (q .width)) e }) refl (ap (λ (q : Advance). q .index) e) (ap (λ (q : Advance). q .refused) e));
     }
 
 -- ---- a turn that reads
@@ -78,7 +82,7 @@ came-read {bytes} {written} {p} {input} {out} k {r} {input′} more h =
       performing = λ rest _.
           performing-same
           (sym (append-assoc bytes (h .new) rest))
-          (ap (λ (q : Advance). record { from = length (k .done); at = 0; index = q .index; refused = q .refused }) (sym (h .advance)))
+          (ap (λ (q : Advance). record { from = length (k .done); at = 0; index = q .index; refused = q .refused; width = q .width }) (sym (h .advance)))
           (sym (append-nil (written ++ textAtHand p out)) ∙ ap (λ (n : ℕ). (written ++ textAtHand p out) ++ take n out) (sym at))
           (k .performing (h .new ++ rest) (λ e. absurd (false≢true (sym more ∙ e))));
     }
@@ -101,8 +105,8 @@ made-read {p = p} {input = input} {out = out} k e false r input′ h =
 
 -- ---- a turn that performs a request
 -- lines in front make no difference
-added-behind : (front : List ℕ) {s : State} {ws : List ℕ} {index : ℕ} {lines : List ℕ} {refused : Bool} {lines′ : List ℕ} {b : Buffers} {F : List ℕ}
-    → LineAdded s ws index lines refused lines′ b F → LineAdded s ws index (front ++ lines) refused (front ++ lines′) b F
+added-behind : (front : List ℕ) {s : RunState} {ws : List ℕ} {index : ℕ} {lines : List ℕ} {refused : Bool} {width : Width} {lines′ : List ℕ} {b : Buffers} {F : List ℕ}
+    → LineAdded s ws index lines refused width lines′ b F → LineAdded s ws index (front ++ lines) refused width (front ++ lines′) b F
 added-behind front {lines = lines} k =
     record {
       holds = k .holds;
@@ -112,18 +116,18 @@ added-behind front {lines = lines} k =
 
 pub flushed-short : (p : Progress) (next : Advance) → next .at ≤ mostText → record { advance = next; end = p .end; ended = p .ended; failed = false } ≡ flushedAs p next false
 flushed-short p next h =
-    ap (λ (t : Bool). record { advance = if t then record { from = next .from; at = 0; index = next .index; refused = next .refused } else next; end = p .end; ended = p .ended; failed = false })
+    ap (λ (t : Bool). record { advance = if t then record { from = next .from; at = 0; index = next .index; refused = next .refused; width = next .width } else next; end = p .end; ended = p .ended; failed = false })
     (sym (le-ltb mostText (next .at) h))
 
 pub flushed-long : (p : Progress) (next : Advance) (failed : Bool) → mostText < next .at
-    → record { advance = record { from = next .from; at = 0; index = next .index; refused = next .refused }; end = p .end; ended = p .ended; failed = failed } ≡ flushedAs p next failed
+    → record { advance = record { from = next .from; at = 0; index = next .index; refused = next .refused; width = next .width }; end = p .end; ended = p .ended; failed = failed } ≡ flushedAs p next failed
 flushed-long p next failed h =
-    ap (λ (t : Bool). record { advance = if t then record { from = next .from; at = 0; index = next .index; refused = next .refused } else next; end = p .end; ended = p .ended; failed = failed })
+    ap (λ (t : Bool). record { advance = if t then record { from = next .from; at = 0; index = next .index; refused = next .refused; width = next .width } else next; end = p .end; ended = p .ended; failed = failed })
     (sym (lt-ltb mostText (next .at) h))
 
 module _ {bytes written : List ℕ} {p : Progress} {input out : List ℕ} {b : Buffers} {F : List ℕ} (k : Came bytes written p input out b F)
     (next : Advance) (out′ : List ℕ) {b′ : Buffers} {F′ : List ℕ}
-    (taken : (s : State) → HoldsState s b F → Taken s (take (p .end) input) (p .advance) out next out′ b′ F′)
+    (taken : (s : RunState) → HoldsRun s b F (widthOf (p .advance .width)) → Taken s (take (p .end) input) (p .advance) out next out′ b′ F′)
     (goes : goesOn p ≡ true) (enough : lacks (atHand p input) (p .ended) ≡ false) where
   abbrev hand : List ℕ
   hand = atHand p input
@@ -174,7 +178,7 @@ module _ {bytes written : List ℕ} {p : Progress} {input out : List ℕ} {b : B
       ∙ drop-append-seam (k .done) (hand ++ rest)
 
   abbrev advanceNow : Advance
-  advanceNow = record { from = length doneNow; at = 0; index = next .index; refused = next .refused }
+  advanceNow = record { from = length doneNow; at = 0; index = next .index; refused = next .refused; width = next .width }
 
   performing-now : (rest : List ℕ) → MayFollow p rest → Performing (bytes ++ rest) advanceNow (written ++ take (next .at) out′) b′ F′
   performing-now rest f =
@@ -192,7 +196,7 @@ module _ {bytes written : List ℕ} {p : Progress} {input out : List ℕ} {b : B
       (record {
         added =
             added-behind written
-            (subst (λ (ws : List ℕ). LineAdded (h .state) ws (p .advance .index) (textAtHand p out) (next .refused) (take (next .at) out′) b′ F′) words (a .added));
+            (subst (λ (ws : List ℕ). LineAdded (h .state) ws (p .advance .index) (textAtHand p out) (next .refused) (next .width) (take (next .at) out′) b′ F′) words (a .added));
         from = sym end;
         index = a .index;
       })
@@ -210,7 +214,7 @@ module _ {bytes written : List ℕ} {p : Progress} {input out : List ℕ} {b : B
       (record { index = i ∙ turn-index; told = e; none = refl; long = long })
 
   made-by : (t : Bool) → isLong next ≡ t
-      → let r : Progress = record { advance = if t then record { from = next .from; at = 0; index = next .index; refused = next .refused } else next; end = p .end; ended = p .ended; failed = false } in Made bytes written p input out r input out′ b′ F′
+      → let r : Progress = record { advance = if t then record { from = next .from; at = 0; index = next .index; refused = next .refused; width = next .width } else next; end = p .end; ended = p .ended; failed = false } in Made bytes written p input out r input out′ b′ F′
   made-by true e =
       record {
         new = [];
@@ -366,14 +370,14 @@ printed {p} {input} {out} {b} {F} a fine room end {out′} w =
       output = λ few rest f.
           let h = a .came .performing rest f in
           let k = performing-end h (stops (a .came) fine (over few) rest f) in
-          let m = memory-held (h .holds) in
-          ap (λ (l : List ℕ). a .written ++ l) (text-behind (memoryLines 0 (h .state .memory)) (w (h .state .memory) m) inside)
-          ∙ sym (append-assoc (a .written) (textAtHand p out) (memoryLines 0 (h .state .memory)))
+          let m = memory-held (h .holds .state) in
+          ap (λ (l : List ℕ). a .written ++ l) (text-behind (memoryLines 0 (h .state .state .memory)) (w (h .state .state .memory) m) inside)
+          ∙ sym (append-assoc (a .written) (textAtHand p out) (memoryLines 0 (h .state .state .memory)))
           ∙ text-whole k;
     }
   where
     inside : end ≤ length out′
-    inside = let h = a .came .performing [] (λ _. refl) in let m = memory-held (h .holds) in memory-inside m (w (h .state .memory) m) room
+    inside = let h = a .came .performing [] (λ _. refl) in let m = memory-held (h .holds .state) in memory-inside m (w (h .state .state .memory) m) room
 
     over : length (a .bytes) + 1 < 2 ^ 63 → goesOn p ≡ false
     over few = by (goesOn p) refl
@@ -386,7 +390,7 @@ printed {p} {input} {out} {b} {F} a fine room end {out′} w =
 module _ (p : Progress) (input out : List ℕ) (b : Buffers) (F : List ℕ) where
   pub well-formed : (failed : Bool) → TurnsMade failed p input out b F → failed ≡ false → WellFormed b
   well-formed true a e = absurd (false≢true (sym e))
-  well-formed false a e = let h = a .came .performing [] (λ _. refl) in (h .state .memory, memory-held (h .holds))
+  well-formed false a e = let h = a .came .performing [] (λ _. refl) in (h .state .state .memory, memory-held (h .holds .state))
 
   pub text-room : (failed : Bool) → TurnsMade failed p input out b F → length out ≡ 0x38000 → failed ≡ false → p .advance .at + 0x28000 ≤ length out
   text-room true a l e = absurd (false≢true (sym e))

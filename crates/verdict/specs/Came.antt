@@ -5,13 +5,14 @@ use mathlib.Core.Path.{_≡_}
 use mathlib.Core.Bool.{Bool, true, false}
 use mathlib.Core.List.{List, [], _++_}
 use lib.Dec.{eqb}
-use lib.ListN.{length, take}
+use lib.ListN.{length}
 use Rattle.definition.specs.Frame.{empty}
 use Rattle.definition.specs.Output.{IsOutput}
 use Rattle.tables.specs.Encoding.{Buffers}
 use Rattle.state.specs.State.{HoldsState}
 use Rattle.judge.specs.declared.Advance.{Advance}
 use Rattle.judge.specs.Whole.{Performing}
+use Rattle.pointer.specs.declared.width.Width.the-variants.{Bits64}
 use Rattle.verdict.specs.declared.Progress.{Progress}
 use Rattle.verdict.specs.Progress.{lacks, goesOn, atHand, textAtHand, mostText, Ready, withTextTo}
 
@@ -21,7 +22,7 @@ MayFollow p rest = p .ended ≡ true → rest ≡ []
 
 -- how far the run is in all bytes: behind those that are done; the lines are said apart
 abbrev pub advanceIn : List ℕ → Progress → Advance
-advanceIn done p = record { from = length done; at = 0; index = p .advance .index; refused = p .advance .refused }
+advanceIn done p = record { from = length done; at = 0; index = p .advance .index; refused = p .advance .refused; width = p .advance .width }
 
 -- the bytes are those done and those at hand. The lines that were written and those at hand, with the buffers, are the definition's `program` so far, up to
 -- the first refusal and not beyond it (`Performing`), whatever follows
@@ -64,7 +65,7 @@ TurnMade false bytes written p input out r input′ out′ b F = Made bytes writ
 
 -- ---- all turns
 abbrev pub startAt : Progress
-startAt = record { advance = record { from = 0; at = 0; index = 0; refused = false }; end = 0; ended = false; failed = false }
+startAt = record { advance = record { from = 0; at = 0; index = 0; refused = false; width = Bits64 }; end = 0; ended = false; failed = false }
 
 -- from the start by turns alone: `bytes` is what these read, and `written` what they wrote
 pub data Reached : Progress → (input out : List ℕ) → Buffers → List ℕ → (bytes written : List ℕ) → Type 0 where

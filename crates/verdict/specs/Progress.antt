@@ -47,7 +47,7 @@ failedAt p = record { advance = p .advance; end = p .end; ended = p .ended; fail
 pub record HasRead (p : Progress) (input : List ℕ) (r : Progress) (input′ : List ℕ) : Type 0 where
   pub new : List ℕ
   pub hand : atHand r input′ ≡ atHand p input ++ new
-  pub advance : r .advance ≡ record { from = 0; at = 0; index = p .advance .index; refused = p .advance .refused }
+  pub advance : r .advance ≡ record { from = 0; at = 0; index = p .advance .index; refused = p .advance .refused; width = p .advance .width }
   pub filled : r .end ≤ length input′
   pub told : r .ended ≡ eqb (length new) 0
 
@@ -63,7 +63,7 @@ isLong next = ltb mostText (next .at)
 abbrev pub flushedAs : Progress → Advance → Bool → Progress
 flushedAs p next failed =
     record {
-      advance = if isLong next then record { from = next .from; at = 0; index = next .index; refused = next .refused } else next;
+      advance = if isLong next then record { from = next .from; at = 0; index = next .index; refused = next .refused; width = next .width } else next;
       end = p .end;
       ended = p .ended;
       failed = failed;
@@ -73,7 +73,7 @@ flushedAs p next failed =
 abbrev pub withTextTo : ℕ → Progress → Progress
 withTextTo n p =
     record {
-      advance = record { from = p .advance .from; at = n; index = p .advance .index; refused = p .advance .refused };
+      advance = record { from = p .advance .from; at = n; index = p .advance .index; refused = p .advance .refused; width = p .advance .width };
       end = p .end;
       ended = p .ended;
       failed = p .failed;

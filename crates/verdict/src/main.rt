@@ -1,5 +1,6 @@
 // Reads a run from standard input and prints its verdict: the line of each request up to the first that is refused, and the memory that is left.
 use judge::Advance;
+use pointer::width::Width;
 ghost use Prim.Native.Nat.{ℕ, _+_, _-_, _≤_, _<_, _^_};
 ghost use mathlib.Core.Path.{_≡_};
 ghost use mathlib.Core.Bool.{true, false};
@@ -76,11 +77,13 @@ fn read_more(input: &mut [u8], out: &[u8], p: Progress) -> Progress
         return failure(p);
     }
     let n = io::count(got, &input[kept..]);
+    let width = advance.width;
     let next = Advance {
         from: 0,
         at: 0,
         index: advance.index,
         refused: advance.refused,
+        width,
     };
     Progress {
         advance: next,
@@ -105,11 +108,13 @@ fn flushed(out: &[u8], p: Progress, next: Advance) -> Progress
         };
     }
     let failed = !write_text(&out[..at]);
+    let width = next.width;
     let advance = Advance {
         from: next.from,
         at: 0,
         index: next.index,
         refused: next.refused,
+        width,
     };
     Progress {
         advance,
@@ -187,6 +192,7 @@ fn take_turns(
         at: 0,
         index: 0,
         refused: false,
+        width: Width::Bits64,
     };
     let mut p = Progress {
         advance,
@@ -243,11 +249,13 @@ fn finish(
         words,
         codes,
     );
+    let width = advance.width;
     let last = Advance {
         from: advance.from,
         at: end,
         index: advance.index,
         refused: advance.refused,
+        width,
     };
     Progress {
         advance: last,

@@ -4,3 +4,4 @@ pub mod Turns
 pub mod Sound
 pub mod Complete
 pub mod Walk
+pub mod AtWidth

@@ -1,4 +1,6 @@
 // Whether five lent buffers hold a memory (refusal 1): one pass over what is used, one over the rest, and pairs of allocations.
+pub mod at_width;
+
 ghost use mathlib.Core.Path.{_≡_};
 ghost use Prim.Native.Nat.{_+_, _-_, _*_, _<_, _≤_};
 ghost use lib.ListN.{length, drop};

@@ -1,13 +1,14 @@
-//! The five buffers that hold a memory, lent to the library for each request.
+//! The five buffers that hold a memory, lent to the library with its width for each request.
 
 use crate::raw::{self, Entry, ListReply, Reply, RetagReply, RetagSettings};
 
-/// Five buffers, of whatever lengths and contents: what holds no memory is refused with 1, and then nothing
+/// Five buffers and a width, of whatever lengths and contents: what holds no memory is refused with 1, and then nothing
 /// changes. Every reply and everything that is left is determined and proved, so that these functions are
 /// safe.
 #[derive(Clone, Debug, PartialEq, Eq)]
 pub struct Buffers {
-    /// Six numbers for each allocation: 1 live or 2 dead, kind, exponent, address, size, number of nodes.
+    /// Nine numbers for each allocation: 1 live or 2 dead, kind, exponent, address, size, number of nodes, and
+    /// where its words, its nodes and its codes start.
     pub allocs: Vec<u64>,
     /// One for each node, as the next.
     pub parents: Vec<u16>,
@@ -16,6 +17,8 @@ pub struct Buffers {
     pub words: Vec<u32>,
     /// One for each byte of each node.
     pub codes: Vec<u8>,
+    /// How many bits a pointer has: 16, 32 or 64.
+    pub width: u64,
 }
 
 /// Calls a function that is lent five buffers; it may write those that it declares `mut`.
@@ -48,7 +51,7 @@ macro_rules! show {
 }
 
 impl Buffers {
-    /// Buffers of the lengths that the library asks for, with zeros in them: the empty memory.
+    /// Buffers of the lengths that the library asks for, with zeros in them: the empty memory at 64 bits.
     pub fn new() -> Buffers {
         Buffers {
             allocs: vec![0; raw::ALLOCS],
@@ -56,24 +59,25 @@ impl Buffers {
             protectors: vec![0; raw::NODES],
             words: vec![0; raw::WORDS],
             codes: vec![0; raw::CODES],
+            width: 64,
         }
     }
 
-    /// The empty memory, whatever they hold.
+    /// The empty memory at their width, whatever they hold.
     pub fn empty(&mut self) -> Reply {
-        lend!(self, tree_borrows_new(;))
+        lend!(self, tree_borrows_new(; self.width))
     }
 
     pub fn allocate(&mut self, kind: u64, size: u64, exponent: u64, address: u64) -> Reply {
-        lend!(self, tree_borrows_allocate(; kind, size, exponent, address))
+        lend!(self, tree_borrows_allocate(; self.width, kind, size, exponent, address))
     }
 
     pub fn deallocate(&mut self, pointer: raw::Pointer, kind: u64, size: u64, exponent: u64) -> Reply {
-        lend!(self, tree_borrows_deallocate(; pointer, kind, size, exponent))
+        lend!(self, tree_borrows_deallocate(; self.width, pointer, kind, size, exponent))
     }
 
     pub fn load(&mut self, pointer: raw::Pointer, length: u64, exponent: u64) -> Reply {
-        lend!(self, tree_borrows_load(; pointer, length, exponent))
+        lend!(self, tree_borrows_load(; self.width, pointer, length, exponent))
     }
 
     /// Copies the words that a load's reply names to the front of `out`, if they fit, and says how many there
@@ -86,7 +90,7 @@ impl Buffers {
     }
 
     pub fn store(&mut self, pointer: raw::Pointer, bytes: &[u32], exponent: u64) -> Reply {
-        lend!(self, tree_borrows_store(; pointer, bytes.as_ptr(), bytes.len(), exponent))
+        lend!(self, tree_borrows_store(; self.width, pointer, bytes.as_ptr(), bytes.len(), exponent))
     }
 
     /// The first `count` of the entries are the frame's.
@@ -99,29 +103,31 @@ impl Buffers {
         settings: RetagSettings,
     ) -> RetagReply {
         lend!(self, tree_borrows_retag(
-            entries.as_mut_ptr(), entries.len(), count; layout.as_ptr(), layout.len(), pointer, settings
+            entries.as_mut_ptr(), entries.len(), count;
+            self.width, layout.as_ptr(), layout.len(), pointer, settings
         ))
     }
 
     pub fn end_call(&mut self, entries: &[Entry], count: usize, area: &mut [u8]) -> Reply {
         lend!(self, tree_borrows_end_call(
-            entries.as_ptr(), entries.len(), count; area.as_mut_ptr(), area.len()
+            entries.as_ptr(), entries.len(), count; self.width, area.as_mut_ptr(), area.len()
         ))
     }
 
     pub fn dereferenceable(&self, pointer: raw::Pointer, length: u64) -> Reply {
-        show!(self, tree_borrows_dereferenceable(pointer, length))
+        show!(self, tree_borrows_dereferenceable(self.width, pointer, length))
     }
 
     pub fn signed_dereferenceable(&self, pointer: raw::Pointer, length: i64) -> Reply {
-        show!(self, tree_borrows_signed_dereferenceable(pointer, length))
+        show!(self, tree_borrows_signed_dereferenceable(self.width, pointer, length))
     }
 
     pub fn leak_check(&self) -> Reply {
-        show!(self, tree_borrows_leak_check())
+        show!(self, tree_borrows_leak_check(self.width))
     }
 
-    /// A list of requests from the empty memory: all their words, and where those of each end.
+    /// A list of requests from the empty memory at 64 bits: all their words, and where those of each end. The width is
+    /// then what the list left.
     pub fn run_list(
         &mut self,
         frames: &mut [u32],
@@ -129,10 +135,14 @@ impl Buffers {
         ends: &[u32],
         answers: &mut [u32],
     ) -> ListReply {
-        lend!(self, tree_borrows_run_list(;
+        let reply = lend!(self, tree_borrows_run_list(;
             frames.as_mut_ptr(), frames.len(), requests.as_ptr(), requests.len(), ends.as_ptr(), ends.len(),
             answers.as_mut_ptr(), answers.len()
-        ))
+        ));
+        if reply.refusal == 0 {
+            self.width = reply.width;
+        }
+        reply
     }
 }
 

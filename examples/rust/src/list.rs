@@ -6,10 +6,12 @@ use crate::pointee::Pointee;
 use crate::pointer::{Align, MemoryKind, Pointer, PointerKind, Provenance};
 use crate::raw::{self, Entry};
 use crate::refusal::Refusal;
+use crate::width::Width;
 use std::fmt;
 
 /// Requests, in the words of docs/FORMAT.md. What a later request names is known beforehand: allocations are
-/// numbered as they are made, and nodes in each allocation, from 0, its root.
+/// numbered as they are made, and nodes in each allocation, from 0, its root. Pointers have 64 bits until the
+/// memory is emptied with another width.
 #[derive(Clone, Debug, Default, PartialEq, Eq)]
 pub struct List {
     words: Vec<u32>,
@@ -86,6 +88,7 @@ enum Kind {
     Dereferenceable,
     SignedDereferenceable,
     LeakCheck,
+    Empty = 15,
 }
 
 const NO_POINTER: Pointer = Pointer { address: 0, provenance: None };
@@ -205,12 +208,17 @@ impl List {
         self.request(Kind::LeakCheck, NO_POINTER, 0, 0, 0, &[]);
     }
 
+    /// Forgets all allocations, so that the next one is 0 again, closes all frames, and sets the width.
+    pub fn empty(&mut self, width: Width) {
+        self.request(Kind::Empty, NO_POINTER, 0, width as u32, 0, &[]);
+    }
+
     /// The run as the program `verdict` reads it. It stops at the first refusal.
     pub fn to_bytes(&self) -> Vec<u8> {
         self.words.iter().flat_map(|word| word.to_be_bytes()).collect()
     }
 
-    /// Makes the requests, one after the other, from the empty memory with no frame open.
+    /// Makes the requests, one after the other, from the empty memory of 64 bits with no frame open.
     pub fn run(&self) -> Outcome {
         let mut buffers = Buffers::new();
         let mut frames = vec![0; raw::FRAMES];

@@ -5,6 +5,7 @@ use crate::pointee::Pointee;
 use crate::pointer::{Align, MemoryKind, Pointer, PointerKind};
 use crate::raw::{self, Entry, Reply, RetagReply, RetagSettings};
 use crate::refusal::Refusal;
+use crate::width::Width;
 
 /// A memory that owns its buffers. A refused request changes nothing. Each costs some 18 microseconds, as all
 /// of the memory is tested first; [`crate::List`] is for many. As text it is what `verdict` prints of it.
@@ -45,9 +46,9 @@ impl Frame {
 }
 
 impl Memory {
-    /// No allocation made.
-    pub fn new() -> Memory {
-        Memory { buffers: Buffers::new() }
+    /// No allocation made, and pointers of this width.
+    pub fn new(width: Width) -> Memory {
+        Memory { buffers: Buffers { width: width.bits(), ..Buffers::new() } }
     }
 
     pub(crate) fn of(buffers: Buffers) -> Memory {
@@ -57,6 +58,10 @@ impl Memory {
     /// The numbers that hold it, to look at.
     pub fn buffers(&self) -> &Buffers {
         &self.buffers
+    }
+
+    pub fn width(&self) -> Width {
+        Width::of_bits(self.buffers.width).expect("a memory has one of the three")
     }
 
     /// At the address that is proposed. Gives the pointer to its root.
@@ -162,11 +167,5 @@ impl Memory {
     pub fn leak(&self) -> Option<u32> {
         let reply = self.buffers.leak_check();
         (reply.gives == raw::LEAK).then_some(reply.first as u32)
-    }
-}
-
-impl Default for Memory {
-    fn default() -> Memory {
-        Memory::new()
     }
 }

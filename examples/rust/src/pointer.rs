@@ -1,6 +1,7 @@
 //! Pointers, alignments and bytes.
 
 use crate::raw::{self, Reply};
+use crate::width::Width;
 
 /// A node of an allocation, both by their numbers.
 #[derive(Clone, Copy, Debug, PartialEq, Eq, Hash)]
@@ -16,9 +17,14 @@ pub struct Pointer {
 }
 
 impl Pointer {
-    /// The same pointer so many bytes ahead, or back, around the end of the addresses.
+    /// The same pointer so many bytes ahead, or back, around the end of the addresses of 64 bits.
     pub fn offset(self, bytes: i64) -> Pointer {
-        Pointer { address: self.address.wrapping_add_signed(bytes), ..self }
+        self.offset_at(Width::Bits64, bytes)
+    }
+
+    /// The same around the end of the addresses of this width.
+    pub fn offset_at(self, width: Width, bytes: i64) -> Pointer {
+        Pointer { address: self.address.wrapping_add_signed(bytes) & width.most_address(), ..self }
     }
 
     /// In the numbers that the library takes.

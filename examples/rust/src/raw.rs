@@ -5,7 +5,8 @@
 //! which nobody else uses meanwhile; no two buffers of one call overlap. Whatever the numbers are, every
 //! function returns, and stays inside what it was lent.
 
-/// A pointer. `provenance` is 0 or 1; with 0, allocation and node are 0 too. Anything else is refused with 2.
+/// A pointer. `provenance` is 0 or 1; with 0, allocation and node are 0 too. Anything else is refused with 2,
+/// and so is an address that is too big for the width.
 #[repr(C)]
 #[derive(Clone, Copy, Debug, PartialEq, Eq)]
 pub struct Pointer {
@@ -63,14 +64,15 @@ pub struct RetagReply {
     pub count: usize,
 }
 
-/// What a list comes to: 1 if a buffer has another length; else how many words of answers were written, and 1
-/// if these are all.
+/// What a list comes to: 1 if a buffer has another length, and then the rest is 0; else how many words of answers
+/// were written, 1 if these are all, and the width of the memory that is left.
 #[repr(C)]
 #[derive(Clone, Copy, Debug, PartialEq, Eq)]
 pub struct ListReply {
     pub refusal: u8,
     pub whole: u8,
     pub at: usize,
+    pub width: u64,
 }
 
 /// The lengths of what is lent.
@@ -102,21 +104,25 @@ macro_rules! lent {
 }
 
 lent! {
-    fn tree_borrows_new(; mut mut mut mut mut;) -> Reply;
+    fn tree_borrows_new(; mut mut mut mut mut; width: u64) -> Reply;
     fn tree_borrows_allocate(; mut const const const mut;
-        kind: u64, size: u64, exponent: u64, address: u64) -> Reply;
+        width: u64, kind: u64, size: u64, exponent: u64, address: u64) -> Reply;
     fn tree_borrows_deallocate(; mut const const const mut;
-        pointer: Pointer, kind: u64, size: u64, exponent: u64) -> Reply;
-    fn tree_borrows_load(; const const const const mut; pointer: Pointer, length: u64, exponent: u64) -> Reply;
+        width: u64, pointer: Pointer, kind: u64, size: u64, exponent: u64) -> Reply;
+    fn tree_borrows_load(; const const const const mut;
+        width: u64, pointer: Pointer, length: u64, exponent: u64) -> Reply;
     fn tree_borrows_store(; const const const mut mut;
-        pointer: Pointer, bytes: *const u32, bytes_length: usize, exponent: u64) -> Reply;
+        width: u64, pointer: Pointer, bytes: *const u32, bytes_length: usize, exponent: u64) -> Reply;
     fn tree_borrows_retag(entries: *mut Entry, entries_length: usize, count: usize; mut mut mut const mut;
-        layout: *const u32, layout_length: usize, pointer: Pointer, settings: RetagSettings) -> RetagReply;
+        width: u64, layout: *const u32, layout_length: usize, pointer: Pointer,
+        settings: RetagSettings) -> RetagReply;
     fn tree_borrows_end_call(entries: *const Entry, entries_length: usize, count: usize; const const mut const mut;
-        area: *mut u8, area_length: usize) -> Reply;
-    fn tree_borrows_dereferenceable(; const const const const const; pointer: Pointer, length: u64) -> Reply;
-    fn tree_borrows_signed_dereferenceable(; const const const const const; pointer: Pointer, length: i64) -> Reply;
-    fn tree_borrows_leak_check(; const const const const const;) -> Reply;
+        width: u64, area: *mut u8, area_length: usize) -> Reply;
+    fn tree_borrows_dereferenceable(; const const const const const;
+        width: u64, pointer: Pointer, length: u64) -> Reply;
+    fn tree_borrows_signed_dereferenceable(; const const const const const;
+        width: u64, pointer: Pointer, length: i64) -> Reply;
+    fn tree_borrows_leak_check(; const const const const const; width: u64) -> Reply;
     fn tree_borrows_run_list(; mut mut mut mut mut;
         frames: *mut u32, frames_length: usize, requests: *const u32, requests_length: usize,
         ends: *const u32, ends_length: usize, answers: *mut u32, answers_length: usize) -> ListReply;

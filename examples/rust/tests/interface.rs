@@ -7,7 +7,7 @@ use tree_borrows::raw::{self, Entry, ListReply, Reply, RetagReply, RetagSettings
 use tree_borrows::{
     byte, Align, Buffers, FrameNumber, Given, List, Memory, MemoryKind, Metadata, Part, Pointee,
 };
-use tree_borrows::{Pointer, PointerKind, Provenance, Refusal, Refused, Shape, UNINITIALISED};
+use tree_borrows::{Pointer, PointerKind, Provenance, Refusal, Refused, Shape, Width, UNINITIALISED};
 
 fn pointer(address: u64, allocation: u32, node: u32) -> Pointer {
     Pointer { address, provenance: Some(Provenance { allocation, node }) }
@@ -60,7 +60,7 @@ fn a_list_is_the_run_of_the_page() {
 fn a_memory_prints_as_the_program_does() {
     let printed = "a 0 live heap 16 2 0\nd 0 80000007 00000000\nn 0 0 - no 33\nn 0 1 0 no 41\n";
     assert_eq!(aliasing_write().run().memory.to_string(), printed);
-    let mut memory = Memory::new();
+    let mut memory = Memory::new(Width::Bits64);
     let root = memory.allocate(MemoryKind::Global, 1, Align::of::<u64>(), 8).unwrap();
     let mut call = memory.new_call();
     memory.retag_argument(&mut call, root, PointerKind::Box, &Pointee::of::<u8>()).unwrap();
@@ -78,7 +78,7 @@ fn a_memory_prints_as_the_program_does() {
 
 #[test]
 fn a_memory_answers_as_a_list_does() {
-    let mut memory = Memory::new();
+    let mut memory = Memory::new(Width::Bits64);
     let root = memory.allocate(MemoryKind::Heap, 2, Align::ONE, 16).unwrap();
     let r = memory.retag(root, PointerKind::MutableReference, &Pointee::of::<u16>()).unwrap();
     memory.store(r, &[byte(7)], Align::ONE).unwrap();
@@ -91,7 +91,7 @@ fn a_memory_answers_as_a_list_does() {
 
 #[test]
 fn loads_stand_behind_those_of_earlier_allocations() {
-    let mut memory = Memory::new();
+    let mut memory = Memory::new(Width::Bits64);
     memory.allocate(MemoryKind::Stack, 3, Align::ONE, 16).unwrap();
     let second = memory.allocate(MemoryKind::Stack, 3, Align::ONE, 32).unwrap();
     memory.store(second.offset(1), &[byte(1), byte(2)], Align::ONE).unwrap();
@@ -127,7 +127,7 @@ fn layouts_are_those_of_the_page() {
 
 #[test]
 fn layouts_that_do_not_fit_have_no_mask() {
-    let mut memory = Memory::new();
+    let mut memory = Memory::new(Width::Bits64);
     let root = memory.allocate(MemoryKind::Heap, 4096, Align::ONE, 4096).unwrap();
     let refusal = |pointee: Pointee| memory.clone().retag(root, PointerKind::SharedReference, &pointee).err();
     let cells = |count: u16| Part { size: 4096, cells: (0..count).map(|at| 2 * at..2 * at + 1).collect() };
@@ -144,7 +144,7 @@ fn layouts_that_do_not_fit_have_no_mask() {
 
 #[test]
 fn a_call_protects_until_it_ends() {
-    let mut memory = Memory::new();
+    let mut memory = Memory::new(Width::Bits64);
     let root = memory.allocate(MemoryKind::Heap, 1, Align::ONE, 16).unwrap();
     let mut call = memory.new_call();
     let x =
@@ -153,7 +153,7 @@ fn a_call_protects_until_it_ends() {
     memory.store(x, &[byte(1)], Align::ONE).unwrap();
     assert_eq!(memory.load(root, 1, Align::ONE), Err(Refusal::ForeignReadOfUnique));
     assert_eq!(memory.deallocate(x, MemoryKind::Heap, 1, Align::ONE), Err(Refusal::StrongProtector));
-    assert_eq!(Memory::new().end_call(&mut call), Err(Refusal::NeverMade.into()));
+    assert_eq!(Memory::new(Width::Bits64).end_call(&mut call), Err(Refusal::NeverMade.into()));
     assert_eq!(call.entries().len(), 1);
     memory.end_call(&mut call).unwrap();
     assert!(call.entries().is_empty());
@@ -165,7 +165,7 @@ fn a_call_protects_until_it_ends() {
 /// While its call lasts, an argument refuses with 26 to 28; afterwards, with 17 to 19.
 #[test]
 fn an_argument_has_numbers_of_its_own() {
-    let mut memory = Memory::new();
+    let mut memory = Memory::new(Width::Bits64);
     let root = memory.allocate(MemoryKind::Heap, 2, Align::ONE, 16).unwrap();
     let mut call = memory.new_call();
     let shared =
@@ -213,7 +213,7 @@ fn a_list_takes_more_words_than_a_run() {
 
 #[test]
 fn dereference_tests_reach_ahead_and_back() {
-    let mut memory = Memory::new();
+    let mut memory = Memory::new(Width::Bits64);
     let root = memory.allocate(MemoryKind::Stack, 4, Align::of::<u32>(), 16).unwrap();
     assert_eq!(memory.dereferenceable(root, 4), Ok(()));
     assert_eq!(memory.dereferenceable(root, 5), Err(Refusal::OutOfBounds));
@@ -302,6 +302,155 @@ fn whatever_the_buffers_hold_new_empties_them() {
     assert_eq!(buffers, Buffers::new());
 }
 
+#[test]
+fn widths_have_their_numbers() {
+    let numbers = Width::ALL.map(|width| (width.bits(), width.most_address(), width.pointer_bytes()));
+    assert_eq!(numbers, [(16, 0xffff, 2), (32, 0xffff_ffff, 4), (64, u64::MAX, 8)]);
+    assert_eq!((Width::of_bits(32), Width::of_bits(24)), (Some(Width::Bits32), None));
+    let high = pointer(0xfffe, 0, 0);
+    assert_eq!(high.offset(3).address, 0x10001);
+    assert_eq!(high.offset_at(Width::Bits16, 3).address, 1);
+    assert_eq!(pointer(1, 0, 0).offset_at(Width::Bits32, -2).address, 0xffff_ffff);
+}
+
+/// At each width: the last address, the last end and the last position, and those behind them.
+#[test]
+fn a_memory_ends_at_its_width() {
+    for width in Width::ALL {
+        let mut memory = Memory::new(width);
+        assert_eq!(memory.width(), width);
+        let most = width.most_address();
+        let allocate = |memory: &mut Memory, size, address| {
+            memory.allocate(MemoryKind::Heap, size, Align::ONE, address).map(|made| made.address)
+        };
+        assert_eq!(allocate(&mut memory, 3, most - 2), Err(Refusal::FailsPick));
+        assert_eq!(allocate(&mut memory, u64::MAX, most), Err(Refusal::FailsPick));
+        assert_eq!(allocate(&mut memory, 2, most - 2), Ok(most - 2));
+        assert_eq!(allocate(&mut memory, 0, most), Ok(most));
+        let root = pointer(most - 2, 0, 0);
+        for position in 0..8 {
+            let word = 0xc000_0000 | position << 27;
+            let expected =
+                if (position as u64) < width.pointer_bytes() { Ok(()) } else { Err(Refusal::Malformed) };
+            assert_eq!(
+                memory.store(root, &[UNINITIALISED, word], Align::ONE),
+                expected,
+                "{width:?} {position}"
+            );
+        }
+        let last = Pointer { address: most, ..root };
+        assert_eq!(memory.load(last, 1, Align::ONE).err(), Some(Refusal::OutOfBounds));
+        assert_eq!(memory.dereferenceable(last, 0), Ok(()));
+        assert_eq!(memory.signed_dereferenceable(last, -2), Ok(()));
+        assert_eq!(memory.signed_dereferenceable(pointer(1, 0, 0), -2), Err(Refusal::OutOfBounds));
+        if width == Width::Bits64 {
+            continue;
+        }
+        let above = Pointer { address: most + 1, ..root };
+        let bare = Pointer { provenance: None, ..above };
+        let pointee = Pointee::of::<()>();
+        for place in [above, bare] {
+            assert_eq!(memory.load(place, 0, Align::ONE).err(), Some(Refusal::Malformed));
+            assert_eq!(memory.store(place, &[], Align::ONE), Err(Refusal::Malformed));
+            assert_eq!(memory.dereferenceable(place, 0), Err(Refusal::Malformed));
+            assert_eq!(memory.signed_dereferenceable(place, 0), Err(Refusal::Malformed));
+            assert_eq!(memory.deallocate(place, MemoryKind::Heap, 2, Align::ONE), Err(Refusal::Malformed));
+            for kind in [PointerKind::SharedReference, PointerKind::Raw] {
+                assert_eq!(memory.retag(place, kind, &pointee), Err(Refusal::Malformed));
+            }
+        }
+        assert_eq!(allocate(&mut memory, 0, most + 1), Err(Refusal::Malformed));
+    }
+}
+
+/// Only three widths are lent, and what is in the memory fits them, dead allocations too.
+#[test]
+fn what_does_not_fit_its_width_is_not_well_formed() {
+    for bits in [0, 8, 15, 17, 24, 33, 63, 65, 128, 1 << 32, u64::MAX] {
+        let mut buffers = Buffers { width: bits, ..Buffers::new() };
+        let before = buffers.clone();
+        assert_eq!(buffers.empty().refusal, 1, "{bits}");
+        assert_eq!(buffers.allocate(0, 1, 0, 16).refusal, 1, "{bits}");
+        assert_eq!(buffers.leak_check().refusal, 1, "{bits}");
+        assert_eq!(buffers, before);
+    }
+    let lent_with = |buffers: &Buffers, width: Width| {
+        Buffers { width: width.bits(), ..buffers.clone() }.leak_check().refusal
+    };
+    let refusals = |buffers: &Buffers| Width::ALL.map(|width| lent_with(buffers, width));
+    let root = |address| raw::Pointer { address, provenance: 1, allocation: 0, node: 0 };
+    for (address, expected) in
+        [(0xfffe, [0, 0, 0]), (0xffff, [1, 0, 0]), (0xffff_fffe, [1, 0, 0]), (0xffff_ffff, [1, 1, 0])]
+    {
+        let mut buffers = Buffers::new();
+        assert_eq!(buffers.allocate(0, 1, 0, address).refusal, 0);
+        assert_eq!(refusals(&buffers), expected, "{address:x}");
+        assert_eq!(buffers.deallocate(root(address), 0, 1, 0).refusal, 0);
+        assert_eq!(refusals(&buffers), expected, "{address:x}, dead");
+    }
+    for (position, expected) in
+        [(1, [0, 0, 0]), (2, [1, 0, 0]), (3, [1, 0, 0]), (4, [1, 1, 0]), (7, [1, 1, 0])]
+    {
+        let mut buffers = Buffers::new();
+        assert_eq!(buffers.allocate(0, 1, 0, 16).refusal, 0);
+        assert_eq!(buffers.store(root(16), &[0xc000_0000 | position << 27], 0).refusal, 0);
+        assert_eq!(refusals(&buffers), expected, "position {position}");
+        assert_eq!(buffers.deallocate(root(16), 0, 1, 0).refusal, 0);
+        assert_eq!(refusals(&buffers), expected, "position {position}, dead");
+    }
+}
+
+/// A list starts at 64 bits. Behind an emptying numbers start again, frames are closed, and the width is kept
+/// with the memory that is left.
+#[test]
+fn a_list_empties_the_memory() {
+    let high = pointer(0x1_0000, 0, 0);
+    for (extra, width) in Width::ALL.into_iter().enumerate() {
+        let mut list = List::new();
+        list.allocate(MemoryKind::Heap, 1, Align::ONE, 0x1_0000);
+        list.new_call(frame(3));
+        list.empty(width);
+        assert_eq!(words(&list)[8..], [0xf000_0000 | extra as u32, 0, 0, 0]);
+        list.end_call(frame(3));
+        list.load(high, 0, Align::ONE);
+        list.allocate(MemoryKind::Stack, 1, Align::ONE, 16);
+        list.leak_check();
+        let mut outcome = list.run();
+        let gone = if width == Width::Bits16 { Refusal::Malformed } else { Refusal::NeverMade };
+        let made = |allocation| Ok(Given::Pointer(Provenance { allocation, node: 0 }));
+        let nothing = || Ok(Given::Nothing);
+        let expected = [
+            made(0),
+            nothing(),
+            nothing(),
+            Err(Refusal::Malformed.into()),
+            Err(gone.into()),
+            made(0),
+            nothing(),
+        ];
+        assert_eq!(outcome.answers, expected);
+        assert_eq!((outcome.memory.width(), outcome.frame(frame(3))), (width, None));
+        assert_eq!(outcome.memory.to_string(), "a 0 live stack 16 1 0\nd 0 00000000\nn 0 0 - no 3\n");
+        let beyond = outcome.memory.allocate(MemoryKind::Heap, 1, Align::ONE, 0xffff);
+        assert_eq!(beyond.err(), (width == Width::Bits16).then_some(Refusal::FailsPick));
+    }
+}
+
+/// An emptying with another field set, or of no width, is refused, and nothing is forgotten.
+#[test]
+fn a_malformed_emptying_changes_nothing() {
+    for request in
+        [[0xf000_0003, 0, 0, 0], [0xf000_0007, 0, 0, 0], [0xf000_0000, 0, 0, 1], [0xf000_0100, 0, 0, 0]]
+    {
+        let mut list = List::new();
+        list.allocate(MemoryKind::Heap, 1, Align::ONE, 16);
+        list.push(&request);
+        let outcome = list.run();
+        assert_eq!(outcome.answers[1], Err(Refusal::Malformed.into()));
+        assert_eq!((outcome.memory.width(), outcome.memory.leak()), (Width::Bits64, Some(0)));
+    }
+}
+
 /// At the boundary a flag is 0 or 1, and a pointer without provenance names nothing.
 #[test]
 fn other_flags_are_malformed() {
@@ -337,5 +486,6 @@ fn structs_have_the_layout_of_c() {
     assert_eq!((size_of::<RetagSettings>(), offset_of!(RetagSettings, freeze)), (8, 6));
     assert_eq!((size_of::<Reply>(), offset_of!(Reply, first), offset_of!(Reply, second)), (24, 8, 16));
     assert_eq!((size_of::<RetagReply>(), offset_of!(RetagReply, count)), (32, 24));
-    assert_eq!((size_of::<ListReply>(), offset_of!(ListReply, whole), offset_of!(ListReply, at)), (16, 1, 8));
+    assert_eq!((size_of::<ListReply>(), offset_of!(ListReply, whole)), (24, 1));
+    assert_eq!((offset_of!(ListReply, at), offset_of!(ListReply, width)), (8, 16));
 }

@@ -61,7 +61,8 @@ def explain(cmd, path, is_binary, at, is_dot):
 
 def shown(report, name, place, is_dot):
     if is_dot:
-        return drawing.dot(report.memory_after(place).allocations, report.names, report.spot_at(place))
+        allocations, names = report.memory_after(place).allocations, report.names.at(place)
+        return drawing.dot(allocations, names, report.spot_at(place), reports.width_line(report, place))
     lines = [f"{name}: {report.verdict_at(place)}", "", *reports.lines(report, place)]
     return "".join(f"{line}\n" for line in lines)
 

@@ -3,8 +3,9 @@
     read(data)           the card that a text is; raises CardError with line and column
     write(run)           a line for each request of a run, in order
     names_in(text)       the names that stand in a line, in order
-    Source               .run its bytes, .lines the text's lines, .request_lines the line of each request, .names the
-                         first name of each pointer by (allocation, node), .aliases all its names
+    Source               .run its bytes, .lines the text's lines, .request_lines the line of each request, .stretches
+                         the names of pointers by (allocation, node), in pairs: the index of the first request that they
+                         hold for, and the names in the order in which they were given. An emptying starts another
 
 To words and back gives the same words for every run: a line is written only if reading it gives the request's words,
 and stands as `raw` words otherwise.
@@ -41,8 +42,7 @@ class Source(NamedTuple):
     run: bytes
     lines: list
     request_lines: list
-    names: dict
-    aliases: dict
+    stretches: list
 
 
 def read(data):
@@ -50,6 +50,8 @@ def read(data):
     state = State()
     lines = []
     parts = []
+    stretches = []
+    first = 0
     for number, line in enumerate(_lines(data), 1):
         said, mark, comment = line.partition("#")
         scanner = Scanner(said, number)
@@ -57,13 +59,15 @@ def read(data):
         if not scanner.is_done:
             request = len(parts)
             said = parse(state, scanner)
+            if said.request.width is not None:
+                stretches.append((first, state.names_of_pointers()))
+                first = request + 1
             state.take(said, number)
             parts.append(w.bytes_of(said.request.words) + said.request.rest)
         lines.append(Line(number, request, (mark + comment).rstrip()))
     request_lines = [line.number for line in lines if line.request is not None]
-    aliases = state.names_of_pointers()
-    names = {pointer: given[0] for pointer, given in aliases.items()}
-    return Source(b"".join(parts), lines, request_lines, names, aliases)
+    stretches.append((first, state.names_of_pointers()))
+    return Source(b"".join(parts), lines, request_lines, stretches)
 
 
 def _lines(data):

@@ -17,5 +17,5 @@ MOST_CELLS = (1 << layouts.CELL_BITS) - 1
 MOST_OFFSET = (1 << 16) - 1
 # The notation's own: how often a byte is repeated, so that a slip does not fill the machine's memory.
 MOST_REPEATS = 65_536
-
-POINTER_BYTES = 8
+# The largest position that a byte word can say, at any width.
+MOST_POSITION = w.pointer_bytes(w.WIDEST) - 1

@@ -12,10 +12,10 @@ from .limits import (
     MOST_COUNT,
     MOST_NODE,
     MOST_OFFSET,
+    MOST_POSITION,
     MOST_REPEATS,
     MOST_SIZE,
     MOST_WORD,
-    POINTER_BYTES,
 )
 from .state import Place
 
@@ -31,6 +31,7 @@ _TIMES = re.compile(r"\*")
 _RANGE = re.compile(r"\.\.")
 _BYTE = re.compile(r"([0-9a-fA-F]{2}|__)(?![\w.])")
 UNINITIALISED = "__"
+WIDTHS = "16, 32 or 64"
 
 
 # ---- places
@@ -49,12 +50,12 @@ def place(state, scanner):
     name = _NAME.match(scanner.line, at)
     if not name:
         raise scanner.unexpected("a place: a name, or an address")
-    return _moved(scanner, _named(state, scanner, name.group()), name.end())
+    return _moved(state, scanner, _named(state, scanner, name.group()), name.end())
 
 
 def _named(state, scanner, name):
     if name not in state.places:
-        raise scanner.error(f"nothing is named {name} yet")
+        raise scanner.error(_unknown(state, name))
     found = state.places[name]
     allocation, node = found.provenance or (0, 0)
     if allocation > MOST_ALLOCATION or node > MOST_NODE:
@@ -62,8 +63,14 @@ def _named(state, scanner, name):
     return found
 
 
-def _moved(scanner, start, at):
-    """A place moved by the offset that stands at its name's end, if one does."""
+def _unknown(state, name):
+    if name in state.gone:
+        return f"{name} is gone: the memory was emptied on line {state.gone[name]}"
+    return f"nothing is named {name} yet"
+
+
+def _moved(state, scanner, start, at):
+    """A place moved by the offset that stands at its name's end, if one does. Addresses wrap at the width."""
     sign = _OFFSET.match(scanner.line, at)
     if not sign:
         scanner.move(at)
@@ -71,7 +78,7 @@ def _moved(scanner, start, at):
     scanner.move(sign.end())
     offset = scanner.expect_number("an offset", MOST_ADDRESS)
     offset = -offset if sign.group(1) == "-" else offset
-    address = (start.address + offset) % (MOST_ADDRESS + 1)
+    address = start.address + offset & w.most_address(state.width)
     is_inside = start.size is not None and 0 <= offset <= start.size
     return Place(start.provenance, address, start.size - offset if is_inside else None)
 
@@ -96,6 +103,15 @@ def all_of(scanner, start):
     if start.size is None:
         raise scanner.unexpected("a number of bytes, which is not known here")
     return start.size
+
+
+def width(scanner):
+    """The bits of a pointer."""
+    at = scanner.at
+    number = scanner.expect_number(f"a width, {WIDTHS}", MOST_WORD)
+    if number not in w.WIDTHS:
+        raise scanner.error(f"a width is {WIDTHS}, and {number} is none", at)
+    return number
 
 
 def exponent(scanner, default=0):
@@ -224,9 +240,9 @@ def stored(state, scanner):
 
 
 def _some_bytes(state, scanner):
-    """The words of a pointer's eight bytes, of a byte of one, or of a plain byte; none at the bytes' end."""
+    """The words of a pointer's bytes, of a byte of one, or of a plain byte; none at the bytes' end."""
     if scanner.accept_word("ptr"):
-        return pointer_words(place(state, scanner))
+        return _pointer(state, scanner)
     found = _BYTE.match(scanner.line, scanner.at)
     if not found:
         return []
@@ -262,12 +278,22 @@ def _fragment(state, scanner, value):
     else:
         numbers = provenance(scanner)
     scanner.expect(_COLON, "':' and a position")
-    return w.byte_word(w.Byte(value, numbers, scanner.expect_number("a position", POINTER_BYTES - 1)))
+    return w.byte_word(w.Byte(value, numbers, scanner.expect_number("a position", MOST_POSITION)))
 
 
-def pointer_words(pointer):
-    """A pointer's eight bytes, the lowest first."""
-    values = pointer.address.to_bytes(POINTER_BYTES, "little")
+def _pointer(state, scanner):
+    """PLACE behind 'ptr': all bytes of a pointer, as many as the width has."""
+    at = scanner.at
+    pointer = place(state, scanner)
+    most = w.most_address(state.width)
+    if pointer.address > most:
+        raise scanner.error(f"a pointer of {state.width} bits is at most {most:#x}, and this is {pointer.address:#x}", at)
+    return pointer_words(pointer, state.width)
+
+
+def pointer_words(pointer, width):
+    """A pointer's bytes, the lowest first."""
+    values = pointer.address.to_bytes(w.pointer_bytes(width), "little")
     if pointer.provenance is None:
         return [w.byte_word(w.Byte(value)) for value in values]
     return [w.byte_word(w.Byte(value, pointer.provenance, position)) for position, value in enumerate(values)]

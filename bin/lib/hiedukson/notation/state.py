@@ -28,16 +28,22 @@ class Said(NamedTuple):
 
 
 class State:
+    """`places` and `lines` have the names that hold, `gone` those that an emptying took, with its line."""
+
     def __init__(self):
         self.pointers = Pointers()
         self.places = {}
         self.lines = {}
+        self.gone = {}
+        self.width = w.WIDEST
         self.is_cut = False
 
     def take(self, said, number):
         """Count what a line makes, and give it its name."""
         pointer = self.pointers.follow(said.request)
         self.is_cut = said.request.is_cut
+        if said.request.width is not None:
+            self._empty(said.request.width, number)
         if said.name is None or said.name == NO_NAME:
             return
         if pointer is None:
@@ -45,6 +51,13 @@ class State:
             raise CardError(message, number, said.column)
         self.places[said.name] = Place(pointer.provenance, pointer.address, said.size)
         self.lines[said.name] = number
+
+    def _empty(self, width, number):
+        """Forget all names, and go on with this width."""
+        self.gone.update(dict.fromkeys(self.places, number))
+        self.places = {}
+        self.lines = {}
+        self.width = width
 
     def names_of_pointers(self):
         """The names of each pointer with provenance, in the order in which they were given."""

@@ -182,6 +182,10 @@ def _leaks(state, scanner):
     return _request(w.LEAK_CHECK)
 
 
+def _empty(state, scanner):
+    return _request(w.EMPTY, extra=w.WIDTHS.index(parts.width(scanner)))
+
+
 def _raw(state, scanner):
     """Words as they are: those of one request, or what is left of one at the card's end."""
     at = scanner.at
@@ -210,6 +214,7 @@ STATEMENTS = {
     "deref": _deref,
     "deref-signed": _deref_signed,
     "leaks": _leaks,
+    "empty": _empty,
     "raw": _raw,
 }
 _POINTERS = {name: (_safe if kind < w.SAFE_POINTERS else _unsafe)(kind) for kind, name in enumerate(w.POINTER_KINDS)}

@@ -4,7 +4,7 @@ from .. import layouts
 from .. import words as w
 from ..errors import CardError
 from . import parts
-from .limits import MOST_ADDRESS, MOST_REPEATS, POINTER_BYTES
+from .limits import MOST_REPEATS
 from .scanner import Scanner
 from .state import NO_NAME, Place
 from .statements import parse
@@ -55,12 +55,15 @@ class Writer:
         if provenance is None:
             return f"{address:#x}"
         name = self.name_of(provenance)
-        if name is None:
+        most = w.most_address(self.state.width)
+        if name is not None and address == self.state.places[name].address:
+            return name
+        if name is None or address > most:
             return f"{provenance[0]}.{provenance[1]}@{address:#x}"
-        offset = (address - self.state.places[name].address) % (MOST_ADDRESS + 1)
-        if offset > MOST_ADDRESS // 2:
-            return f"{name}-{_shown(MOST_ADDRESS + 1 - offset)}"
-        return f"{name}+{_shown(offset)}" if offset else name
+        offset = address - self.state.places[name].address & most
+        if offset > most // 2:
+            return f"{name}-{_shown(most + 1 - offset)}"
+        return f"{name}+{_shown(offset)}"
 
     def place_of(self, request):
         return self.place(request.pointer, request.address)
@@ -114,7 +117,7 @@ def _say_bytes(writer, stored):
     said = []
     at = 0
     while at < len(stored):
-        group = _say_pointer(writer, stored[at : at + POINTER_BYTES]) or _say_repeated(stored, at)
+        group = _say_pointer(writer, stored, at) or _say_repeated(stored, at)
         if group is None:
             group = _say_byte(writer, stored[at]), 1
         said.append(group[0])
@@ -122,16 +125,18 @@ def _say_bytes(writer, stored):
     return " ".join(said) or "nothing"
 
 
-def _say_pointer(writer, stored):
-    """'ptr PLACE', where eight words are all bytes of one pointer with provenance."""
-    if len(stored) < POINTER_BYTES or not all(word >> 30 == 3 for word in stored):
+def _say_pointer(writer, stored, at):
+    """'ptr PLACE', where the words from here on are all bytes of one pointer with provenance."""
+    width = writer.state.width
+    found = list(stored[at : at + w.pointer_bytes(width)])
+    if not all(word >> 30 == 3 for word in found):
         return None
-    fragments = [w.byte_of(word) for word in stored]
+    fragments = [w.byte_of(word) for word in found]
     address = int.from_bytes(bytes(fragment.value for fragment in fragments), "little")
     place = Place(fragments[0].provenance, address, None)
-    if parts.pointer_words(place) != list(stored):
+    if parts.pointer_words(place, width) != found:
         return None
-    return f"ptr {writer.place(place.provenance, place.address)}", POINTER_BYTES
+    return f"ptr {writer.place(place.provenance, place.address)}", len(found)
 
 
 def _say_repeated(stored, at):
@@ -222,6 +227,10 @@ def _say_leaks(writer, request):
     return "leaks"
 
 
+def _say_empty(writer, request):
+    return f"empty {request.width}" if request.width is not None else None
+
+
 WRITERS = {
     w.ALLOCATE: _say_allocate,
     w.DEALLOCATE: _say_free,
@@ -233,4 +242,5 @@ WRITERS = {
     w.DEREFERENCEABLE: _say_deref,
     w.SIGNED_DEREFERENCEABLE: _say_deref_signed,
     w.LEAK_CHECK: _say_leaks,
+    w.EMPTY: _say_empty,
 }

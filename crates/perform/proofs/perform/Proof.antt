@@ -1,6 +1,7 @@
 -- Each arm leaves its part of the buffers as the definition says, and the rest as it was (Requests).
 use borrow.Author.Needs.{needs}
-use Rattle.perform.proofs.Requests.{is-alone, trees, frames, asked, left-memory, left-retag, new-closed, left-new-call, left-end-call}
+use Rattle.perform.proofs.Requests.{is-alone, trees, frames, asked, left-memory, left-retag, left-empty, new-closed, left-new-call, left-end-call}
+use Rattle.pointer.specs.Width.{widthOf}
 use Rattle.perform.proofs.perform.Statement.{statement}
 use Rattle.perform.proofs.perform.Tie as tie
 
@@ -26,17 +27,23 @@ retag-before-slice-known11 c = let protectors-back = c .before .before .before .
 abbrev enum-told-before-slice-known11 : tie.After-slice-known11 → tie.After-enum-told
 enum-told-before-slice-known11 c = enum-told-before-retag (retag-before-slice-known11 c)
 
+abbrev entry-before-slice-known11 : tie.After-slice-known11 → tie.Start
+entry-before-slice-known11 c = entry-before-frame-used (enum-told-before-slice-known11 c .before .before)
+
+abbrev enum-told4-before-empty : tie.After-empty → tie.After-enum-told4
+enum-told4-before-empty c = let lent = c .before in lent .before .before .before .before .before .before
+
 abbrev enum-told3-before-end-call : tie.After-end-call → tie.After-enum-told3
 enum-told3-before-end-call c = c .before .before .before .before .before .before
 
 abbrev frame-used-before-end-call : tie.After-end-call → tie.After-frame-used
 frame-used-before-end-call c = enum-told3-before-end-call c .before .before
 
-abbrev at-match-keys4-before-in-memory : tie.After-in-memory → tie.At-match-keys4
-at-match-keys4-before-in-memory c = c .before .before .before .before .before .before
+abbrev at-match-keys5-before-in-memory : tie.After-in-memory → tie.At-match-keys5
+at-match-keys5-before-in-memory c = c .before .before .before .before .before .before
 
 abbrev entry-before-in-memory : tie.After-in-memory → tie.Start
-entry-before-in-memory c = entry-before-frame-used (at-match-keys4-before-in-memory c .before)
+entry-before-in-memory c = entry-before-frame-used (at-match-keys5-before-in-memory c .before)
 
 frame-used-requires : tie.Need-frame-used-requires
 frame-used-requires c κs = search needs
@@ -59,8 +66,14 @@ enum-told-3 c = search needs
 end-call-requires : tie.Need-end-call-requires
 end-call-requires c κs = let s = entry-before-end-call-arg5 c in ((s .pre .0, trees (s .pre .1 .0)), frame-used-before-end-call-arg5 c .frame-used .ensures .1)
 
+enum-told-4 : tie.Need-enum-told-4
+enum-told-4 c = search needs
+
+empty-requires : tie.Need-empty-requires
+empty-requires c κs = let s = entry-before-frame-used (let told = c .before .before .before .before .before .before in told .before .before) in (s .pre .0, s .pre .1 .0)
+
 in-memory-requires : tie.Need-in-memory-requires
-in-memory-requires c κs = let s = entry-before-frame-used (c .before .before .before .before .before .before) in (s .pre .0, asked (s .pre .1 .0) (s .pre .1 .1) (is-alone (s .args .q .kind) (c .before .before .before .before .before .match .keys4)))
+in-memory-requires c κs = let s = entry-before-frame-used (c .before .before .before .before .before .before) in (s .pre .0, asked (s .pre .1 .0) (s .pre .1 .1) (is-alone (s .args .q .kind) (c .before .before .before .before .before .match .keys5)))
 
 same-length : tie.Need-same-length
 same-length c = search needs
@@ -78,13 +91,15 @@ same-length-5 : tie.Need-same-length-5
 same-length-5 c = search needs
 
 returns : tie.Need-returns
-returns c = λ s h formed. left-retag h formed (enum-told-before-slice-known11 c .enum-told .given .1) (retag-before-slice-known11 c .retag .ensures s (trees h))
+returns c = λ s h formed. left-retag h formed (widthOf (entry-before-slice-known11 c .args .width)) (enum-told-before-slice-known11 c .enum-told .given .1) (retag-before-slice-known11 c .retag .ensures s (trees h))
 
 same-length-6 : tie.Need-same-length-6
 same-length-6 c = search needs
 
 returns-2 : tie.Need-returns-2
-returns-2 c = λ s h formed. left-new-call h formed (c .before .before .before .before .before .before .frame-used .ensures .0) (c .before .before .before .before .enum-told2 .given .1) (c .before .before .new-call .ensures s (frames h))
+returns-2 c = λ s h formed.
+    let used = c .before .before .before .before .before .before in
+    left-new-call h formed (used .frame-used .ensures .0) (c .before .before .before .before .enum-told2 .given .1) (widthOf (entry-before-frame-used used .args .width)) (c .before .before .new-call .ensures s (frames h))
 
 same-length-7 : tie.Need-same-length-7
 same-length-7 c = search needs
@@ -102,7 +117,10 @@ same-length-11 : tie.Need-same-length-11
 same-length-11 c = search needs
 
 returns-3 : tie.Need-returns-3
-returns-3 c = λ s h formed. left-end-call h formed (frame-used-before-end-call (c .before .before .before .before .before .before) .frame-used .ensures .0) (enum-told3-before-end-call (c .before .before .before .before .before .before) .enum-told3 .given .1) (c .before .before .before .before .before .before .end-call .ensures s (trees h))
+returns-3 c = λ s h formed.
+    let done = c .before .before .before .before .before .before in
+    let used = frame-used-before-end-call done in
+    left-end-call h formed (used .frame-used .ensures .0) (enum-told3-before-end-call done .enum-told3 .given .1) (widthOf (entry-before-frame-used used .args .width)) (done .end-call .ensures s (trees h))
 
 same-length-12 : tie.Need-same-length-12
 same-length-12 c = search needs
@@ -119,8 +137,37 @@ same-length-15 c = search needs
 same-length-16 : tie.Need-same-length-16
 same-length-16 c = search needs
 
+same-length-17 : tie.Need-same-length-17
+same-length-17 c = search needs
+
 returns-4 : tie.Need-returns-4
-returns-4 c = λ s h formed. let q = entry-before-in-memory (c .before .before .before .before .before .before) .args .q in let k = is-alone (q .kind) (at-match-keys4-before-in-memory (c .before .before .before .before .before .before) .match .keys4) in left-memory h formed k (c .before .before .before .before .before .before .in-memory .ensures s (asked h formed k))
+returns-4 c = λ s h formed.
+    let back = c .before .before .before .before .before .before in
+    let done = back .before .before .before .before .before .before in
+    let told = enum-told4-before-empty done in
+    left-empty h formed (widthOf (entry-before-frame-used (told .before .before) .args .width)) (told .enum-told4 .given .1) (done .empty .ensures)
+
+same-length-18 : tie.Need-same-length-18
+same-length-18 c = search needs
+
+same-length-19 : tie.Need-same-length-19
+same-length-19 c = search needs
+
+same-length-20 : tie.Need-same-length-20
+same-length-20 c = search needs
+
+same-length-21 : tie.Need-same-length-21
+same-length-21 c = search needs
+
+same-length-22 : tie.Need-same-length-22
+same-length-22 c = search needs
+
+returns-5 : tie.Need-returns-5
+returns-5 c = λ s h formed.
+    let done = c .before .before .before .before .before .before in
+    let a = entry-before-in-memory done .args in
+    let k = is-alone (a .q .kind) (at-match-keys5-before-in-memory done .match .keys5) in
+    left-memory h formed (widthOf (a .width)) k (done .in-memory .ensures s (asked h formed k))
 
 pub perform-spec : {M : Type 1} → statement M
 perform-spec =
@@ -133,6 +180,8 @@ perform-spec =
     new-call-requires
     enum-told-3
     end-call-requires
+    enum-told-4
+    empty-requires
     in-memory-requires
     same-length
     same-length-2
@@ -153,4 +202,11 @@ perform-spec =
     same-length-14
     same-length-15
     same-length-16
-    returns-4)
+    same-length-17
+    returns-4
+    same-length-18
+    same-length-19
+    same-length-20
+    same-length-21
+    same-length-22
+    returns-5)

@@ -2,7 +2,7 @@
 use mathlib.Core.Path.{refl}
 use borrow.Author.Needs.{needs}
 use Rattle.definition.specs.Request.{isMalformed}
-use Rattle.request.specs.declared.Kind.the-variants.{Allocate, Deallocate, Load, Store, Retag, NewCall, EndCall, Dereferenceable, SignedDereferenceable, LeakCheck, Unused}
+use Rattle.request.specs.declared.Kind.the-variants.{Allocate, Deallocate, Load, Store, Retag, NewCall, EndCall, Dereferenceable, SignedDereferenceable, LeakCheck, Empty, Unused}
 use Rattle.request.proofs.Matches.{of-kind}
 use Rattle.request.proofs.is_malformed.Statement.{statement}
 use Rattle.request.proofs.is_malformed.Tie as tie
@@ -69,6 +69,12 @@ malformed-leak-check-requires c κs = search needs
 
 enum-told-11 : tie.Need-enum-told-11
 enum-told-11 c = search needs
+
+malformed-empty-requires : tie.Need-malformed-empty-requires
+malformed-empty-requires c κs = search needs
+
+enum-told-12 : tie.Need-enum-told-12
+enum-told-12 c = search needs
 
 returns : tie.Need-returns
 returns c =
@@ -142,8 +148,15 @@ returns-10 c =
     of-kind s (a .q) (a .following .now) LeakCheck t (c .malformed-leak-check .ensures s (a .following .now))
 
 returns-11 : tie.Need-returns-11
+returns-11 c =
+    λ s e.
+    let a = c .before .before .before .before .args in
+    let t = c .before .enum-told11 .given .1 in
+    of-kind s (a .q) (a .following .now) Empty t (c .malformed-empty .ensures s (a .following .now))
+
+returns-12 : tie.Need-returns-12
 unfolding isMalformed
-returns-11 c = λ s e. let a = c .before .before .before .args in of-kind s (a .q) (a .following .now) Unused (c .enum-told11 .given .1) refl
+returns-12 c = λ s e. let a = c .before .before .before .args in of-kind s (a .q) (a .following .now) Unused (c .enum-told12 .given .1) refl
 
 pub is-malformed-spec : {M : Type 1} → statement M
 is-malformed-spec =
@@ -170,6 +183,8 @@ is-malformed-spec =
     enum-told-10
     malformed-leak-check-requires
     enum-told-11
+    malformed-empty-requires
+    enum-told-12
     returns
     returns-2
     returns-3
@@ -180,4 +195,5 @@ is-malformed-spec =
     returns-8
     returns-9
     returns-10
-    returns-11)
+    returns-11
+    returns-12)

@@ -1,10 +1,7 @@
--- Behind the arms 0 to 9 the number is past the list of kinds.
+-- Behind the arms 0 to 9 and 15 the number is of no kind.
 use mathlib.Core.Path.{sym}
-use lib.ListN.{List·getD-eq-default}
 use borrow.Author.Needs.{needs}
-use Rattle.definition.specs.Request.Kind.{Unused}
-use Rattle.definition.specs.Request.{requestKinds}
-use Rattle.request.proofs.Matches.{from-none}
+use Rattle.request.proofs.Matches.{from-none, unused-rest}
 use Rattle.request.proofs.kind_at.Statement.{statement}
 use Rattle.request.proofs.kind_at.Tie as tie
 
@@ -39,7 +36,10 @@ returns-10 : tie.Need-returns-10
 returns-10 c = search needs
 
 returns-11 : tie.Need-returns-11
-returns-11 c = sym (List·getD-eq-default requestKinds Unused (from-none 10 (c .before .args .number) (c .match .rest)))
+returns-11 c = search needs
+
+returns-12 : tie.Need-returns-12
+returns-12 c = let x = c .before .args .number in sym (unused-rest x (from-none 10 x (c .match .rest .0)) (c .match .rest .1))
 
 pub kind-at-spec : {M : Type 1} → statement M
 kind-at-spec =
@@ -55,4 +55,5 @@ kind-at-spec =
     returns-8
     returns-9
     returns-10
-    returns-11)
+    returns-11
+    returns-12)

@@ -2,6 +2,7 @@
 use Prim.Native.Nat.{ℕ}
 use mathlib.Core.Path.{ap, sym, _∙_}
 use Rattle.definition.specs.Frame.{isOpen, frameAt}
+use Rattle.pointer.specs.Width.{widthOf}
 use Rattle.step.proofs.Steps.{refused-by}
 use borrow.Author.Needs.{needs}
 use Rattle.step.proofs.is_refused.Statement.{statement}
@@ -19,12 +20,16 @@ is-miscounted-requires c κs = search needs
 is-malformed-requires : tie.Need-is-malformed-requires
 is-malformed-requires c κs = search needs
 
+is-too-big-requires : tie.Need-is-too-big-requires
+is-too-big-requires c κs = search needs
+
 returns : tie.Need-returns
 returns c = λ s ws h d.
-    let used = c .before .before .before in
+    let formed = c .before in
+    let used = formed .before .before .before in
     let a = used .before .before .before in
-    let opened = ap (λ (n : ℕ). isOpen (frameAt s n)) (sym (used .frame-used .ensures .0)) ∙ sym (c .before .before .is-open .ensures (s .frames) h) in
-    refused-by s ws (c .before .is-miscounted .ensures ws (d .fields) (d .count)) (a .args .q) (d .fields) (d .rest) (c .is-malformed .ensures s opened)
+    let opened = ap (λ (n : ℕ). isOpen (frameAt s n)) (sym (used .frame-used .ensures .0)) ∙ sym (formed .before .before .is-open .ensures (s .frames) h) in
+    refused-by (widthOf (a .args .width)) s ws (formed .before .is-miscounted .ensures ws (d .fields) (d .count)) (a .args .q) (d .fields) (d .rest) (formed .is-malformed .ensures s opened) (c .is-too-big .ensures)
 
 pub is-refused-spec : {M : Type 1} → statement M
 is-refused-spec =
@@ -34,4 +39,5 @@ is-refused-spec =
     is-open-requires
     is-miscounted-requires
     is-malformed-requires
+    is-too-big-requires
     returns)

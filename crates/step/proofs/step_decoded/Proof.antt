@@ -15,7 +15,7 @@ same-length : tie.Need-same-length
 same-length c = search needs
 
 returns : tie.Need-returns
-returns c = λ s ws h d. stepped-refused h ws (sym (c .before .is-refused .ensures s ws (frames-held h) d) ∙ c .if1 .taken)
+returns c = λ s ws h d. stepped-refused h _ ws (sym (c .before .is-refused .ensures s ws (frames-held h) d) ∙ c .if1 .taken)
 
 perform-requires : tie.Need-perform-requires
 perform-requires c κs = let passing = c .before .before .before .before .before .before in
@@ -27,7 +27,7 @@ perform-requires c κs = let passing = c .before .before .before .before .before
     let h = a .pre .0 .1 in
     let ws = a .pre .1 .0 in
     let d = a .pre .1 .1 in
-    (s, (h, formed h ws (sym (tested .is-refused .ensures s ws (frames-held h) d) ∙ passing .if1 .left) (a .args .q) d))
+    (s, (h, formed h _ ws (sym (tested .is-refused .ensures s ws (frames-held h) d) ∙ passing .if1 .left) (a .args .q) d))
 
 same-length-2 : tie.Need-same-length-2
 same-length-2 c = search needs
@@ -58,7 +58,7 @@ returns-2 c = let left = c .before .before .before .before .before .before in
     let a = lent .before .before .before .before in
     λ s ws h d.
     let passed = sym (tested .is-refused .ensures s ws (frames-held h) d) ∙ passing .if1 .left in
-    stepped h ws passed (a .args .q) d (performed .perform .ensures s h (formed h ws passed (a .args .q) d))
+    stepped h _ ws passed (a .args .q) d (performed .perform .ensures s h (formed h _ ws passed (a .args .q) d))
 
 pub step-decoded-spec : {M : Type 1} → statement M
 step-decoded-spec =

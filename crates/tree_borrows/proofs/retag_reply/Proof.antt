@@ -62,7 +62,7 @@ returns : tie.Need-returns
 returns c = λ places whole.
     let test = refused c in
     let s = entry (test .before) in
-    bad-retag (s .args .settings) (s .args .p) (s .args .layout .now) (s .args .len) (s .args .count) (memory s) _ (c .retag-made .ensures) places whole
+    bad-retag (s .args .width) (s .args .settings) (s .args .p) (s .args .layout .now) (s .args .len) (s .args .count) (memory s) _ (c .retag-made .ensures) places whole
     (sym (ap₂ _||_ (test .before .before .bad-pointer .ensures) (test .before .bad-flags .ensures)) ∙ test .if1 .taken) (c .before .malformed .ensures)
 
 thin-pointer-requires : tie.Need-thin-pointer-requires
@@ -95,7 +95,7 @@ returns-2 c = λ places whole.
     let set = read at in
     let test = set .before .before in
     let s = entry (test .before) in
-    good-retag (s .args .settings) (s .args .p) (s .args .layout .now) (s .args .len) (s .args .count) (memory s) (at .retag-list .result) (c .retag-made2 .ensures) places whole
+    good-retag (s .args .width) (s .args .settings) (s .args .p) (s .args .layout .now) (s .args .len) (s .args .count) (memory s) (at .retag-list .result) (c .retag-made2 .ensures) places whole
     (sym (ap₂ _||_ (test .before .before .bad-pointer .ensures) (test .before .bad-flags .ensures)) ∙ test .if1 .left)
     (rw (← set .before .thin-pointer .ensures, ← set .retag-settings .ensures) (at .retag-list .ensures places whole))
 

@@ -1,7 +1,6 @@
 -- What is kept stands in front, and what is read behind it (Bytes).
 use Prim.Native.Nat.{_+_, _-_, _≤_}
-use mathlib.Core.List.{List}
-use mathlib.Core.Path.{_≡_, sym}
+use mathlib.Core.Path.{sym}
 use native.Mathlib.Omega.{arith}
 use borrow.Author.Needs.{needs}
 use borrow.Rule.Slice.PartMut.{putMid, take-put}
@@ -76,8 +75,8 @@ part-count-end c = search needs
 count-requires : tie.Need-count-requires
 count-requires c κs = search needs
 
-add-t18 : tie.Need-add-t18
-add-t18 c = search needs
+add-t19 : tie.Need-add-t19
+add-t19 c = search needs
 
 same-length-2 : tie.Need-same-length-2
 same-length-2 c = search needs
@@ -112,6 +111,6 @@ read-more-spec =
     part-count-start
     part-count-end
     count-requires
-    add-t18
+    add-t19
     same-length-2
     returns-3)

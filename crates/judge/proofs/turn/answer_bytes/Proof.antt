@@ -32,7 +32,7 @@ write-answer-requires c κs = let left = c .before .before .before .before in
     let stepped = given left in
     let a = entry (lent (stepped .before)) in
     let k = stepped .step-bytes .ensures (a .pre .0 .0) (a .pre .0 .1) in
-    (a .pre .1 .0, words-held (k .holds))
+    (a .pre .1 .0, words-held (k .holds .state))
 
 same-length : tie.Need-same-length
 same-length c = search needs

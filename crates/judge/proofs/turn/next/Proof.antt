@@ -22,7 +22,7 @@ cut c = c .before .before .before .before .before
 
 abbrev called : tie.After-struct-known → tie.After-answer-bytes
 called c =
-    let c1 : tie.After-slice-known14 = c .before .before .before .before .before in
+    let c1 : tie.After-slice-known14 = c .before .before .before .before .before .before in
     let c2 : tie.After-slice-known11 = c1 .before .before .before .before .before .before in
     c2 .before .before .before .before .before .before
 
@@ -61,8 +61,8 @@ answer-bytes-requires c κs = let ended = cut (c .before .before .before .before
       ),
     )
 
-add-t36 : tie.Need-add-t36
-add-t36 c = omega (arith, entry (cut (called c .before .before .before .before .before .before) .before) .pre .1 .0 .1 .1 .1)
+add-t39 : tie.Need-add-t39
+add-t39 c = omega (arith, entry (cut (called c .before .before .before .before .before .before) .before) .pre .1 .0 .1 .1 .1)
 
 same-length : tie.Need-same-length
 same-length c = search needs
@@ -106,7 +106,7 @@ next-spec =
     part-answer-bytes-start
     part-answer-bytes-end
     answer-bytes-requires
-    add-t36
+    add-t39
     same-length
     same-length-2
     same-length-3

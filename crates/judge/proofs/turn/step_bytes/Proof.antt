@@ -1,10 +1,10 @@
 -- Too few bytes for the fields, or the words behind them are read (Decoding).
 use Prim.Native.Nat.{ℕ, _-_, _<_}
-use mathlib.Core.Path.{sym, ap, _∙_}
+use mathlib.Core.Path.{sym, ap, _∙_, refl}
 use lib.ListN.{length, getD, drop, length-take, length-drop}
 use lib.Seq.{take-all}
 use Rattle.definition.specs.Run.{wordsOf}
-use Rattle.step.proofs.Steps.{short-refused, stepped-refused}
+use Rattle.step.proofs.Steps.{turned-short}
 use Rattle.judge.proofs.Decoding.{few-words, decoded}
 use borrow.Author.Needs.{needs}
 use native.Mathlib.Omega.{arith}
@@ -18,7 +18,7 @@ entry c =
 
 returns : tie.Need-returns
 returns c = let bytes = entry (c .before) .args .bytes .now in
-    λ s h. stepped-refused h (wordsOf bytes) (short-refused s (wordsOf bytes) (few-words bytes (c .if1 .taken)))
+    λ r h. turned-short h (wordsOf bytes) (few-words bytes (c .if1 .taken)) refl
 
 sub-read-words : tie.Need-sub-read-words
 sub-read-words c = search needs
@@ -32,18 +32,18 @@ part-read-words-end c = search needs
 read-words-requires : tie.Need-read-words-requires
 read-words-requires c κs = search needs
 
-slice-reshare-prefix-step-decoded : tie.Need-slice-reshare-prefix-step-decoded
-slice-reshare-prefix-step-decoded c = let lent = c .before .before .before .before .before .before in
+slice-reshare-prefix-turn-decoded : tie.Need-slice-reshare-prefix-turn-decoded
+slice-reshare-prefix-turn-decoded c = let lent = c .before .before .before .before .before .before in
     let read = lent .before .before .read-words in
     omega (arith, read .ensures .count, ap length (read .ensures .words), length-take (read .result) (read .last .1 .0))
 
-slice-aggregate-step-decoded : tie.Need-slice-aggregate-step-decoded
-slice-aggregate-step-decoded c = let lent = c .before .before .before .before .before .before in
+slice-aggregate-turn-decoded : tie.Need-slice-aggregate-turn-decoded
+slice-aggregate-turn-decoded c = let lent = c .before .before .before .before .before .before in
     let k = lent .before .before .before .read-words .ensures in
     k .count ∙ sym (ap length (k .words))
 
-step-decoded-requires : tie.Need-step-decoded-requires
-step-decoded-requires c κs = let lent = c .before .before .before .before .before .before in
+turn-decoded-requires : tie.Need-turn-decoded-requires
+turn-decoded-requires c κs = let lent = c .before .before .before .before .before .before in
     let read = lent .before .before .before in
     let k = read .read-words .ensures in
     let tested = read .before .before .before in
@@ -87,7 +87,7 @@ returns-2 c = let left = c .before .before .before .before .before .before in
     let small : (i : ℕ) → getD bytes i 0 < 256 = λ i. omega (arith, tested .before .before .shared-slice-known .given i) in
     let behind = k .words ∙ ap wordsOf (take-all (length bytes - 16) (drop 16 bytes) (omega (arith, length-drop 16 bytes))) in
     let d = decoded bytes _ (a .args .q) (omega arith) small (a .pre .1 .1 (omega arith)) behind in
-    λ s h. stepped .step-decoded .ensures s (wordsOf bytes) h d
+    λ r h. stepped .turn-decoded .ensures r (wordsOf bytes) h d
 
 pub step-bytes-spec : {M : Type 1} → statement M
 step-bytes-spec =
@@ -98,9 +98,9 @@ step-bytes-spec =
     part-read-words-start
     part-read-words-end
     read-words-requires
-    slice-reshare-prefix-step-decoded
-    slice-aggregate-step-decoded
-    step-decoded-requires
+    slice-reshare-prefix-turn-decoded
+    slice-aggregate-turn-decoded
+    turn-decoded-requires
     same-length
     same-length-2
     same-length-3

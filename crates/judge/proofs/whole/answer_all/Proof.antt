@@ -9,6 +9,7 @@ use denote.Ref.{now}
 use lib.ListN.{length, drop, length-drop}
 use lib.Seq.{take-all}
 use Rattle.stream.specs.Stream.{CutOf}
+use Rattle.pointer.specs.declared.width.Width.the-variants.{Bits64}
 use Rattle.judge.proofs.Runs.{advanced, performing-start, performing-next, goes, end-ahead, end-within}
 use Rattle.judge.specs.Turn.{lineRoom, Taken}
 use Rattle.judge.specs.Whole.{PerformingIn}
@@ -58,7 +59,7 @@ one-more : (c : tie.After-next Inv-loop μ-loop) → let l = head c .loop in let
 one-more c = let h = head c .loop .inv .0 .performing in c .next .ensures (h .state) (h .holds)
 
 loop-holds : tie.Need-loop-holds Inv-loop μ-loop
-loop-holds c = (record { performing = performing-start (now (entry c .args .run)) (record { from = 0; at = 0; index = 0; refused = false }) (entry c .pre .0) refl refl refl; fits = omega arith }, (refl, (refl, (refl, (refl, (refl, (refl, (refl, refl))))))))
+loop-holds c = (record { performing = performing-start (now (entry c .args .run)) (record { from = 0; at = 0; index = 0; refused = false; width = Bits64 }) (record { state = entry c .pre .0; width = refl }) refl refl refl; fits = omega arith }, (refl, (refl, (refl, (refl, (refl, (refl, (refl, refl))))))))
 
 goes-on-requires : tie.Need-goes-on-requires Inv-loop μ-loop
 goes-on-requires c κs = search needs

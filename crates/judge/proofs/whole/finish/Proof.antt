@@ -42,7 +42,7 @@ room c = let q = entry (c .before) .args .p in
     leb-true _ _ (sym (c .before .has-room .ensures) ∙ not-over (q .refused) (q .from) (length (now (entry (c .before) .args .run))) (c .before .has-room .result) (c .if1 .left) .1)
 
 memory-lines-requires : tie.Need-memory-lines-requires
-memory-lines-requires c κs = let h = entry (c .before .before) .pre .0 .1 .performing in ((h .state .memory, memory-held (h .holds)), room (c .before))
+memory-lines-requires c κs = let h = entry (c .before .before) .pre .0 .1 .performing in ((h .state .state .memory, memory-held (h .holds .state)), room (c .before))
 
 same-length : tie.Need-same-length
 same-length c = search needs
@@ -53,9 +53,9 @@ returns-2 c = let t = tested c in
     let h = s .pre .0 .1 .performing in
     let q = s .args .p in
     let k = performing-end h (not-over (q .refused) (q .from) (length (now (s .args .run))) (t .before .has-room .result) (t .if1 .left) .0) in
-    let w = c .before .before .memory-lines .ensures (h .state .memory) (memory-held (h .holds)) in
-    let fits = memory-inside (memory-held (h .holds)) w (room t) in
-    record { judged = record { fits = fits; text = text-behind (memoryLines 0 (h .state .memory)) w fits ∙ text-whole k } }
+    let w = c .before .before .memory-lines .ensures (h .state .state .memory) (memory-held (h .holds .state)) in
+    let fits = memory-inside (memory-held (h .holds .state)) w (room t) in
+    record { judged = record { fits = fits; text = text-behind (memoryLines 0 (h .state .state .memory)) w fits ∙ text-whole k } }
 
 pub finish-spec : {M : Type 1} → statement M
 finish-spec =

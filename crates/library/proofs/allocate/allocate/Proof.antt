@@ -1,7 +1,7 @@
 -- 1, 2, or the allocation in the memory that the buffers hold.
 use mathlib.Core.Path.{_∙_, sym}
-use borrow.Author.Needs.{needs}
 use borrow.Author.Tests.{not-true, not-false}
+use borrow.Author.Needs.{needs}
 use Rattle.library.proofs.Served.{not-formed, bad-field}
 use Rattle.library.proofs.Performed.{can-enter, allocated}
 use Rattle.library.proofs.allocate.allocate.Statement.{statement}
@@ -9,10 +9,10 @@ use Rattle.library.proofs.allocate.allocate.Tie as tie
 
 -- ---- states by name: `g-before-f` is the state behind g, as it is known behind f; the first one is `entry`
 abbrev else2-before-allocate : tie.After-allocate → tie.Else2
-else2-before-allocate c = c .before .before .before
+else2-before-allocate c = c .before .before .before .before
 
-well-formed-requires : tie.Need-well-formed-requires
-well-formed-requires c κs = search needs
+well-formed-at-requires : tie.Need-well-formed-at-requires
+well-formed-at-requires c κs = search needs
 
 same-length : tie.Need-same-length
 same-length c = search needs
@@ -21,7 +21,7 @@ same-length-2 : tie.Need-same-length-2
 same-length-2 c = search needs
 
 returns : tie.Need-returns
-returns c = not-formed _ _ _ _ (sym (c .before .well-formed .ensures .0) ∙ not-true _ (c .if1 .taken))
+returns c = not-formed _ _ _ _ _ (sym (c .before .well-formed-at .ensures) ∙ not-true _ (c .if1 .taken))
 
 bad-allocation-requires : tie.Need-bad-allocation-requires
 bad-allocation-requires c κs = search needs
@@ -34,13 +34,18 @@ same-length-4 c = search needs
 
 returns-2 : tie.Need-returns-2
 returns-2 c =
-    bad-field _ _ _ _ (sym (c .before .before .before .well-formed .ensures .0) ∙ not-false _ (c .before .before .if1 .left))
+    bad-field _ _ _ _ _ (sym (c .before .before .before .well-formed-at .ensures) ∙ not-false _ (c .before .before .if1 .left))
     (sym (c .before .bad-allocation .ensures) ∙ c .if2 .taken)
+
+width-at-requires : tie.Need-width-at-requires
+width-at-requires c κs = search needs
 
 allocate-requires : tie.Need-allocate-requires
 allocate-requires c κs =
-    let s = c .before .before in
-    (_, (_, can-enter _ (sym (s .before .before .before .well-formed .ensures .0) ∙ not-false _ (s .before .before .if1 .left)) _ _ (sym (s .before .bad-allocation .ensures) ∙ s .if2 .left)))
+    let s = c .before .before .before in
+    let formed = sym (s .before .before .before .well-formed-at .ensures) ∙ not-false _ (s .before .before .if1 .left) in
+    let fine = sym (s .before .bad-allocation .ensures) ∙ s .if2 .left in
+    (_, (_, can-enter _ _ formed _ _ _ fine))
 
 same-length-5 : tie.Need-same-length-5
 same-length-5 c = search needs
@@ -50,16 +55,17 @@ same-length-6 c = search needs
 
 returns-3 : tie.Need-returns-3
 returns-3 c =
-    let s = else2-before-allocate (c .before .before .before .before) in
-    let formed = sym (s .before .before .before .well-formed .ensures .0) ∙ not-false _ (s .before .before .if1 .left) in
+    let made = c .before .before .before .before in
+    let s = else2-before-allocate made in
+    let formed = sym (s .before .before .before .well-formed-at .ensures) ∙ not-false _ (s .before .before .if1 .left) in
     let fine = sym (s .before .bad-allocation .ensures) ∙ s .if2 .left in
-    allocated _ formed _ _ fine _ _ (c .before .before .before .before .allocate .ensures _ _ (can-enter _ formed _ _ fine))
+    allocated _ _ formed _ _ _ fine _ (made .before .width-at .ensures) (made .allocate .ensures _ _ (can-enter _ _ formed _ _ _ fine))
 
 pub allocate-spec : {M : Type 1} → statement M
 allocate-spec =
     tie.close
     (tie.spec
-    well-formed-requires
+    well-formed-at-requires
     same-length
     same-length-2
     returns
@@ -67,6 +73,7 @@ allocate-spec =
     same-length-3
     same-length-4
     returns-2
+    width-at-requires
     allocate-requires
     same-length-5
     same-length-6

@@ -5,16 +5,16 @@ use Rattle.library.specs.Entry.{malformedAnswer}
 use Rattle.library.proofs.fields.malformed.Statement.{statement}
 use Rattle.library.proofs.fields.malformed.Tie as tie
 
-well-formed-requires : tie.Need-well-formed-requires
-well-formed-requires c κs = search needs
+well-formed-at-requires : tie.Need-well-formed-at-requires
+well-formed-at-requires c κs = search needs
 
 returns : tie.Need-returns
 unfolding malformedAnswer
-returns c = rw (sym (c .before .well-formed .ensures .0) ∙ c .if1 .taken)
+returns c = rw (sym (c .before .well-formed-at .ensures) ∙ c .if1 .taken)
 
 returns-2 : tie.Need-returns-2
 unfolding malformedAnswer
-returns-2 c = rw (sym (c .before .well-formed .ensures .0) ∙ c .if1 .left)
+returns-2 c = rw (sym (c .before .well-formed-at .ensures) ∙ c .if1 .left)
 
 pub malformed-spec : {M : Type 1} → statement M
-malformed-spec = tie.close (tie.spec well-formed-requires returns returns-2)
+malformed-spec = tie.close (tie.spec well-formed-at-requires returns returns-2)

@@ -32,7 +32,7 @@ abbrev ended : tie.After-slice-known6 → tie.After-end-call-held
 ended c = c .before .before .before .before .before .before
 
 -- what is lent is not refused with 1
-fine : (c : tie.Else1) → let s = entry (c .before) in isLentWithArea (s .args .len) (s .args .count) (s .args .area .now) (memory s) ≡ true
+fine : (c : tie.Else1) → let s = entry (c .before) in isLentWithArea (s .args .width) (s .args .len) (s .args .count) (s .args .area .now) (memory s) ≡ true
 fine c = sym (c .before .is-lent-with-area .ensures) ∙ not-false _ (c .if1 .left)
 
 is-lent-with-area-requires : tie.Need-is-lent-with-area-requires
@@ -50,7 +50,7 @@ same-length-3 c = search needs
 returns : tie.Need-returns
 returns c =
     let s = entry (c .before) in
-    not-lent (s .args .len) (s .args .count) (s .args .area .now) (memory s) (sym (c .before .is-lent-with-area .ensures) ∙ not-true _ (c .if1 .taken)) _
+    not-lent (s .args .width) (s .args .len) (s .args .count) (s .args .area .now) (memory s) (sym (c .before .is-lent-with-area .ensures) ∙ not-true _ (c .if1 .taken)) _
 
 end-call-held-requires : tie.Need-end-call-held-requires
 end-call-held-requires c κs =
@@ -58,7 +58,7 @@ end-call-held-requires c κs =
     let s = entry (lent .before) in
     let b = memory s in
     let t = s .args in
-    ((view b, holds-marked (memory-lent (t .len) (t .count) (t .area .now) b (fine lent))), (count-lent (t .len) (t .count) (t .area .now) b (fine lent), area-lent (t .len) (t .count) (t .area .now) b (fine lent)))
+    ((view b, holds-marked (memory-lent (t .width) (t .len) (t .count) (t .area .now) b (fine lent))), (count-lent (t .width) (t .len) (t .count) (t .area .now) b (fine lent), area-lent (t .width) (t .len) (t .count) (t .area .now) b (fine lent)))
 
 same-length-4 : tie.Need-same-length-4
 same-length-4 c = search needs
@@ -76,7 +76,7 @@ returns-2 c =
     let b = memory s in
     let t = s .args in
     let left = ended c .end-call-held .ensures in
-    ended-lent (t .len) (t .count) (t .area .now) b (fine lent) (left .0 (view b) (holds-marked (memory-lent (t .len) (t .count) (t .area .now) b (fine lent)))) (left .1)
+    ended-lent (t .width) (t .len) (t .count) (t .area .now) b (fine lent) (left .0 (view b) (holds-marked (memory-lent (t .width) (t .len) (t .count) (t .area .now) b (fine lent)))) (left .1)
 
 pub end-call-list-spec : {M : Type 1} → statement M
 end-call-list-spec =

@@ -35,7 +35,7 @@ abbrev made : tie.After-entered-node → tie.After-retag-held
 made c = retagged-before-protectors (c .before .before .before .before .before)
 
 -- what is lent is not refused with 1
-fine : (c : tie.Else1) → let s = entry (c .before) in isLent (s .args .len) (s .args .count) (memory s) ≡ true
+fine : (c : tie.Else1) → let s = entry (c .before) in isLent (s .args .width) (s .args .len) (s .args .count) (memory s) ≡ true
 fine c = sym (c .before .is-lent .ensures) ∙ not-false _ (c .if1 .left)
 
 is-lent-requires : tie.Need-is-lent-requires
@@ -60,7 +60,7 @@ returns : tie.Need-returns
 returns c =
     let s = entry (c .before .before) in
     let t = s .args in
-    not-lent (t .settings) (thinPointerOf (t .p)) (t .layout .now) (t .len) (t .count) (memory s) (sym (c .before .before .is-lent .ensures) ∙ not-true _ (c .before .if1 .taken)) (c .without-entry .ensures)
+    not-lent (t .width) (t .settings) (thinPointerOf (t .p)) (t .layout .now) (t .len) (t .count) (memory s) (sym (c .before .before .is-lent .ensures) ∙ not-true _ (c .before .if1 .taken)) (c .without-entry .ensures)
 
 bad-fields-requires : tie.Need-bad-fields-requires
 bad-fields-requires c κs = search needs
@@ -85,13 +85,13 @@ returns-2 c =
     let tested = c .before .before in
     let s = entry (tested .before .before) in
     let t = s .args in
-    bad-field (t .settings) (thinPointerOf (t .p)) (t .layout .now) (t .len) (t .count) (memory s) (fine (tested .before)) (sym (tested .bad-fields .ensures) ∙ c .before .if2 .taken) (c .«without-entry2» .ensures)
+    bad-field (t .width) (t .settings) (thinPointerOf (t .p)) (t .layout .now) (t .len) (t .count) (memory s) (fine (tested .before)) (sym (tested .bad-fields .ensures) ∙ c .before .if2 .taken) (c .«without-entry2» .ensures)
 
 retag-held-requires : tie.Need-retag-held-requires
 retag-held-requires c κs =
     let passed = c .before .before .before .before .before .before in
     let s = entry (passed .before) in
-    (view (memory s), lent-nodes (s .args .len) (s .args .count) (memory s) (fine passed))
+    (view (memory s), lent-nodes (s .args .width) (s .args .len) (s .args .count) (memory s) (fine passed))
 
 entered-node-requires : tie.Need-entered-node-requires
 entered-node-requires c κs = search needs
@@ -100,7 +100,7 @@ with-entry-requires : tie.Need-with-entry-requires
 with-entry-requires c κs =
     let passed = good (made c) .before .before in
     let s = entry (passed .before) in
-    lent-count (s .args .len) (s .args .count) (memory s) (fine passed)
+    lent-count (s .args .width) (s .args .len) (s .args .count) (memory s) (fine passed)
 
 same-length-9 : tie.Need-same-length-9
 same-length-9 c = search needs
@@ -120,7 +120,7 @@ returns-3 c =
     let tested = good retag .before in
     let s = entry (tested .before .before) in
     let t = s .args in
-    retagged (t .settings) (thinPointerOf (t .p)) (t .layout .now) (t .len) (t .count) (memory s) (fine (tested .before)) (sym (tested .bad-fields .ensures) ∙ good retag .if2 .left)
+    retagged (t .width) (t .settings) (thinPointerOf (t .p)) (t .layout .now) (t .len) (t .count) (memory s) (fine (tested .before)) (sym (tested .bad-fields .ensures) ∙ good retag .if2 .left)
     (retag .retag-held .ensures) (c .before .entered-node .result) (c .before .entered-node .ensures) (c .with-entry .ensures)
 
 pub retag-list-spec : {M : Type 1} → statement M

@@ -5,6 +5,7 @@ use native.Mathlib.Omega.{arith}
 use borrow.Author.Needs.{needs}
 use denote.Ref.{now}
 use Rattle.definition.specs.Memory.{AllocationKind, Memory, isPickable, exceedsBounds, ofAllocation}
+use Rattle.pointer.specs.Width.{widthOf}
 use Rattle.tables.specs.Held.{AllocationFits, Records}
 use Rattle.memory.specs.Allocate.{CanAllocate}
 use Rattle.memory.proofs.Allocated.{unpickable-allocated, exceeds-allocated, accepts-allocated, room-fits}
@@ -25,7 +26,7 @@ abbrev room-before-appended : tie.After-append-allocation → tie.Else2
 room-before-appended c = c .before .before .before
 
 -- 5 was passed
-picked : (c : tie.Else1) {m : Memory} → let a = entry-before-picked c .args in Records m (now (a .allocs)) → not (isPickable m (a .len) (a .exponent) (a .address)) ≡ false
+picked : (c : tie.Else1) {m : Memory} → let a = entry-before-picked c .args in Records m (now (a .allocs)) → not (isPickable (widthOf (a .width)) m (a .len) (a .exponent) (a .address)) ≡ false
 picked c {m} h = sym (c .before .fails-pick .ensures m h) ∙ c .if1 .left
 
 -- and 15
@@ -34,7 +35,7 @@ room c {m} h = sym (c .before .exceeds-bounds .ensures m h) ∙ c .if2 .left
 
 fits : (c : tie.Else2) {m : Memory} {k : AllocationKind} → let a = entry-before-room c .args in CanAllocate m k (now (a .allocs)) (now (a .codes)) (a .kind) (a .exponent)
     → AllocationFits m (now (a .allocs)) (now (a .codes)) (a .len)
-fits c {m} {k} h = room-fits m k _ _ (entry-before-room c .args .address) h (room c (h .records))
+fits c {m} {k} h = room-fits m k h (room c (h .records))
 
 fails-pick-requires : tie.Need-fails-pick-requires
 fails-pick-requires c κs = search needs
@@ -43,7 +44,7 @@ same-length : tie.Need-same-length
 same-length c = search needs
 
 returns : tie.Need-returns
-returns c = λ m k h. unpickable-allocated m k _ _ _ h (sym (c .before .fails-pick .ensures m (h .records)) ∙ c .if1 .taken)
+returns c = λ m k h. unpickable-allocated _ m k _ _ _ h (sym (c .before .fails-pick .ensures m (h .records)) ∙ c .if1 .taken)
 
 exceeds-bounds-requires : tie.Need-exceeds-bounds-requires
 exceeds-bounds-requires c κs = search needs
@@ -52,7 +53,7 @@ same-length-2 : tie.Need-same-length-2
 same-length-2 c = search needs
 
 returns-2 : tie.Need-returns-2
-returns-2 c = λ m k h. exceeds-allocated m k _ _ _ h (picked (c .before .before .before) (h .records)) (sym (c .before .exceeds-bounds .ensures m (h .records)) ∙ c .if2 .taken)
+returns-2 c = λ m k h. exceeds-allocated _ m k _ _ _ h (picked (c .before .before .before) (h .records)) (sym (c .before .exceeds-bounds .ensures m (h .records)) ∙ c .if2 .taken)
 
 append-allocation-requires : tie.Need-append-allocation-requires
 append-allocation-requires c κs = let passed = c .before .before in let (m, (k, h)) = entry-before-room passed .pre in (m, fits passed h)
@@ -74,7 +75,7 @@ returns-3 : tie.Need-returns-3
 returns-3 c = λ m k h.
     let appended = c .before .before .before .before in
     let passed = room-before-appended appended in
-    accepts-allocated m k _ _ _ h (picked (picked-before-room passed) (h .records)) (room passed (h .records)) (appended .append-allocation .ensures m k (fits passed h) (h .is-kind))
+    accepts-allocated _ m k _ _ _ h (picked (picked-before-room passed) (h .records)) (room passed (h .records)) (appended .append-allocation .ensures m k (fits passed h) (h .is-kind))
 
 pub allocate-spec : {M : Type 1} → statement M
 allocate-spec =

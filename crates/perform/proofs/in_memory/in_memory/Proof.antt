@@ -4,6 +4,7 @@ use mir.Syntax.{w64}
 use mir.Facts.{toZ-ofZ}
 use borrow.Author.Needs.{needs, sfits-of}
 use Rattle.pointer.specs.Pointer.{back, ahead}
+use Rattle.pointer.specs.Width.{widthOf}
 use Rattle.bounds.proofs.Reach.{reach-answers}
 use Rattle.bounds.proofs.Leak.{check-answers}
 use Rattle.memory.proofs.Afterwards.{holds-bytes}
@@ -135,6 +136,9 @@ enum-told-8 c = search needs
 enum-told-9 : tie.Need-enum-told-9
 enum-told-9 c = search needs
 
+enum-told-10 : tie.Need-enum-told-10
+enum-told-10 c = search needs
+
 same-length : tie.Need-same-length
 same-length c = search needs
 
@@ -142,7 +146,7 @@ same-length-2 : tie.Need-same-length-2
 same-length-2 c = search needs
 
 returns : tie.Need-returns
-returns c = λ s h. allocate-left h (enum-told-before-allocate (c .before .before .before .before) .enum-told .given .1) (wide-before-allocate (c .before .before .before .before) .wide .ensures) (wide2-before-allocate (c .before .before .before .before) .wide2 .ensures) (wide3-before-allocate (c .before .before .before .before) .wide3 .ensures) (c .before .before .before .before .allocate .ensures (s .memory) _ (can h (enum-told-before-allocate (c .before .before .before .before) .enum-told .given .1) (wide-before-allocate (c .before .before .before .before) .wide .ensures) (wide2-before-allocate (c .before .before .before .before) .wide2 .ensures) (wide3-before-allocate (c .before .before .before .before) .wide3 .ensures)))
+returns c = λ s h. allocate-left h (enum-told-before-allocate (c .before .before .before .before) .enum-told .given .1) (wide-before-allocate (c .before .before .before .before) .wide .ensures) (wide2-before-allocate (c .before .before .before .before) .wide2 .ensures) (wide3-before-allocate (c .before .before .before .before) .wide3 .ensures) (widthOf (entry-before-wide (wide-before-allocate (c .before .before .before .before)) .args .width)) (c .before .before .before .before .allocate .ensures (s .memory) _ (can h (enum-told-before-allocate (c .before .before .before .before) .enum-told .given .1) (wide-before-allocate (c .before .before .before .before) .wide .ensures) (wide2-before-allocate (c .before .before .before .before) .wide2 .ensures) (wide3-before-allocate (c .before .before .before .before) .wide3 .ensures)))
 
 same-length-3 : tie.Need-same-length-3
 same-length-3 c = search needs
@@ -151,7 +155,7 @@ same-length-4 : tie.Need-same-length-4
 same-length-4 c = search needs
 
 returns-2 : tie.Need-returns-2
-returns-2 c = λ s h. deallocate-left h (enum-told2-before-deallocate (c .before .before .before .before) .enum-told2 .given .1) (pointer-before-deallocate (c .before .before .before .before) .pointer .ensures) (wide-before-deallocate (c .before .before .before .before) .wide .ensures) (wide2-before-deallocate (c .before .before .before .before) .wide2 .ensures) (wide3-before-deallocate (c .before .before .before .before) .wide3 .ensures) (c .before .before .before .before .deallocate .ensures (s .memory) _ (holds-marked (h .holds)) (deallocate-kind h (enum-told2-before-deallocate (c .before .before .before .before) .enum-told2 .given .1) (pointer-before-deallocate (c .before .before .before .before) .pointer .ensures) (wide-before-deallocate (c .before .before .before .before) .wide .ensures) (wide2-before-deallocate (c .before .before .before .before) .wide2 .ensures) (wide3-before-deallocate (c .before .before .before .before) .wide3 .ensures)))
+returns-2 c = λ s h. deallocate-left h (enum-told2-before-deallocate (c .before .before .before .before) .enum-told2 .given .1) (pointer-before-deallocate (c .before .before .before .before) .pointer .ensures) (wide-before-deallocate (c .before .before .before .before) .wide .ensures) (wide2-before-deallocate (c .before .before .before .before) .wide2 .ensures) (wide3-before-deallocate (c .before .before .before .before) .wide3 .ensures) (widthOf (entry-before-wide (wide-before-deallocate (c .before .before .before .before)) .args .width)) (c .before .before .before .before .deallocate .ensures (s .memory) _ (holds-marked (h .holds)) (deallocate-kind h (enum-told2-before-deallocate (c .before .before .before .before) .enum-told2 .given .1) (pointer-before-deallocate (c .before .before .before .before) .pointer .ensures) (wide-before-deallocate (c .before .before .before .before) .wide .ensures) (wide2-before-deallocate (c .before .before .before .before) .wide2 .ensures) (wide3-before-deallocate (c .before .before .before .before) .wide3 .ensures)))
 
 same-length-5 : tie.Need-same-length-5
 same-length-5 c = search needs
@@ -167,26 +171,26 @@ returns-3 c = λ s h.
     let done = c .before .before .before .before in
     let at = done .before .before .before .before .before in
     let asked = at .before in
-    access-left h (either _ (at .match .keys3)) (asked .pointer .ensures) (asked .before .before .wide2 .ensures) (asked .before .wide3 .ensures) (done .before .access-kind .ensures)
+    access-left h (either _ (at .match .keys3)) (widthOf (entry-before-pointer asked .args .width)) (asked .pointer .ensures) (asked .before .before .wide2 .ensures) (asked .before .wide3 .ensures) (done .before .access-kind .ensures)
     (done .load-or-store .ensures .0) (done .load-or-store .ensures .1)
 
 same-length-8 : tie.Need-same-length-8
 same-length-8 c = search needs
 
 returns-4 : tie.Need-returns-4
-returns-4 c = λ s h. dereferenceable-left h (c .before .before .before .before .pointer .ensures) (c .before .before .enum-told3 .given .1) (c .before .before .before .before .before .before .wide2 .ensures) (reach-answers _ _ _ (s .memory) _ (c .dereferenceable .ensures (s .memory) (holds-records (h .holds))))
+returns-4 c = λ s h. dereferenceable-left h (c .before .before .before .before .pointer .ensures) (widthOf (entry-before-pointer (c .before .before .before .before) .args .width)) (c .before .before .enum-told3 .given .1) (c .before .before .before .before .before .before .wide2 .ensures) (reach-answers _ _ _ (s .memory) _ (c .dereferenceable .ensures (s .memory) (holds-records (h .holds))))
 
 same-length-9 : tie.Need-same-length-9
 same-length-9 c = search needs
 
 returns-5 : tie.Need-returns-5
-returns-5 c = λ s h. let a = entry-before-signed-dereferenceable c in let same = toZ-ofZ {w = w64} {z = c .before .signed-length .result} (sfits-of (c .before .signed-length .ok)) in signed-left h (c .before .before .before .before .before .pointer .ensures) (c .before .before .before .enum-told4 .given .1) (c .before .signed-length .result) (c .before .signed-length .ensures) {r = c .signed-dereferenceable .result} (rw (← ap back same, ← ap ahead same) (reach-answers _ _ _ (s .memory) (a .args .words .now) (c .signed-dereferenceable .ensures (s .memory) (holds-records (h .holds)))))
+returns-5 c = λ s h. let a = entry-before-signed-dereferenceable c in let same = toZ-ofZ {w = w64} {z = c .before .signed-length .result} (sfits-of (c .before .signed-length .ok)) in signed-left h (c .before .before .before .before .before .pointer .ensures) (widthOf (a .args .width)) (c .before .before .before .enum-told4 .given .1) (c .before .signed-length .result) (c .before .signed-length .ensures) {r = c .signed-dereferenceable .result} (rw (← ap back same, ← ap ahead same) (reach-answers _ _ _ (s .memory) (a .args .words .now) (c .signed-dereferenceable .ensures (s .memory) (holds-records (h .holds)))))
 
 same-length-10 : tie.Need-same-length-10
 same-length-10 c = search needs
 
 returns-6 : tie.Need-returns-6
-returns-6 c = λ s h. leak-left h (c .before .before .enum-told5 .given .1) (check-answers (s .memory) _ (c .leak-check .ensures (s .memory) (holds-records (h .holds))))
+returns-6 c = λ s h. leak-left h (widthOf (entry-before-pointer (c .before .before .before .before) .args .width)) (c .before .before .enum-told5 .given .1) (check-answers (s .memory) _ (c .leak-check .ensures (s .memory) (holds-records (h .holds))))
 
 returns-7 : tie.Need-returns-7
 returns-7 c = λ s h. absurd (not-alone h (c .enum-told6 .given .1) refl)
@@ -198,7 +202,10 @@ returns-9 : tie.Need-returns-9
 returns-9 c = λ s h. absurd (not-alone h (c .enum-told8 .given .1) refl)
 
 returns-10 : tie.Need-returns-10
-returns-10 c = λ s h. absurd (not-a-kind h (c .enum-told9 .given .1))
+returns-10 c = λ s h. absurd (not-alone h (c .enum-told9 .given .1) refl)
+
+returns-11 : tie.Need-returns-11
+returns-11 c = λ s h. absurd (not-a-kind h (c .enum-told10 .given .1))
 
 pub in-memory-spec : {M : Type 1} → statement M
 in-memory-spec =
@@ -225,6 +232,7 @@ in-memory-spec =
     enum-told-7
     enum-told-8
     enum-told-9
+    enum-told-10
     same-length
     same-length-2
     returns
@@ -244,4 +252,5 @@ in-memory-spec =
     returns-7
     returns-8
     returns-9
-    returns-10)
+    returns-10
+    returns-11)

@@ -12,11 +12,11 @@ use Rattle.run.proofs.list.run_cleared.Statement.{statement}
 use Rattle.run.proofs.list.run_cleared.Tie as tie
 
 abbrev Inv-loop : tie.InvT-loop
-Inv-loop allocs₀ parents₀ protectors₀ words₀ codes₀ frames₀ requests ends answers₀ w₀ from₀ i₀ allocs parents protectors words codes frames answers w from i =
-    (i ≤ length ends) × Going requests ends answers₀ i from w (buffers allocs parents protectors words codes) frames answers
+Inv-loop allocs₀ parents₀ protectors₀ words₀ codes₀ frames₀ requests ends answers₀ p₀ from₀ i₀ allocs parents protectors words codes frames answers p from i =
+    (i ≤ length ends) × Going requests ends answers₀ i from p (buffers allocs parents protectors words codes) frames answers
 
 abbrev μ-loop : tie.MeasureT-loop
-μ-loop allocs₀ parents₀ protectors₀ words₀ codes₀ frames₀ requests ends answers₀ w₀ from₀ i₀ allocs parents protectors words codes frames answers w from i =
+μ-loop allocs₀ parents₀ protectors₀ words₀ codes₀ frames₀ requests ends answers₀ p₀ from₀ i₀ allocs parents protectors words codes frames answers p from i =
     length ends - i
 
 -- ---- states by name
@@ -95,22 +95,22 @@ abbrev first : (c : tie.After-loop Inv-loop μ-loop) → tie.Start Inv-loop μ-l
 first c = entry (c .before .before)
 
 same-length : tie.Need-same-length Inv-loop μ-loop
-same-length c = state-lengths (c .before .loop .inv .1 .holds) .allocs ∙ sym (state-lengths (first c .pre) .allocs)
+same-length c = state-lengths (c .before .loop .inv .1 .holds .state) .allocs ∙ sym (state-lengths (first c .pre) .allocs)
 
 same-length-2 : tie.Need-same-length-2 Inv-loop μ-loop
-same-length-2 c = state-lengths (c .before .loop .inv .1 .holds) .parents ∙ sym (state-lengths (first c .pre) .parents)
+same-length-2 c = state-lengths (c .before .loop .inv .1 .holds .state) .parents ∙ sym (state-lengths (first c .pre) .parents)
 
 same-length-3 : tie.Need-same-length-3 Inv-loop μ-loop
-same-length-3 c = state-lengths (c .before .loop .inv .1 .holds) .protectors ∙ sym (state-lengths (first c .pre) .protectors)
+same-length-3 c = state-lengths (c .before .loop .inv .1 .holds .state) .protectors ∙ sym (state-lengths (first c .pre) .protectors)
 
 same-length-4 : tie.Need-same-length-4 Inv-loop μ-loop
-same-length-4 c = state-lengths (c .before .loop .inv .1 .holds) .words ∙ sym (state-lengths (first c .pre) .words)
+same-length-4 c = state-lengths (c .before .loop .inv .1 .holds .state) .words ∙ sym (state-lengths (first c .pre) .words)
 
 same-length-5 : tie.Need-same-length-5 Inv-loop μ-loop
-same-length-5 c = state-lengths (c .before .loop .inv .1 .holds) .codes ∙ sym (state-lengths (first c .pre) .codes)
+same-length-5 c = state-lengths (c .before .loop .inv .1 .holds .state) .codes ∙ sym (state-lengths (first c .pre) .codes)
 
 same-length-6 : tie.Need-same-length-6 Inv-loop μ-loop
-same-length-6 c = state-lengths (c .before .loop .inv .1 .holds) .frames ∙ sym (state-lengths (first c .pre) .frames)
+same-length-6 c = state-lengths (c .before .loop .inv .1 .holds .state) .frames ∙ sym (state-lengths (first c .pre) .frames)
 
 same-length-7 : tie.Need-same-length-7 Inv-loop μ-loop
 same-length-7 c = written-length (c .before .loop .inv .1 .written)

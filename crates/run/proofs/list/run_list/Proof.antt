@@ -87,8 +87,9 @@ same-length-13 c = search needs
 
 returns-2 : tie.Need-returns-2
 returns-2 c =
-    let lengths = measured (cleared (ran c .before) .before) in
-    list-ran (sym (lengths .before .have-lengths .ensures) ∙ not-false _ (lengths .if1 .left)) (ran c .run-cleared .ensures)
+    let done = ran (c .before) in
+    let lengths = measured (cleared (done .before) .before) in
+    list-ran (sym (lengths .before .have-lengths .ensures) ∙ not-false _ (lengths .if1 .left)) (done .run-cleared .ensures)
 
 pub run-list-spec : {M : Type 1} → statement M
 run-list-spec =

@@ -10,29 +10,29 @@ use Rattle.run.proofs.list.turn.Tie as tie
 abbrev entry-before-request : tie.After-slice-known6 → tie.Start
 entry-before-request c = c .before .before .before .before .before .before
 
-abbrev entry-before-asking : tie.After-step-arg → tie.Start
+abbrev entry-before-asking : tie.After-turn-arg → tie.Start
 entry-before-asking c = entry-before-request (c .before .before .before)
 
-abbrev entry : tie.After-step → tie.Start
+abbrev entry : tie.After-turn → tie.Start
 entry c = entry-before-asking (c .before .before .before .before .before .before)
 
 -- the step, as it is known behind all that it leaves, where its answer is put
-abbrev stepped-before-words : tie.After-slice-known10 → tie.After-step
+abbrev stepped-before-words : tie.After-slice-known10 → tie.After-turn
 stepped-before-words c = c .before .before .before .before .before .before
 
-abbrev stepped-before-frames : tie.After-slice-known12 → tie.After-step
+abbrev stepped-before-frames : tie.After-slice-known12 → tie.After-turn
 stepped-before-frames c = stepped-before-words (c .before .before .before .before)
 
-abbrev stepped : tie.After-put-answer-arg2 → tie.After-step
-stepped c = stepped-before-frames (c .before .before .before .before)
+abbrev stepped : tie.After-put-answer-arg2 → tie.After-turn
+stepped c = stepped-before-frames (c .before .before .before .before .before)
 
-step-requires : tie.Need-step-requires
-step-requires c κs = search needs
+turn-requires : tie.Need-turn-requires
+turn-requires c κs = search needs
 
 put-answer-requires : tie.Need-put-answer-requires
 put-answer-requires c κs =
     let s = entry (stepped c) in
-    omega (arith, few-words (stepped c .step .ensures (s .pre .0) (s .pre .1)))
+    omega (arith, few-words (stepped c .turn .ensures (s .pre .0) (s .pre .1)))
 
 same-length : tie.Need-same-length
 same-length c = search needs
@@ -58,13 +58,13 @@ same-length-7 c = search needs
 returns : tie.Need-returns
 returns c =
     let put = c .before .before in
-    λ s h. turned (stepped (put .before) .step .ensures s h) (put .put-answer .ensures)
+    λ s h. turned (stepped (put .before) .turn .ensures s h) (put .put-answer .ensures)
 
 pub turn-spec : {M : Type 1} → statement M
 turn-spec =
     tie.close
     (tie.spec
-    step-requires
+    turn-requires
     put-answer-requires
     same-length
     same-length-2

@@ -12,12 +12,15 @@ enum-known-answer-2 c = search needs
 flag-requires : tie.Need-flag-requires
 flag-requires c κs = search needs
 
+bits-requires : tie.Need-bits-requires
+bits-requires c κs = search needs
+
 returns : tie.Need-returns
 returns c = rw (c .before .answer .given .1)
 
 returns-2 : tie.Need-returns-2
-returns-2 c = rw (c .before .before .answer2 .given .1, c .flag .ensures)
+returns-2 c = rw (c .before .before .before .answer2 .given .1, c .before .flag .ensures, c .bits .ensures)
 
 pub list-reply-spec : {M : Type 1} → statement M
 list-reply-spec =
-    tie.close (tie.spec enum-known-answer enum-known-answer-2 flag-requires returns returns-2)
+    tie.close (tie.spec enum-known-answer enum-known-answer-2 flag-requires bits-requires returns returns-2)

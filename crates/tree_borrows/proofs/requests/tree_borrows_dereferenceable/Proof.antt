@@ -1,6 +1,7 @@
 -- 2 for the pointer, after 1; or the answer of `library` at it, as numbers.
 use mathlib.Core.Path.{sym, _∙_}
-use Rattle.tree_borrows.proofs.Replies.{bad-pointer, good-pointer}
+use Rattle.library.specs.Fields.{badAddress}
+use Rattle.tree_borrows.proofs.Replies.{or-true, at-address, bad-pointer, good-pointer}
 use borrow.Author.Needs.{needs}
 use Rattle.tree_borrows.proofs.requests.tree_borrows_dereferenceable.Statement.{statement}
 use Rattle.tree_borrows.proofs.requests.tree_borrows_dereferenceable.Tie as tie
@@ -15,7 +16,7 @@ reply-of-requires : tie.Need-reply-of-requires
 reply-of-requires c κs = search needs
 
 returns : tie.Need-returns
-returns c = bad-pointer _ _ _ _ (sym (c .before .before .before .bad-pointer .ensures) ∙ c .before .before .if1 .taken) (c .reply-of .ensures) (c .before .malformed .ensures)
+returns c = bad-pointer _ _ _ _ _ (or-true _ (sym (c .before .before .before .bad-pointer .ensures) ∙ c .before .before .if1 .taken)) (c .reply-of .ensures) (c .before .malformed .ensures)
 
 thin-pointer-requires : tie.Need-thin-pointer-requires
 thin-pointer-requires c κs = search needs
@@ -31,7 +32,10 @@ returns-2 c =
     let at = c .before in
     let read = at .before in
     let test = read .before in
-    rw (← read .thin-pointer .ensures) (good-pointer _ _ _ _ _ (sym (test .before .bad-pointer .ensures) ∙ test .if1 .left) (c .reply-of2 .ensures) (at .dereferenceable .ensures))
+    let asked = test .before in
+    let a = asked .before .before .before .before .before .before .args in
+    rw (← read .thin-pointer .ensures)
+    (good-pointer _ _ _ _ _ _ (at-address (badAddress (a .width)) (sym (asked .bad-pointer .ensures) ∙ test .if1 .left) (read .thin-pointer .ensures)) (c .reply-of2 .ensures) (at .dereferenceable .ensures))
 
 pub tree-borrows-dereferenceable-spec : {M : Type 1} → statement M
 tree-borrows-dereferenceable-spec =

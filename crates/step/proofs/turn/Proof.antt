@@ -1,14 +1,15 @@
 -- The lent words are 32-bit words, and their fields and what follows them are read off them (Steps).
-use Rattle.step.proofs.Steps.{all-words, decoded, short-refused, stepped-refused}
+use mathlib.Core.Path.{refl}
+use Rattle.step.proofs.Steps.{all-words, decoded, turned-short}
 use borrow.Author.Needs.{needs}
 use native.Mathlib.Omega.{arith}
-use Rattle.step.proofs.step.Statement.{statement}
-use Rattle.step.proofs.step.Tie as tie
+use Rattle.step.proofs.turn.Statement.{statement}
+use Rattle.step.proofs.turn.Tie as tie
 
 returns : tie.Need-returns
 returns c = let lent = c .before .before .before .before in
     let ws = lent .before .before .before .before .args .request .now in
-    λ s h. stepped-refused h ws (short-refused s ws (c .if1 .taken))
+    λ r h. turned-short h ws (c .if1 .taken) refl
 
 of-requires : tie.Need-of-requires
 of-requires c κs = search needs
@@ -16,8 +17,8 @@ of-requires c κs = search needs
 following-requires : tie.Need-following-requires
 following-requires c κs = search needs
 
-step-decoded-requires : tie.Need-step-decoded-requires
-step-decoded-requires c κs = let rest = c .before .before .before .before .before .before in
+turn-decoded-requires : tie.Need-turn-decoded-requires
+turn-decoded-requires c κs = let rest = c .before .before .before .before .before .before in
     let read = rest .before in
     let known = read .before .before in
     let lent = known .before .before .before in
@@ -57,16 +58,16 @@ returns-2 c = let left = c .before .before .before .before .before .before in
     let ws = a .args .request .now in
     let words = all-words ws (λ i. omega (arith, known .shared-slice-known .given i)) in
     let d = decoded ws words (read .of .result) (read .of .ensures) (rest .following .ensures) (omega arith) in
-    λ s h. stepped .step-decoded .ensures s ws h d
+    λ r h. stepped .turn-decoded .ensures r ws h d
 
-pub step-spec : {M : Type 1} → statement M
-step-spec =
+pub turn-spec : {M : Type 1} → statement M
+turn-spec =
     tie.close
     (tie.spec
     returns
     of-requires
     following-requires
-    step-decoded-requires
+    turn-decoded-requires
     same-length
     same-length-2
     same-length-3
