@@ -4,17 +4,18 @@
     oracle/definition.py [--seed S] [--count N] [--bytes B] [--lists L]
 
 Takes the runs and calls of docs/DIFFERENCES.md, which reach each bound by itself. Draws N lists that start from an empty memory, and N that start from a memory and frames drawn by chance, which reach what no run does (an end
-call that is refused). It takes the first L of each that have at most B bytes, and for whatever those do not reach the list of all that does
-with the fewest bytes and codes. It asks the oracle what each comes to (its answers, and the memory and frames that it leaves), and states for each list that the
+call that is refused). A third of each empty the memory now and then, to any width, or start at any. It takes the first L of each that have at most B bytes, and for whatever those do not reach the list of all that does
+with the fewest bytes and codes. It asks the oracle what each comes to (its answers, and the memory, frames and width that it leaves), and states for each list that the
 definition comes to the same, as a closed equation which the checker computes. The equations stand in a copy of the crate `definition` under
 target/, which is then checked. Nothing is assumed: an equation that does not hold is an error that names it.
 
 It says how many lists it passed over and why (too long, or too large a memory for the checker's steps), and what the others reached: answers by kind of request, the 60 combinations of code, access and
-relation, kinds of retags and layouts. The exit status is 1 if an equation does not hold, if the Rust has no answer to a list, or if an answer
-or combination that there is was not reached. Refusal 1 is not among them: it is about lent buffers, which the definition's requests do not have.
+relation, kinds of retags and layouts, and the edges of each width. The exit status is 1 if an equation does not hold, if the Rust has no answer to a list, or if an answer,
+combination or edge that there is was not reached. Refusal 1 is not among them: it is about lent buffers, which the definition's requests do not have.
 """
 import argparse
 import collections
+import itertools
 import pathlib
 import re
 import shutil
@@ -47,10 +48,30 @@ ANSWERS = {
     "dereferenceable": [0, 2, 4, 7, 8, 9],
     "signed dereferenceable": [0, 2, 4, 7, 8, 9],
     "leak check": [0, 2, 25],
-    "kinds 10 to 15": [2],
+    "kinds 10 to 14": [2],
+    "empty": [0, 2],
     "cut short": [2],
 }
 KIND_NAMES = list(ANSWERS)
+EMPTY = 15
+# What must be met of the widths, as `generate` names it.
+EDGES = [f"width {width}: by an emptying" for width in (16, 32, 64)] + [
+    f"width {width}: {edge}"
+    for width in (16, 32)
+    for edge in [
+        *(f"2 by the address, kind {kind}" for kind in (0, 1, 2, 3, 4, 7, 8)),
+        "2 by the address, length 0",
+        "2 by the address, without provenance",
+        "2 by the lowest address that is too big",
+        "2 by the lowest position",
+        "5 by address plus size",
+        "address plus size is the last address",
+        "half of all addresses are asked for",
+        "the highest position",
+        "emptied with a live allocation",
+        "emptied with an entry in a frame",
+    ]
+]
 
 
 def listed(items):
@@ -75,9 +96,14 @@ def answer(line):
 
 
 def state(lines):
-    """The state that the last lines of the output describe."""
+    """The state of a run that the last lines of the output describe."""
     memory, frames = memory_and_frames(lines)
-    return f"record {{ memory = {memory}; frames = {frames} }}"
+    return f"record {{ state = record {{ memory = {memory}; frames = {frames} }}; width = {width(lines)} }}"
+
+
+def width(lines):
+    (bits,) = [line.removeprefix("w ") for line in lines if line.startswith("w ")]
+    return f"Bits{bits}"
 
 
 def memory_and_frames(lines):
@@ -132,7 +158,7 @@ class Case:
         return f"(requestsOf {listed(map(str, self.run))})"
 
     def equation(self, opened):
-        start = "empty" if self.start is None else f"({state(self.start)})"
+        start = "start" if self.start is None else f"({state(self.start)})"
         return (
             f"{self.name} : run {start} {self.requests()} ≡ ({listed(map(answer, self.answers))}, {state(self.left)})\n"
             f"unfolding {opened}\n{self.name} = refl\n"
@@ -150,7 +176,9 @@ def kind_of(request):
     if len(words) < 4 or len(words[-1]) < 8:
         return "cut short"
     first, fourth = int(words[0], 16), int(words[3], 16)
-    return KIND_NAMES[min(first >> 28, 10)] if len(words) == 4 + following(first, fourth) else "cut short"
+    if len(words) != 4 + following(first, fourth):
+        return "cut short"
+    return "empty" if first >> 28 == EMPTY else KIND_NAMES[min(first >> 28, 10)]
 
 
 def unfolded():
@@ -163,12 +191,13 @@ def unfolded():
 
 
 def header(names):
-    extra = {"Permission": ["permission"], "Memory": ["refusedWith", "givesPointer", "givesWords", "leakAnswer"], "Frame": ["State", "empty"], "Run": ["restRequest", "run"]}
+    extra = {"Permission": ["permission"], "Memory": ["refusedWith", "givesPointer", "givesWords", "leakAnswer"], "Frame": ["State"], "Run": ["RunState", "restRequest", "run", "start"]}
     lines = [
         "use Prim.Native.Nat.{ℕ}",
         "use mathlib.Core.Path.{_≡_, refl}",
         "use mathlib.Core.Option.{none, some}",
         "use mathlib.Core.List.{List, [], _∷_, map}",
+        "use Rattle.definition.specs.Width.Width.{Bits16, Bits32, Bits64}",
         "use Rattle.definition.specs.Permission.Protected.{No, Weak, Strong}",
         "use Rattle.definition.specs.Memory.Liveness.{Live, Dead}",
         "use Rattle.definition.specs.Memory.AllocationKind.{Stack, Heap, Global, Function, VTable}",
@@ -195,7 +224,7 @@ def bytes_of(requests):
 
 
 def lines_after(requests):
-    """The memory and frames that a run leaves, as lines."""
+    """The memory, frames and width that a run leaves, as lines."""
     (output,) = asked(framed(bytes_of(requests)))
     return [line for line in output.decode().splitlines() if not line[0].isdigit()]
 
@@ -207,7 +236,7 @@ class Call:
         *before, last = run.requests
         self.name = f"page-{run.name}"
         self.run, self.answers, self.left, self.features = b"", [], [], set()
-        self.claim = f"{claimed(last.split(), memory_and_frames(lines_after(before))[0])} ≡ {run.said['library'][0]}"
+        self.claim = f"{claimed(last.split(), lines_after(before))} ≡ {run.said['library'][0]}"
 
     def unanswered(self):
         return []
@@ -219,16 +248,23 @@ class Call:
         return f"{self.name} : {self.claim}\nunfolding {opened}\n{self.name} = refl\n"
 
 
-def claimed(call, memory):
-    """A call in the definition's terms: its refusal, or the address that it gives."""
-    back_and_ahead = f"{max(-int(call[-1]), 0)} {max(int(call[-1]), 0)}"
+def claimed(call, lines):
+    """A call in the definition's terms, behind what left the lines: its refusal, or the address that it gives."""
+    memory, _ = memory_and_frames(lines)
     if call[0] == "allocate":
         _, _, exponent, address, size = call
-        return f"allocateRefusal {memory} {size} {exponent} {address}"
+        return f"allocateRefusal {width(lines)} {memory} {size} {exponent} {address}"
     if call[0] == "signed_dereferenceable":
-        pointer = f"record {{ address = {call[2]}; provenance = some ({provenance(call[1])}) }}"
-        return f"dereferenceable ({pointer}) {back_and_ahead} {memory} .0 .refusal"
-    return f"wrappingOffset (record {{ address = {call[1]}; provenance = none }}) {back_and_ahead} .address"
+        _, name, address, length = call
+        pointer = f"record {{ address = {address}; provenance = some ({provenance(name)}) }}"
+        return f"dereferenceable ({pointer}) {back_and_ahead(length)} {memory} .0 .refusal"
+    _, address, offset, *bits = call
+    at = f"Bits{bits[0]}" if bits else width(lines)
+    return f"wrappingOffset {at} (record {{ address = {address}; provenance = none }}) {back_and_ahead(offset)} .address"
+
+
+def back_and_ahead(length):
+    return f"{max(-int(length), 0)} {max(int(length), 0)}"
 
 
 def with_entry(run):
@@ -259,19 +295,19 @@ def page_cases():
     return cases
 
 
-def drawn_cases(seed, count, from_start):
-    """The lists of a seed, with what each reaches and what the Rust says to it."""
+def drawn_cases(seed, count, from_start, widths):
+    """The lists of a seed, with what each reaches and what the Rust says to it. The widths are 64, which all start with, or any."""
     lists, reached = WORK / "lists", WORK / "reached"
     options = ["--starts"] if from_start else []
-    command = [TOOLS / "generate", *options, "--seed", str(seed), "--count", str(count), "--out", lists, "--reached", reached]
+    command = [TOOLS / "generate", *options, "--width", widths, "--seed", str(seed), "--count", str(count), "--out", lists, "--reached", reached]
     subprocess.run(command, check=True, stdout=subprocess.DEVNULL)
     data = lists.read_bytes()
     options = ["--start"] if from_start else []
     outputs = asked(data, *options)
     features = [set(filter(None, line.split("; "))) for line in reached.read_text().splitlines()]
-    name = "start" if from_start else "list"
+    name = ("start-" if from_start else "list-") + ("" if widths == "64" else widths)
     parted = zip(parts(data), features, outputs)
-    return [Case(f"{name}-{n}", drawn, own, output, from_start) for n, (drawn, own, output) in enumerate(parted)]
+    return [Case(f"{name}{n}", drawn, own, output, from_start) for n, (drawn, own, output) in enumerate(parted)]
 
 
 def chosen_of(cases, most_bytes, most_lists):
@@ -319,10 +355,12 @@ def report(cases):
     pairs = {tuple(map(int, feature.split(" ")[1:])) for feature in features if feature.startswith("pair ")}
     all_pairs = {(code, access, relation) for code in range(15) for access in (0, 1) for relation in (0, 1)}
     missing += [f"code {code:x}, {['read', 'write'][access]}, {['local', 'foreign'][relation]}" for code, access, relation in sorted(all_pairs - pairs)]
-    layouts = sum(not feature.startswith(("pair ", "kind ")) for feature in features)
+    missing += [edge for edge in EDGES if edge not in features]
+    edges = sum(feature.startswith("width ") for feature in features)
+    layouts = sum(not feature.startswith(("pair ", "kind ", "width ")) for feature in features)
     refusals = sorted({refusal for _, refusal in counts if refusal})
     print(f"refusals: {', '.join(map(str, refusals))}")
-    print(f"combinations of code, access and relation: {len(pairs & all_pairs)} of 60; kinds of retags and layouts: {layouts}")
+    print(f"combinations of code, access and relation: {len(pairs & all_pairs)} of 60; kinds of retags and layouts: {layouts}; edges of a width: {edges}")
     print(f"missing: {', '.join(missing) or 'none'}")
     return missing
 
@@ -330,7 +368,7 @@ def report(cases):
 def main():
     options = argparse.ArgumentParser(description=__doc__, formatter_class=argparse.RawDescriptionHelpFormatter)
     options.add_argument("--seed", type=int, default=1)
-    options.add_argument("--count", type=int, default=20000, help="how many lists of each sort are drawn")
+    options.add_argument("--count", type=int, default=20000, help="how many lists of each sort are drawn, a third at any width")
     options.add_argument("--bytes", type=int, default=300, help="larger ones (bytes, and four for each code) are taken only for what the others do not reach")
     options.add_argument("--lists", type=int, default=1000, help="how many of the short ones of each sort are taken")
     chosen = options.parse_args()
@@ -343,14 +381,16 @@ def main():
     cases = page_cases()
     unanswered = [case for case in cases if case.unanswered()]
     print(f"docs/DIFFERENCES.md: {len(cases)} runs and calls taken")
-    for from_start, what in [(False, "from an empty memory"), (True, "from a memory drawn by chance")]:
-        drawn = drawn_cases(chosen.seed, chosen.count, from_start)
+    sorts = [(False, "from an empty memory"), (True, "from a memory drawn by chance")]
+    for (from_start, what), widths in itertools.product(sorts, ["64", "any"]):
+        share = lambda number: number - number // 3 if widths == "64" else number // 3
+        drawn = drawn_cases(chosen.seed, share(chosen.count), from_start, widths)
         without = [case for case in drawn if case.unanswered()]
         unanswered += without
-        short, added, longer = chosen_of([case for case in drawn if case not in without], chosen.bytes, chosen.lists)
+        short, added, longer = chosen_of([case for case in drawn if case not in without], chosen.bytes, share(chosen.lists))
         cases += short + added
         rest = len(drawn) - len(without) - len(short) - len(added)
-        print(f"seed {chosen.seed}, {what}: {len(drawn)} lists drawn, {len(short)} short ones taken and {len(added)} for what those do not reach")
+        print(f"seed {chosen.seed}, {what}, width {widths}: {len(drawn)} lists drawn, {len(short)} short ones taken and {len(added)} for what those do not reach")
         print(f"  passed over: {len(without)} without an answer of the Rust, {rest} others, as {longer} are larger than {chosen.bytes} or the number was full")
     for case in unanswered:
         print(f"  {case.name}: {case.unanswered()[0]}")

@@ -2,7 +2,7 @@
 """Tries every run of docs/DIFFERENCES.md, on the program and on the Rust.
 
     oracle/differences.py [--words] [NAME..]
-    oracle/differences.py --search COUNT [--seed S]
+    oracle/differences.py --search COUNT [--seed S] [--width W]
 
 Each run stands there in a block of runs: its name, its requests, what the program answers to the last of them (`here:`) and what the
 Rust says to it (`Rust:`). Behind a `|` stand lines that the output must have: of the memory that is left, or an earlier answer. The program is
@@ -13,6 +13,7 @@ something is not as the page says, or if a table and the blocks name different r
   --words  print the runs as words instead, one request on each line, for bin/verdict
   --search look for differences that the page does not name: COUNT generated runs, each up to the program's first refusal, on both. Prints the sorts
            of differences that it finds, with how often; the exit status is 1 if one is not among those of section 1 (`NAMED`)
+  --width  16, 32 or any: runs that empty the memory to so many bits first, or now and then to any width (64: neither)
 """
 import collections
 import os
@@ -27,6 +28,8 @@ VERDICT = os.environ.get("VERDICT", HERE.parent / "target" / "bin" / "verdict")
 ORACLE = HERE / "target" / "release" / "oracle"
 NAME = r"[A-Z]\d+[a-z]?"
 KINDS = "allocate,deallocate,load,store,retag,new call,end call,dereferenceable,signed dereferenceable,leak check".split(",")
+EMPTY = 15
+TOO_LARGE = "asking for a too large allocation"
 # The messages of each number; 23 has the one of 21.
 MESSAGES = {
     6: ["load from a misaligned pointer", "store to a misaligned pointer"],
@@ -37,6 +40,7 @@ MESSAGES = {
     11: [r"deallocating \w+ memory with \w+ deallocation operation"],
     12: ["deallocating with incorrect size information"],
     13: ["deallocating with incorrect alignment information"],
+    15: [TOO_LARGE],
     17: ["Tree Borrows: local read of Disabled reference"],
     18: ["Tree Borrows: local write of Frozen reference"],
     19: ["Tree Borrows: local write of Disabled reference"],
@@ -52,10 +56,10 @@ MESSAGES = {
 TREE = [17, 18, 19, 20, 21, 22, 23, 24, 26, 27, 28]
 # Section 1: a refusal here, and what the Rust may say instead: its words, or the number of its message.
 NAMED = {
-    2: ["no call", "accepted", "panic", "this address is not picked", 6, 7, 8, 9, 10, 11, 12, 13],
+    2: ["no call", "accepted", "panic", "this address is not picked", f"UB: {TOO_LARGE}", 6, 7, 8, 9, 10, 11, 12, 13, *TREE],
     3: ["no call", "accepted", "panic", 7, 8, 9, 17, 21, 26],
     4: ["accepted", "panic", 6, 8, 9, 10, 11, 12, 13, *TREE],
-    5: ["this address is not picked"],
+    5: ["this address is not picked", f"UB: {TOO_LARGE}"],
     14: ["panic"],
     15: ["accepted", 17, 21, 26],
     25: ["a memory leak"],
@@ -172,19 +176,37 @@ def is_same(refusal, said):
     return any(re.fullmatch("UB: " + message, said) for message in MESSAGES.get(refusal, []))
 
 
-def is_named(refusal, said, request):
-    """Whether section 1 has such a difference. A field that the Rust accepts must be an exponent from 30 on, or too many words."""
+def width_after(requests):
+    """The width that accepted requests leave."""
+    firsts = [int(request.split(" ")[0], 16) for request in requests]
+    return next((16 << first % 8 for first in reversed(firsts) if first >> 28 == EMPTY), 64)
+
+
+def is_beyond_bounds(words, width):
+    """Whether 2 is for a number that the Rust takes: an exponent from 30 on, too many words, or an address or position too big for the width."""
+    positions = [word >> 27 & 7 for word in words[4:]] if words[0] >> 28 == 3 else []
+    exponent, address = words[0] >> 3 & 31, words[1] << 32 | words[2]
+    return exponent >= 30 or len(words) > 4 + 4096 or address >> width > 0 or any(position >= width // 8 for position in positions)
+
+
+def is_named(refusal, said, requests):
+    """Whether section 1 has such a difference, in the answer to the last request. With 2, the Rust takes no other field than one that is beyond a bound."""
     if refusal == 2 and not said.startswith("no call"):
-        exponent = int(request.split(" ")[0], 16) >> 3 & 31
-        if exponent < 30 and request.count(" ") - 3 <= 4096:
+        words = [int(word, 16) for word in requests[-1].split(" ")]
+        if not is_beyond_bounds(words, width_after(requests[:-1])):
             return False
     return any(is_same(what, said) if isinstance(what, int) else said.startswith(what) for what in NAMED.get(refusal, []))
 
 
-def search(seed, count):
+def kind_name(request):
+    kind = int(request[0], 16)
+    return "empty" if kind == EMPTY else KINDS[kind] if kind < 10 else "kinds 10 to 14"
+
+
+def search(seed, count, width):
     """Generated runs up to the program's first refusal, on the program and on the Rust by itself."""
     drawn = HERE / "target" / "drawn-runs"
-    generate = [HERE / "target" / "release" / "generate", "--seed", str(seed), "--count", str(count), "--out", drawn]
+    generate = [HERE / "target" / "release" / "generate", "--seed", str(seed), "--count", str(count), "--width", width, "--out", drawn]
     subprocess.run(generate, check=True, stdout=subprocess.DEVNULL)
     made, texts = [], []
     for data in parts(drawn.read_bytes()):
@@ -205,22 +227,21 @@ def search(seed, count):
         if agrees:
             found[f"the same: {f'{refusal}, {said[-1]}' if refusal else 'accepted'}"] += 1
             continue
-        kind = int(requests[-1][0], 16)
         sort = re.sub(r"^(accepted|panic|no call).*", r"\1", said[-1])
-        named = len(said) == len(answers) and is_named(refusal, said[-1], requests[-1])
+        named = len(said) == len(answers) and is_named(refusal, said[-1], requests)
         unnamed += not named
-        found[f"{KINDS[kind] if kind < 10 else 'kinds 10 to 15'}: {refusal} here, the Rust: {sort}{'' if named else ', which the page does not name: ' + '; '.join(requests)}"] += 1
+        found[f"{kind_name(requests[-1])}: {refusal} here, the Rust: {sort}{'' if named else ', which the page does not name: ' + '; '.join(requests)}"] += 1
     for sort, times in sorted(found.items()):
         print(f"{times:7} {sort}")
     same = sum(times for sort, times in found.items() if sort.startswith("the same"))
-    print(f"seed {seed}: {count} runs, {same} the same, {unnamed} differences that the page does not name")
+    print(f"seed {seed}, width {width}: {count} runs, {same} the same, {unnamed} differences that the page does not name")
     return unnamed
 
 
 def main():
     if "--search" in sys.argv:
-        number = lambda name, default: int(sys.argv[sys.argv.index(name) + 1]) if name in sys.argv else default
-        sys.exit(1 if search(number("--seed", 1), number("--search", 1000)) else 0)
+        given = lambda name, default: sys.argv[sys.argv.index(name) + 1] if name in sys.argv else default
+        sys.exit(1 if search(int(given("--seed", 1)), int(given("--search", 1000)), given("--width", "64")) else 0)
     page = PAGE.read_text()
     chosen = [argument for argument in sys.argv[1:] if not argument.startswith("-")]
     runs = [run for run in blocks(page) if not chosen or run.name in chosen]

@@ -1,11 +1,13 @@
 #!/usr/bin/env python3
 """Ends every open call, after generated lists and inside them, and asks the Rust: no end call may be refused, but with 2.
 
-    oracle/ends.py [--seed S] [--count N] [--places P] [--starts]
+    oracle/ends.py [--seed S] [--count N] [--places P] [--starts] [--width W]
 
 That is the claim of docs/landings/M-109.md, which is proved of the definition; here it is tried on the Rust itself. Draws N lists of requests from the
 empty memory, and takes of each the first requests, in up to P lengths spread over it. Behind these it puts an end call for each of the 32 frames. Every end
 call, those of the list among them, has to be accepted or answered with 2, as for a frame that is not open, and in the end no frame may be open.
+
+With --width 16, 32 or any the lists empty the memory, which closes all frames: to so many bits first, or now and then to any width. (64: not at all.)
 
 With --starts the lists start from a memory and frames drawn by chance, which no requests have made. The claim does not hold there, and refusals are found.
 
@@ -23,15 +25,17 @@ from differences import following, framed, parts, requests_of
 TOOLS = pathlib.Path(__file__).resolve().parent / "target" / "release"
 FRAMES = 32
 END_CALL = 6
+# of generated lists
+WIDTHS = ["16", "32", "64", "any"]
 # so many runs are asked in one process
 EACH_TIME = 20000
 
 
-def drawn(seed, count, starts):
+def drawn(seed, count, starts, width):
     """The generated lists, each with the text of what it starts from, or none."""
     with tempfile.NamedTemporaryFile() as file:
         kind = "--starts" if starts else "--lists"
-        subprocess.run([TOOLS / "generate", kind, "--seed", str(seed), "--count", str(count), "--out", file.name], check=True)
+        subprocess.run([TOOLS / "generate", kind, "--seed", str(seed), "--count", str(count), "--width", width, "--out", file.name], check=True)
         data = list(parts(pathlib.Path(file.name).read_bytes()))
     if not starts:
         return [(b"", run) for run in data[::3]]
@@ -91,8 +95,9 @@ def main():
     given.add_argument("--count", type=int, default=5000)
     given.add_argument("--places", type=int, default=8)
     given.add_argument("--starts", action="store_true")
+    given.add_argument("--width", default="64", choices=WIDTHS)
     options = given.parse_args()
-    runs = list(ended(drawn(options.seed, options.count, options.starts), options.places))
+    runs = list(ended(drawn(options.seed, options.count, options.starts, options.width), options.places))
     found, wrong = collections.Counter(), 0
     for at in range(0, len(runs), EACH_TIME):
         some = runs[at : at + EACH_TIME]
@@ -100,7 +105,7 @@ def main():
         if len(outputs) != len(some):
             sys.exit(f"ends: {len(some)} runs, but {len(outputs)} outputs")
         wrong += sum(judge(requests, lines, found) for (_, requests), lines in zip(some, outputs))
-    print(f"{len(runs)} runs from {options.count} lists of seed {options.seed}; end calls by their answers:")
+    print(f"{len(runs)} runs from {options.count} lists of seed {options.seed}, width {options.width}; end calls by their answers:")
     for refusal, times in sorted(found.items()):
         print(f"{refusal:>4} {times}")
     print(f"{wrong} runs with an end call refused otherwise than with 2, or a frame left open")

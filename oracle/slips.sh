@@ -27,11 +27,13 @@ slip() {
         missed=$((missed + 1))
         return
     fi
-    for mode in starts lists runs; do
+    for mode in starts lists runs "lists at widths that change" "runs at widths that change"; do
         case $mode in
         starts) options="--starts --count 20000" ;;
         lists) options="--lists --count 1500" ;;
         runs) options="--count 10000" ;;
+        lists*) options="--width any --lists --count 3000" ;;
+        runs*) options="--width any --count 20000" ;;
         esac
         # shellcheck disable=SC2086
         target/release/compare --program "$work/target/release/reference" --batch --seed 1 --show 0 $options \
@@ -59,7 +61,7 @@ slip "a box is strongly protected" 's/} else if f.extra == 2 {/} else if f.extra
 slip "24 tested before the write" 's/if after.iter().any(prevents) {/if self.allocs[f.allocation].nodes.iter().any(prevents) {/'
 slip "24 heeds weak protectors" 's/n.protector == 2 \&\&/n.protector > 0 \&\&/'
 slip "size 0 inside another allocation is fine" 's/low == start || low < end/low < end/'
-slip "the last address is free" 's/end < 1 << 64/end <= 1 << 64/'
+slip "the last address is free" 's/end < 1 << self.width/end <= 1 << self.width/'
 slip "nine tuples" 's/if tuples > 8 {/if tuples > 9 {/'
 slip "a mask of 4,097 bytes" 's/times as u64 > 4096 {/times as u64 > 4097 {/'
 slip "a cell may touch the size's end only" 's/from + len > size {/from + len >= size {/'
@@ -88,6 +90,36 @@ slip "28 given as 19" 's/11, 27, 27, 28\]/11, 27, 27, 19]/'
 slip "a foreign read leaves Unique" 's/\[0, 1, 2, 4, 4, 5, 6, 9/[0, 1, 2, 3, 4, 5, 6, 9/'
 slip "a row's codes are not tested by 16" 's/ || given.iter().any(|&code| code < 6)//; s/\*code as usize - 6/(*code as usize).max(6) - 6/'
 slip "a refused end call closes its frame" 's/let entries = self.frames\[frame\].clone().ok_or(2)?;/let entries = self.frames[frame].take().ok_or(2)?;/'
+slip "the last address is free at narrow widths" 's/end < 1 << self.width/end < (1 << self.width) + (self.width < 64) as u128/'
+slip "address plus size up to 2^64 at every width" 's/end < 1 << self.width/end < 1 << 64/'
+slip "15 before 5 at half of the addresses" 's/let aligned = start > 0/if size >= 1 << (self.width - 1) { return Err(15); }\n        let aligned = start > 0/'
+slip "5 for half of the addresses" 's/if !fits || clash {/if !fits || clash || size >= 1 << (self.width - 1) {/'
+slip "2 for an alignment that no address has" 's/if f.address > last_address(self.width) {/if f.address > last_address(self.width) || f.kind == 0 \&\& f.exponent >= self.width {/'
+slip "an address of 2^width in a load of length zero" 's/if f.address > last_address(self.width) {/if f.address > last_address(self.width) \&\& !(f.kind == 2 \&\& f.fourth == 0 \&\& f.address - 1 == last_address(self.width)) {/'
+slip "the address is tested with provenance alone" 's/if f.address > last_address(self.width) {/if f.address > last_address(self.width) \&\& f.has {/'
+slip "the address is tested without provenance alone" 's/if f.address > last_address(self.width) {/if f.address > last_address(self.width) \&\& !f.has {/'
+slip "the address of a raw pointer is not tested" 's/if f.address > last_address(self.width) {/if f.address > last_address(self.width) \&\& !(f.kind == 4 \&\& f.extra > 2) {/'
+slip "the address of a dereference test is not tested" 's/if f.address > last_address(self.width) {/if f.address > last_address(self.width) \&\& f.kind != 7 {/'
+slip "address plus length is tested" 's/if f.address > last_address(self.width) {/if f.address > last_address(self.width) || f.kind == 7 \&\& f.address as u128 + f.fourth as u128 > 1 << self.width {/'
+slip "the last address is too big" 's/if f.address > last_address(self.width) {/if f.address >= last_address(self.width) \&\& self.width < 64 {/'
+slip "position width / 8" 's/position(word) < width \/ 8/position(word) <= width \/ 8/'
+slip "positions up to 7 at every width" 's/position(word) < width \/ 8/position(word) < 8/'
+slip "the highest position is malformed" 's/position(word) < width \/ 8/position(word) + 1 < width \/ 8/'
+emptied='\*self = Reference { width, ..Reference::new() };'
+slip "emptying leaves a frame open" "s/$emptied/let frames = self.frames.clone(); *self = Reference { width, ..Reference::new() }; self.frames[0] = frames[0].clone();/"
+slip "emptying keeps the allocations" "s/$emptied/*self = Reference { width, allocs: self.allocs.clone(), ..Reference::new() };/"
+slip "emptying keeps dead allocations' numbers" "s/$emptied/let mut dead = self.allocs.clone(); dead.retain(|a| !a.live); *self = Reference { width, allocs: dead, ..Reference::new() };/"
+slip "emptying keeps the width" "s/$emptied/*self = Reference { width: self.width, ..Reference::new() };/"
+slip "emptying checks for leaks" "s/$emptied/if self.leaks().next().is_some() { return Err(25); } *self = Reference { width, ..Reference::new() };/"
+slip "emptying is refused while a frame is open" "s/$emptied/if self.frames.iter().flatten().next().is_some() { return Err(2); } *self = Reference { width, ..Reference::new() };/"
+slip "extra 1 is 16 bits" 's/\[16, 32, 64\]\[extra/[16, 16, 64][extra/'
+slip "extra 2 is 32 bits" 's/\[16, 32, 64\]\[extra/[16, 32, 32][extra/'
+slip "extra 3 empties too" 's/zero \&\& self.extra < 3/zero \&\& self.extra < 4/; s/\[16, 32, 64\]\[extra/[16, 32, 64, 64][extra/'
+slip "an emptying with a fourth word" 's/let zero = self.exponent == 0 \&\& self.address == 0 \&\& self.fourth == 0;/let zero = self.exponent == 0 \&\& self.address == 0;/'
+slip "an emptying with an exponent" 's/let zero = self.exponent == 0 \&\& /let zero = /'
+slip "an emptying with an address" 's/let zero = self.exponent == 0 \&\& self.address == 0 \&\& /let zero = self.exponent == 0 \&\& /'
+slip "an emptying with a name" 's/self.no_provenance_fields() \&\& zero \&\& /zero \&\& /'
+slip "a run starts at 32 bits" 's/frames: vec!\[None; 32\], width: 64/frames: vec![None; 32], width: 32/'
 
 echo "not found: $missed"
 [ "$missed" = 0 ]

@@ -1,14 +1,15 @@
 #!/usr/bin/env python3
-"""Follows shared arguments through generated lists on the Rust: until their release, no byte behind one may change and no allocation may die.
+"""Follows shared arguments through generated lists on the Rust: until their release or an emptying, no byte behind one may change and no allocation may die.
 
-    oracle/stays.py [--seed S] [--count N]
+    oracle/stays.py [--seed S] [--count N] [--width W]
 
 That is the claim of docs/landings/M-113.md, which is proved of the definition; here it is tried on the Rust itself. Draws N lists of requests from the
 empty memory, and asks for the state behind each request of a list that has a shared reference as an argument (a retag at function entry, extra 0). Of
 each such retag that makes a node it takes the bytes that the node has with code d, Frozen with a local read: its freeze bytes inside. As long as the
-node is an entry of a frame, their words have to be what they were before the retag, and the allocation live.
+node is an entry of a frame, their words have to be what they were before the retag, and the allocation live. An accepted emptying forgets all of them.
+With --width 16, 32 or any the lists empty the memory: to so many bits first, or now and then to any width. (64: not at all.)
 
-Prints how many arguments and bytes were followed, over how many states, how many writes were refused with 22 meanwhile, and how many of the bytes were
+Prints how many arguments and bytes were followed, over how many states, how many of them an emptying forgot before their release, how many writes were refused with 22 meanwhile, and how many of the bytes were
 changed or freed after the release, where the claim says nothing. The exit status is 1 if one was changed or freed before, or if there was no such write or
 no such byte, so that nothing was tried.
 """
@@ -18,9 +19,10 @@ import itertools
 import sys
 
 from differences import requests_of
-from ends import asked, drawn, is_whole, words_of
+from ends import WIDTHS, asked, drawn, is_whole, words_of
 
 RETAG = 4
+EMPTY = 15
 # the refusal of a write, a store's or a deallocation's, that meets what an argument of an open call has read
 FOREIGN_WRITE = "22"
 # so many lists are asked in one process
@@ -65,6 +67,9 @@ def follow(requests, outputs, found):
             held[node] = {byte: words[byte] for byte, code in enumerate(state.codes[node]) if code == "d"}
             found["arguments"] += 1
             found["bytes"] += len(held[node])
+        if request[0] >> 4 == EMPTY and answer[1] == "0":
+            found["forgotten"] += sum(node in before.entered for node in held)
+            held.clear()
         for node, bytes in held.items():
             changed = [byte for byte, word in bytes.items() if not keeps(state, node, byte, word)]
             if node in state.entered:
@@ -92,8 +97,9 @@ def main():
     given = argparse.ArgumentParser(description=__doc__.splitlines()[0])
     given.add_argument("--seed", type=int, default=1)
     given.add_argument("--count", type=int, default=5000)
+    given.add_argument("--width", default="64", choices=WIDTHS)
     options = given.parse_args()
-    lists = ([request for request in map(words_of, requests_of(run)) if is_whole(request)] for _, run in drawn(options.seed, options.count, False))
+    lists = ([request for request in map(words_of, requests_of(run)) if is_whole(request)] for _, run in drawn(options.seed, options.count, False, options.width))
     lists = [requests for requests in lists if any(map(is_shared_argument, requests))]
     found, wrong = collections.Counter(), []
     for at in range(0, len(lists), EACH_TIME):
@@ -101,8 +107,9 @@ def main():
         outputs = iter(states(some))
         for requests in some:
             wrong += follow(requests, itertools.islice(outputs, len(requests)), found)
-    print(f"{len(lists)} of {options.count} lists of seed {options.seed} have a shared argument; they have {sum(map(len, lists))} requests")
+    print(f"{len(lists)} of {options.count} lists of seed {options.seed}, width {options.width}, have a shared argument; they have {sum(map(len, lists))} requests")
     print(f"{found['arguments']} accepted with {found['bytes']} freeze bytes, followed up to their release, at {found['states']} states in all")
+    print(f"{found['forgotten']} arguments forgotten by an emptying before their release")
     print(f"{found['refused']} writes refused with 22 meanwhile; {found['afterwards']} bytes changed or freed after the release")
     for line in wrong[:20]:
         print(line)

@@ -1,4 +1,4 @@
-//! The five lent buffers: how they hold a memory, and whether they hold one. Both are written from document 01 and
+//! The five lent buffers and the width: how they hold a memory, and whether they hold one. Both are written from document 01 and
 //! from the table of buffers in the project's decisions, not from the library.
 
 use runs::reference::{Alloc, Node, Reference};
@@ -13,7 +13,9 @@ pub const CODES: usize = 32768;
 
 /// One allocation's part after the other's, and zeros behind the last.
 pub fn encode(m: &Reference) -> Buffers {
-    let mut b = Buffers { allocs: vec![], parents: vec![], protectors: vec![], words: vec![], codes: vec![] };
+    let width = m.width as u64;
+    let mut b =
+        Buffers { allocs: vec![], parents: vec![], protectors: vec![], words: vec![], codes: vec![], width };
     for a in &m.allocs {
         let state = if a.live { 1 } else { 2 };
         let (size, nodes) = (a.words.len() as u64, a.nodes.len() as u64);
@@ -40,17 +42,21 @@ pub fn have_lengths(b: &Buffers) -> bool {
     lengths == [ALLOCS, NODES, NODES, WORDS, CODES]
 }
 
+pub fn has_width(b: &Buffers) -> bool {
+    [16, 32, 64].contains(&b.width)
+}
+
 /// The memory that the buffers hold, if they are well formed.
 pub fn decode(b: &Buffers) -> Option<Reference> {
-    if !have_lengths(b) {
+    if !have_lengths(b) || !has_width(b) {
         return None;
     }
-    let mut m = Reference::new();
+    let mut m = Reference { width: b.width as u32, ..Reference::new() };
     let (mut nodes, mut words, mut codes) = (0, 0, 0);
     for record in b.allocs.chunks_exact(RECORD).take_while(|record| record[0] != 0) {
         let &[state, kind, exponent, address, size, count, word, node, code] = record else { unreachable!() };
         let room = size <= (WORDS - words) as u64 && count <= (NODES - nodes) as u64;
-        if !record_in_lists(state, kind, exponent, address, size) || !room || count == 0 {
+        if !record_in_lists(state, kind, exponent, address, size, b.width) || !room || count == 0 {
             return None;
         }
         // "ranges consecutive": each starts where the one before ends
@@ -82,18 +88,18 @@ pub fn decode(b: &Buffers) -> Option<Reference> {
         && b.protectors[nodes..].iter().all(|&x| x == 0)
         && b.words[words..].iter().all(|&x| x == 0)
         && b.codes[codes..].iter().all(|&x| x == 0);
-    (rest_is_zero && m.allocs.iter().all(allocation_fits) && !overlapping(&m)).then_some(m)
+    (rest_is_zero && m.allocs.iter().all(|a| allocation_fits(a, m.width)) && !overlapping(&m)).then_some(m)
 }
 
 /// "addresses `pick` could have accepted", and fields in their lists.
-fn record_in_lists(state: u64, kind: u64, exponent: u64, address: u64, size: u64) -> bool {
+fn record_in_lists(state: u64, kind: u64, exponent: u64, address: u64, size: u64, width: u64) -> bool {
     let known = (state == 1 || state == 2) && kind < 5 && exponent < 30;
-    known && address > 0 && address % (1 << exponent) == 0 && address as u128 + (size as u128) < 1 << 64
+    known && address > 0 && address % (1 << exponent) == 0 && address as u128 + (size as u128) < 1 << width
 }
 
 /// Parents earlier, root unprotected, valid words and codes; on a live allocation, codes 6 to e exactly in protected
 /// rows.
-fn allocation_fits(a: &Alloc) -> bool {
+fn allocation_fits(a: &Alloc, width: u32) -> bool {
     let root = a.nodes[0].parent == 0 && a.nodes[0].protector == 0;
     let nodes = a.nodes.iter().enumerate().all(|(number, node)| {
         let codes = match (a.live, node.protector) {
@@ -104,15 +110,15 @@ fn allocation_fits(a: &Alloc) -> bool {
         let earlier = number == 0 || node.parent < number;
         earlier && node.protector < 3 && node.codes.iter().all(|code| codes.contains(code))
     });
-    root && nodes && a.words.iter().all(|&word| valid_word(word))
+    root && nodes && a.words.iter().all(|&word| valid_word(word, width))
 }
 
-/// "An uninitialised byte is 0; without provenance the middle fields are 0."
-pub fn valid_word(word: u32) -> bool {
+/// "An uninitialised byte is 0; without provenance the middle fields are 0." A position is one of a pointer's bytes.
+pub fn valid_word(word: u32, width: u32) -> bool {
     match word >> 30 {
         0 | 1 => word == 0,
         2 => word << 2 >> 10 == 0,
-        _ => true,
+        _ => (word >> 27 & 7) < width / 8,
     }
 }
 

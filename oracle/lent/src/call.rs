@@ -1,10 +1,10 @@
 //! One call of an entry: drawn, made, and answered by the reference.
 
-use crate::buffers::{decode, encode, have_lengths, RECORD};
+use crate::buffers::{decode, encode, has_width, have_lengths, RECORD};
 use crate::lent::{Frame, Lent, AREA, PLACES};
 use runs::deep::{self, Style};
 use runs::random::Random;
-use runs::reference::{Answer, Reference, Third};
+use runs::reference::{last_address, Answer, Reference, Third};
 use runs::words::{self, Flags, Ptr, Words};
 use tree_borrows::raw::{Pointer, Reply, RetagSettings};
 
@@ -152,6 +152,29 @@ impl Call {
         Some("a name without provenance")
     }
 
+    /// Gives the call an address or a position that is too big for the width, where it has one, and says which.
+    pub fn leave_width(&mut self, r: &mut Random, width: u32) -> Option<&'static str> {
+        if width == 64 {
+            return None;
+        }
+        if let (Call::Store { bytes, .. }, true) = (&mut *self, r.one_in(2)) {
+            let at = r.index(bytes.len().max(1));
+            *bytes.get_mut(at)? = words::fragment(1, r.range(width as u64 / 8, 7) as u32, 0, 0);
+            return Some("position too big");
+        }
+        let first = 1 << width;
+        let address = r.pick(&[first, first, first + 1, first + (1 << 15), first * 2, 1 << 63, u64::MAX]);
+        match self {
+            Call::Allocate { address: own, len, .. } => {
+                let other = large(r);
+                *own = address;
+                *len = r.pick(&[*len, 0, other]);
+            }
+            _ => self.pointer()?.address = address,
+        }
+        Some("address too big")
+    }
+
     fn pointer(&mut self) -> Option<&mut Pointer> {
         match self {
             Call::Deallocate { at, .. } | Call::Load { at, .. } | Call::Store { at, .. } => Some(at),
@@ -257,7 +280,7 @@ impl Call {
         match self {
             _ if self.is_outside_lists() => refused(2),
             Call::Allocate { kind, len, exponent, address } if *len > u32::MAX as u64 => {
-                let bad = *kind > 4 || *exponent > 29;
+                let bad = *kind > 4 || *exponent > 29 || *address > last_address(m.width);
                 let pick = || could_be_picked(m, *address as u128, *len as u128, *exponent);
                 refused(if bad {
                     2
@@ -322,12 +345,13 @@ fn refused(refusal: u8) -> Answer {
     Answer { refusal, third: Third::None }
 }
 
-/// The empty memory, whatever the buffers hold; 1 for another length.
+/// The empty memory at the width, whatever the buffers hold; 1 for another length, or for a width that is none.
 fn new(lent: &Lent) -> (Answer, Lent) {
-    if !have_lengths(&lent.buffers) {
+    if !have_lengths(&lent.buffers) || !has_width(&lent.buffers) {
         return (refused(1), lent.clone());
     }
-    (refused(0), Lent { buffers: encode(&Reference::new()), ..lent.clone() })
+    let empty = Reference { width: lent.buffers.width as u32, ..Reference::new() };
+    (refused(0), Lent { buffers: encode(&empty), ..lent.clone() })
 }
 
 /// No entries, and places that are zero, whatever they hold; 1 for another number of places.
@@ -344,7 +368,7 @@ fn could_be_picked(m: &Reference, address: u128, len: u128, exponent: u64) -> bo
         let (low, high) = (a.address as u128, a.address as u128 + a.words.len() as u128);
         low == address || low < address + len && address < high
     });
-    address > 0 && address % (1 << exponent) == 0 && address + len < 1 << 64 && !clash
+    address > 0 && address % (1 << exponent) == 0 && address + len < 1 << m.width && !clash
 }
 
 /// A reply's third field; loaded words stand in the lent data.

@@ -1,10 +1,11 @@
-//! Damage to what is lent: one number of a buffer or its length, or what is wrong with a frame. Each kind has a name.
+//! Damage to what is lent: one number of a buffer or its length, the width, or what is wrong with a frame. Each kind has a name.
 
 use crate::buffers::{valid_word, RECORD};
 use crate::call::Call;
 use crate::lent::{Lent, AREA, PLACES};
 use runs::random::Random;
-use runs::reference::Reference;
+use runs::reference::{last_address, Reference};
+use runs::words;
 use tree_borrows::raw::Entry;
 use tree_borrows::Buffers;
 
@@ -12,10 +13,12 @@ use tree_borrows::Buffers;
 pub fn damage(r: &mut Random, m: &Reference, b: &mut Buffers) -> String {
     loop {
         let before = b.clone();
-        let name = match r.below(9) {
+        let name = match r.below(11) {
             0 => Some(length(r, b)),
             1 | 2 => record(r, m, b),
             8 => start(r, m, b),
+            9 => Some(width(r, b)),
+            10 => position(r, m, b),
             3 => node(r, m, b),
             4 => code(r, m, b),
             5 => word(r, m, b),
@@ -27,6 +30,17 @@ pub fn damage(r: &mut Random, m: &Reference, b: &mut Buffers) -> String {
             _ => *b = before,
         }
     }
+}
+
+/// A width that there is not, or another one: then addresses or positions may be too big for it.
+fn width(r: &mut Random, b: &mut Buffers) -> String {
+    let none = [0, 1, 8, 15, 17, 24, 31, 33, 63, 65, 128, (1 << 32) + 16, (1 << 32) + 64, u64::MAX];
+    let (name, value) = match r.below(3) {
+        0 => ("another", r.pick(&[16, 32, 64])),
+        _ => ("none of the three", r.pick(&none)),
+    };
+    b.width = value;
+    format!("width: {name}")
 }
 
 fn length(r: &mut Random, b: &mut Buffers) -> String {
@@ -61,7 +75,7 @@ fn record(r: &mut Random, m: &Reference, b: &mut Buffers) -> Option<String> {
     let held = &mut b.allocs[RECORD * number..RECORD * (number + 1)];
     let (size, nodes) = (held[4], held[5]);
     let field = r.index(6);
-    let way = r.index(4);
+    let way = r.index(if field == 3 { 6 } else { 4 });
     let huge = r.pick(&[1 << 16, 1 << 32, 1 << 62, 1 << 63, u64::MAX]);
     let (name, value) = match (field, way) {
         (0, 0) => ("never made", 0),
@@ -74,6 +88,10 @@ fn record(r: &mut Random, m: &Reference, b: &mut Buffers) -> Option<String> {
         (3, 0) => ("0", 0),
         (3, 1) => ("not aligned or beside", a.address.wrapping_add(r.range(1, 3))),
         (3, 2) => ("end near 2^64", (u64::MAX - size).wrapping_add(r.below(4)).wrapping_sub(1)),
+        (3, 3 | 4) => (
+            if a.live { "end near 2^width, live" } else { "end near 2^width, dead" },
+            (last_address(m.width) - size).wrapping_add(r.below(4)).wrapping_sub(1),
+        ),
         (3, _) => ("any", r.next()),
         (4, 0) => ("one less", size.wrapping_sub(1)),
         (4, 1) => ("one more", size + 1),
@@ -197,8 +215,21 @@ fn word(r: &mut Random, m: &Reference, b: &mut Buffers) -> Option<String> {
         _ => (r.next() as u32, "any"),
     };
     b.words[at] = word;
-    let name = if name == "any" && valid_word(word) { "another valid one" } else { name };
+    let name = if name == "any" && valid_word(word, m.width) { "another valid one" } else { name };
     Some(format!("word: {name}"))
+}
+
+/// A byte of a pointer at its last position or beyond, of a live or of a dead allocation.
+fn position(r: &mut Random, m: &Reference, b: &mut Buffers) -> Option<String> {
+    let filled: Vec<usize> = (0..m.allocs.len()).filter(|&i| !m.allocs[i].words.is_empty()).collect();
+    let &number = filled.get(r.index(filled.len().max(1)))?;
+    let a = &m.allocs[number];
+    let last = m.width / 8 - 1;
+    let at = r.pick(&[last, last + 1, last + 1, 7]).min(7);
+    let word = words::fragment(r.next() as u8, at, r.below(128) as u32, r.below(4096) as u32);
+    b.words[starts(m, number).1 + r.index(a.words.len())] = word;
+    let state = if a.live { "live" } else { "dead" };
+    Some(format!("word, {state}: {}", if at > last { "position too big" } else { "the last position" }))
 }
 
 /// A number behind a buffer's used part: the first, the last or any.

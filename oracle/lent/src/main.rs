@@ -13,6 +13,7 @@ use counts::Counts;
 use lent::{Lent, AREA};
 use runs::random::Random;
 use runs::reference::{next_request, Reference, Third};
+use runs::width::Widths;
 use runs::{generate, start, words};
 use std::collections::VecDeque;
 use std::time::{Duration, Instant};
@@ -21,8 +22,8 @@ use tools::program::Program;
 use tree_borrows::raw::Reply;
 
 const USAGE: &str = "usage: lent [--seed S] [--count N] [--from I] [--damages D] [--no-oracle] [--show N]
-  Memories I to I + N - 1 of the seed. Each is lent once as it is, D times damaged in one number (4), and once with a
-  frame that is wrong; every call's answer and all that was lent are compared afterwards with what the reference says.
+  Memories I to I + N - 1 of the seed, at each width. Each is lent once as it is, D times damaged in one number (4), once
+  with a frame that is wrong, and once with an address or position that is too big for its width; every call's answer and all that was lent are compared afterwards with what the reference says.
   Calls on undamaged memories are compared with the oracle too, which stands beside this program (or at --oracle PATH).
   --show N     print this many differences (3)
 Exit status 1 if there is a difference.";
@@ -62,6 +63,7 @@ struct Comparison {
     as_they_are: Counts,
     damaged: Counts,
     wrong_frames: Counts,
+    too_big: Counts,
     at_boundary: Counts,
     damaged_but_formed: u64,
     views: u64,
@@ -85,6 +87,7 @@ impl Comparison {
             as_they_are: Counts::default(),
             damaged: Counts::default(),
             wrong_frames: Counts::default(),
+            too_big: Counts::default(),
             at_boundary: Counts::default(),
             damaged_but_formed: 0,
             views: 0,
@@ -100,7 +103,7 @@ impl Comparison {
         let r = &mut Random::new(!seed, index);
         let (call, lent) = lend(r, &m, KINDS);
         let (reply, after) = self.compare(index, "as it is", &call, &lent);
-        self.as_they_are.add(call.name(), reply.refusal);
+        self.as_they_are.add(&format!("{}, {} bits", call.name(), m.width), reply.refusal);
         self.compare_view(r, &reply, &after);
         self.ask_oracle(&m, &call, &lent, &reply, &after)?;
         for _ in 0..damages {
@@ -116,8 +119,19 @@ impl Comparison {
         let (reply, after) = self.compare(index, &name, &call, &lent);
         self.wrong_frames.add(&name, reply.refusal);
         self.ask_oracle(&m, &call, &lent, &reply, &after)?;
+        self.too_big(&m, seed, index)?;
         self.boundary(&m, seed, index);
         Ok(())
+    }
+
+    /// An address or a position that is too big for the width of the memory.
+    fn too_big(&mut self, m: &Reference, seed: u64, index: u64) -> std::io::Result<()> {
+        let r = &mut Random::new(seed.rotate_left(16), index);
+        let (mut call, lent) = lend(r, m, KINDS);
+        let Some(name) = call.leave_width(r, m.width) else { return Ok(()) };
+        let (reply, after) = self.compare(index, name, &call, &lent);
+        self.too_big.add(&format!("{}, {} bits: {name}", call.name(), m.width), reply.refusal);
+        self.ask_oracle(m, &call, &lent, &reply, &after)
     }
 
     /// Numbers that only the boundary to C can hand over, and the two entries that no request stands for.
@@ -190,7 +204,7 @@ impl Comparison {
         if reply.refusal == 1 || !call.fits_a_list() {
             return Ok(());
         }
-        let before = Reference { allocs: m.allocs.clone(), frames: call.frames(lent) }.text(true);
+        let before = Reference { frames: call.frames(lent), ..m.clone() }.text(true);
         let run = words::bytes(&[call.words()]);
         oracle.send(&[&(before.len() as u32).to_be_bytes(), before.as_bytes(), &run].concat());
         self.with_oracle += 1;
@@ -223,12 +237,13 @@ impl Comparison {
     }
 
     fn report(&self) -> u64 {
-        self.as_they_are.print("memories as they are, by entry and refusal");
+        self.as_they_are.print("memories as they are, by entry, width and refusal");
         self.damaged.print("memories damaged, by damage and refusal");
         println!("  still well formed by document 01: {}", self.damaged_but_formed);
         self.wrong_frames.print("frames that are wrong, by what is wrong and refusal");
+        self.too_big.print("too big for the width, by entry and refusal");
         self.at_boundary.print("at the boundary to C, by what is wrong and refusal");
-        let counts = [&self.as_they_are, &self.damaged, &self.wrong_frames, &self.at_boundary];
+        let counts = [&self.as_they_are, &self.damaged, &self.wrong_frames, &self.too_big, &self.at_boundary];
         let calls: u64 = counts.iter().map(|count| count.total()).sum();
         println!(
             "{:.1} microseconds in the library for a call",
@@ -246,16 +261,18 @@ impl Comparison {
     }
 }
 
-/// Drawn by chance, with frames, now and then with an address that every alignment divides; or as a run leaves it.
+/// Drawn by chance, with frames, now and then with an address that many alignments divide; or as a run leaves it. At
+/// each of the three widths.
 fn memory(seed: u64, index: u64) -> Reference {
+    let widths = [Widths::Start, Widths::First(16), Widths::First(32), Widths::Any][(index / 4 % 4) as usize];
     if index % 4 != 0 {
-        let mut m = start::start(seed, index).0;
+        let mut m = start::start(widths, seed, index).0;
         if index % 4 == 1 {
-            m.allocs[0].address = 1 << (30 + index % 20);
+            m.allocs[0].address = 1 << (m.width as u64 - 1).min(30 + index % 20);
         }
         return m;
     }
-    let run = generate::run(seed, index).bytes;
+    let run = generate::run(widths, seed, index).bytes;
     let mut m = Reference::new();
     let mut at = 0;
     while at < run.len() {

@@ -27,6 +27,7 @@ pub mod mem {
     mod retag;
     mod start;
     mod state;
+    mod targets;
 }
 
 fn main() {

@@ -15,6 +15,8 @@ pub struct Coverage {
     pub pairs: BTreeMap<(u8, u8, u8), u64>,
     /// Kinds of retags and layouts, in words.
     pub layouts: BTreeMap<String, u64>,
+    /// What depends on the width, in words.
+    pub widths: BTreeMap<String, u64>,
 }
 
 thread_local! {
@@ -48,6 +50,10 @@ pub fn layouts(names: impl FnOnce() -> Vec<String>) {
     count(|c| names().into_iter().for_each(|name| *c.layouts.entry(name).or_default() += 1));
 }
 
+pub fn width(names: impl FnOnce() -> Vec<String>) {
+    count(|c| names().into_iter().for_each(|name| *c.widths.entry(name).or_default() += 1));
+}
+
 impl Coverage {
     pub fn add(&mut self, other: &Coverage) {
         self.runs += other.runs;
@@ -56,13 +62,15 @@ impl Coverage {
         other.answers.iter().for_each(|(k, n)| *self.answers.entry(*k).or_default() += n);
         other.pairs.iter().for_each(|(k, n)| *self.pairs.entry(*k).or_default() += n);
         other.layouts.iter().for_each(|(k, n)| *self.layouts.entry(k.clone()).or_default() += n);
+        other.widths.iter().for_each(|(k, n)| *self.widths.entry(k.clone()).or_default() += n);
     }
 
     /// Everything reached, as short texts that can be compared.
     pub fn features(&self) -> BTreeSet<String> {
         let answers = self.answers.keys().map(|(kind, refusal)| format!("kind {kind} answer {refusal}"));
         let pairs = self.pairs.keys().map(|(c, a, r)| format!("pair {c} {a} {r}"));
-        answers.chain(pairs).chain(self.layouts.keys().cloned()).collect()
+        let words = self.layouts.keys().chain(self.widths.keys()).cloned();
+        answers.chain(pairs).chain(words).collect()
     }
 
     pub fn refusals(&self) -> BTreeMap<u8, u64> {
@@ -95,7 +103,7 @@ impl Coverage {
             writeln!(text, "code {code:x} {relation} {access}: {n}").unwrap();
         }
         writeln!(text, "retags and layouts: {}", self.layouts.len()).unwrap();
-        for (name, n) in &self.layouts {
+        for (name, n) in self.layouts.iter().chain(&self.widths) {
             writeln!(text, "{name}: {n}").unwrap();
         }
         text

@@ -1,7 +1,8 @@
 //! Candidates for the next request of a run, drawn with the memory in view so that most are accepted.
 
 use crate::random::Random;
-use crate::reference::{Alloc, Reference};
+use crate::reference::{last_address, Alloc, Reference};
+use crate::width;
 use crate::words::{self, Flags, Ptr, Words};
 
 /// How a run's candidates are drawn: which kinds of requests, and how large its allocations are.
@@ -15,6 +16,8 @@ pub struct Style {
     pub wild: u64,
     /// Where addresses of allocations are drawn from.
     pub base: u64,
+    /// One in so many requests empties the memory; 0 for none.
+    pub empties: u64,
 }
 
 impl Style {
@@ -33,12 +36,15 @@ impl Style {
             2 => 0xffff_f000,
             _ => 16,
         };
-        Style { kinds, most_bytes, most_allocations: r.range(1, 9) as usize, wild: 24, base }
+        Style { kinds, most_bytes, most_allocations: r.range(1, 9) as usize, wild: 24, base, empties: 0 }
     }
 }
 
 /// One candidate.
 pub fn candidate(r: &mut Random, m: &Reference, style: &Style) -> Words {
+    if style.empties > 0 && r.one_in(style.empties) {
+        return width::some_empty(r);
+    }
     let live = m.allocs.iter().filter(|a| a.live).count();
     let kind = if m.allocs.is_empty() && !r.one_in(20) { 0 } else { r.weighted(&style.kinds) };
     match kind {
@@ -69,7 +75,8 @@ fn allocate(r: &mut Random, m: &Reference, style: &Style) -> Words {
             let top = m.allocs.iter().map(|a| a.address.wrapping_add(a.words.len() as u64)).max();
             top.unwrap_or(16).wrapping_add(r.below(3))
         }
-        _ => style.base.wrapping_add(r.below(3000)),
+        2 if m.width < 64 => (last_address(m.width) - size).wrapping_add(r.below(4)).wrapping_sub(2),
+        _ => style.base.min(last_address(m.width) - 1500).wrapping_add(r.below(3000)),
     };
     if !r.one_in(style.wild) {
         let align = 1u64 << exponent;
@@ -128,11 +135,19 @@ fn spot(r: &mut Random, m: &Reference, style: &Style) -> Spot {
             0 => at.provenance = None,
             1 => at.provenance = Some((r.index(128), r.index(8))),
             2 => at.provenance = Some((allocation, r.index(4096))),
-            3 => at.address = r.next(),
+            3 => at.address = any_address(r, m),
             _ => at.address = near(r, m),
         }
     }
     Spot { at, room: size - offset, allocation }
+}
+
+/// Any address, and at a narrow width one beside its last.
+fn any_address(r: &mut Random, m: &Reference) -> u64 {
+    if m.width == 64 || r.one_in(4) {
+        return r.next();
+    }
+    last_address(m.width) - 1 + r.below(4)
 }
 
 /// A length that fits, most of the time.
@@ -176,15 +191,25 @@ fn store(r: &mut Random, m: &Reference, style: &Style) -> Words {
 fn some_byte(r: &mut Random, m: &Reference, style: &Style) -> u32 {
     match r.below(6) {
         0 => 0,
-        1 => words::fragment(r.next() as u8, r.below(8) as u32, r.below(128) as u32, r.below(4096) as u32),
+        1 => {
+            words::fragment(r.next() as u8, position(r, m, style), r.below(128) as u32, r.below(4096) as u32)
+        }
         2 => {
             let allocation = r.index(m.allocs.len().max(1));
             let node = m.allocs.get(allocation).map_or(0, |a| r.index(a.nodes.len()));
-            words::fragment(r.next() as u8, r.below(8) as u32, allocation as u32, node as u32)
+            words::fragment(r.next() as u8, position(r, m, style), allocation as u32, node as u32)
         }
         3 if r.one_in(style.wild * 20) => r.next() as u32,
         _ => words::byte(r.next() as u8),
     }
+}
+
+/// A position that a pointer of the width has, mostly.
+fn position(r: &mut Random, m: &Reference, style: &Style) -> u32 {
+    if m.width < 64 && r.one_in(style.wild * 5) {
+        return (m.width / 8 + r.below(2) as u32).min(7);
+    }
+    r.below(m.width as u64 / 8) as u32
 }
 
 fn deallocate(r: &mut Random, m: &Reference, style: &Style) -> Words {

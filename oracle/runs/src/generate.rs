@@ -4,6 +4,7 @@ use crate::deep::{self, Style};
 use crate::limits;
 use crate::random::Random;
 use crate::reference::{next_request, Reference};
+use crate::width::{self, Widths};
 use crate::words::{self, Words};
 
 /// A generated run.
@@ -14,22 +15,40 @@ pub struct Run {
 }
 
 /// One run of a program that stops at the first refusal.
-pub fn run(seed: u64, index: u64) -> Run {
+pub fn run(widths: Widths, seed: u64, index: u64) -> Run {
     let mut r = Random::new(seed, index);
     match r.weighted(&[35, 20, 20, 12, 8, 5]) {
-        0 => Run { origin: "deep", bytes: words::bytes(&deep_run(&mut r)) },
-        1 => Run { origin: "hunted", bytes: words::bytes(&hunted_run(&mut r)) },
-        2 => Run { origin: "short", bytes: words::bytes(&short_run(&mut r)) },
-        3 => Run { origin: "damaged", bytes: damaged_run(&mut r) },
-        4 => Run { origin: "loose", bytes: words::bytes(&loose_list(&mut r)) },
-        _ => Run { origin: "limit", bytes: words::bytes(&limits::run(&mut r)) },
+        0 => Run { origin: "deep", bytes: words::bytes(&deep_run(&mut r, widths)) },
+        1 if widths != Widths::Start && r.one_in(2) => edge_run(&mut r, widths),
+        1 => Run { origin: "hunted", bytes: words::bytes(&hunted_run(&mut r, widths)) },
+        2 => Run { origin: "short", bytes: words::bytes(&short_run(&mut r, widths)) },
+        3 => Run { origin: "damaged", bytes: damaged_run(&mut r, widths) },
+        4 => Run { origin: "loose", bytes: words::bytes(&loose_list(&mut r, widths)) },
+        _ => Run { origin: "limit", bytes: words::bytes(&limit_run(&mut r, widths)) },
     }
+}
+
+fn edge_run(r: &mut Random, widths: Widths) -> Run {
+    let width = widths.draw(r);
+    Run { origin: "edge", bytes: words::bytes(&width::scene(r, width)) }
+}
+
+/// A scene at a bound, behind what its width asks for.
+fn limit_run(r: &mut Random, widths: Widths) -> Vec<Words> {
+    let (mut requests, _) = widths.begin(r);
+    requests.extend(limits::run(r));
+    requests
 }
 
 /// One list, which goes on after refusals. Each element has the words that its own fields say, also when it
 /// is damaged, so that the list is cut the same in every order.
-pub fn list(seed: u64, index: u64) -> Vec<Words> {
-    let bytes = words::bytes(&loose_list(&mut Random::new(seed, index)));
+pub fn list(widths: Widths, seed: u64, index: u64) -> Vec<Words> {
+    let mut r = Random::new(seed, index);
+    let bytes = if widths != Widths::Start && r.one_in(4) {
+        words::bytes(&edge_list(&mut r, widths))
+    } else {
+        words::bytes(&loose_list(&mut r, widths))
+    };
     let mut list = Vec::new();
     let mut at = 0;
     while let (Some(request), next) = next_request(&bytes, at) {
@@ -37,6 +56,16 @@ pub fn list(seed: u64, index: u64) -> Vec<Words> {
         at = next;
     }
     list
+}
+
+/// A few scenes at the edges of widths.
+fn edge_list(r: &mut Random, widths: Widths) -> Vec<Words> {
+    let mut requests = Vec::new();
+    for _ in 0..r.range(1, 4) {
+        let width = widths.draw(r);
+        requests.extend(width::scene(r, width));
+    }
+    requests
 }
 
 /// Add candidates that are accepted, with a few tries for each.
@@ -54,10 +83,9 @@ fn extend_accepted(r: &mut Random, m: &mut Reference, style: &Style, requests: &
     }
 }
 
-fn accepted(r: &mut Random) -> (Vec<Words>, Reference, Style) {
-    let style = Style::draw(r);
-    let mut m = Reference::new();
-    let mut requests = Vec::new();
+fn accepted(r: &mut Random, widths: Widths) -> (Vec<Words>, Reference, Style) {
+    let style = style(r, widths);
+    let (mut requests, mut m) = widths.begin(r);
     let count = match r.below(4) {
         0 => r.range(0, 12),
         1 | 2 => r.range(10, 60),
@@ -67,9 +95,14 @@ fn accepted(r: &mut Random) -> (Vec<Words>, Reference, Style) {
     (requests, m, style)
 }
 
+fn style(r: &mut Random, widths: Widths) -> Style {
+    let style = Style::draw(r);
+    Style { empties: widths.empties(r), ..style }
+}
+
 /// Accepted requests, and half of the time one more that need not be.
-fn deep_run(r: &mut Random) -> Vec<Words> {
-    let (mut requests, m, style) = accepted(r);
+fn deep_run(r: &mut Random, widths: Widths) -> Vec<Words> {
+    let (mut requests, m, style) = accepted(r, widths);
     if r.one_in(2) {
         requests.push(deep::candidate(r, &m, &style));
     }
@@ -77,19 +110,18 @@ fn deep_run(r: &mut Random) -> Vec<Words> {
 }
 
 /// Accepted requests, then one with a refusal that was sought.
-fn hunted_run(r: &mut Random) -> Vec<Words> {
-    let (mut requests, m, style) = accepted(r);
+fn hunted_run(r: &mut Random, widths: Widths) -> Vec<Words> {
+    let (mut requests, m, style) = accepted(r, widths);
     requests.extend(hunt(r, &m, style));
     requests
 }
 
 /// Few requests on few bytes, then half of the time one with a refusal that was sought.
-fn short_run(r: &mut Random) -> Vec<Words> {
-    let mut style = Style::draw(r);
+fn short_run(r: &mut Random, widths: Widths) -> Vec<Words> {
+    let mut style = style(r, widths);
     style.most_bytes = r.range(1, 3);
     style.most_allocations = r.range(1, 2) as usize;
-    let mut m = Reference::new();
-    let mut requests = Vec::new();
+    let (mut requests, mut m) = widths.begin(r);
     let count = r.range(2, 14);
     extend_accepted(r, &mut m, &style, &mut requests, count);
     if r.one_in(2) {
@@ -103,6 +135,7 @@ fn short_run(r: &mut Random) -> Vec<Words> {
 fn hunt(r: &mut Random, m: &Reference, mut style: Style) -> Option<Words> {
     let wanted = r.range(3, 28) as u8;
     style.wild = 3;
+    style.empties = 0;
     if wanted >= 17 {
         style.wild = 1000;
         style.kinds = [0, 3, 4, 4, 3, 0, 0, 0, 0, 1];
@@ -122,11 +155,10 @@ fn hunt(r: &mut Random, m: &Reference, mut style: Style) -> Option<Words> {
 }
 
 /// Requests that are refused now and then. In a program the run stops at the first of these.
-fn loose_list(r: &mut Random) -> Vec<Words> {
-    let mut style = Style::draw(r);
+fn loose_list(r: &mut Random, widths: Widths) -> Vec<Words> {
+    let mut style = style(r, widths);
     style.wild = r.pick(&[6, 12, 40, 100]);
-    let mut m = Reference::new();
-    let mut requests = Vec::new();
+    let (mut requests, mut m) = widths.begin(r);
     let prefix = r.range(4, 30);
     extend_accepted(r, &mut m, &style, &mut requests, prefix);
     for _ in 0..r.range(5, 60) {
@@ -138,8 +170,8 @@ fn loose_list(r: &mut Random) -> Vec<Words> {
 }
 
 /// A run with something wrong in it.
-fn damaged_run(r: &mut Random) -> Vec<u8> {
-    let (mut requests, m, style) = accepted(r);
+fn damaged_run(r: &mut Random, widths: Widths) -> Vec<u8> {
+    let (mut requests, m, style) = accepted(r, widths);
     match r.below(8) {
         0 => {
             let mut bytes = words::bytes(&requests);

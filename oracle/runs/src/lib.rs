@@ -9,4 +9,5 @@ pub mod limits;
 pub mod random;
 pub mod reference;
 pub mod start;
+pub mod width;
 pub mod words;

@@ -5,7 +5,7 @@ use crate::random::Random;
 use crate::reference::Reference;
 use crate::words::*;
 
-const PLAIN: Flags = Flags { frame: None, unpin: true, freeze: true };
+pub const PLAIN: Flags = Flags { frame: None, unpin: true, freeze: true };
 
 /// The number of scenes that `run` draws from.
 pub const SCENES: u64 = 20;
@@ -40,26 +40,26 @@ pub fn scene_run(r: &mut Random, scene: u64) -> Vec<Words> {
     }
 }
 
-fn at(address: u64, allocation: usize, node: usize) -> Ptr {
+pub fn at(address: u64, allocation: usize, node: usize) -> Ptr {
     Ptr { address, provenance: Some((allocation, node)) }
 }
 
-fn nowhere(address: u64) -> Ptr {
+pub fn nowhere(address: u64) -> Ptr {
     Ptr { address, provenance: None }
 }
 
-fn sized(size: u32) -> Words {
+pub fn sized(size: u32) -> Words {
     let mut words = vec![metadata(0, 0)];
     words.extend(header(0, size, &[]));
     words
 }
 
-fn in_frame(frame: u32) -> Flags {
+pub fn in_frame(frame: u32) -> Flags {
     Flags { frame: Some(frame), ..PLAIN }
 }
 
 /// One below, at or above a bound.
-fn around(r: &mut Random, bound: u64) -> u64 {
+pub fn around(r: &mut Random, bound: u64) -> u64 {
     bound - 1 + r.below(3)
 }
 
@@ -77,6 +77,7 @@ fn go_on(r: &mut Random, requests: &mut Vec<Words>) {
         most_allocations: 200,
         wild: 30,
         base: 90000,
+        empties: 0,
     };
     for _ in 0..r.below(12) {
         let request = deep::candidate(r, &m, &style);

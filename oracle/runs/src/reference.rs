@@ -1,4 +1,4 @@
-//! A second implementation of document 01, flat and by its own sentences: codes are numbers in rows, nodes have
+//! A second implementation of document 01 and of M-110's width, flat and by its own sentences: codes are numbers in rows, nodes have
 //! numbers and parents, transitions are a table. It shares no code with the oracle.
 
 use crate::coverage;
@@ -49,6 +49,8 @@ pub struct Alloc {
 pub struct Reference {
     pub allocs: Vec<Alloc>,
     pub frames: Vec<Option<Vec<(usize, usize)>>>,
+    /// 16, 32 or 64 bits.
+    pub width: u32,
 }
 
 #[derive(Clone, Debug, PartialEq)]
@@ -118,6 +120,10 @@ impl Fields {
             5 | 6 => self.no_provenance_fields() && plain && self.address == 0 && self.fourth < 32,
             7 | 8 => pointer && plain,
             9 => self.no_provenance_fields() && plain && self.address == 0 && self.fourth == 0,
+            15 => {
+                let zero = self.exponent == 0 && self.address == 0 && self.fourth == 0;
+                self.no_provenance_fields() && zero && self.extra < 3
+            }
             _ => false,
         }
     }
@@ -165,16 +171,25 @@ pub fn next_request(input: &[u8], at: usize) -> (Option<Vec<u32>>, usize) {
     (Some(all.map(|c| u32::from_be_bytes(c.try_into().unwrap())).collect()), at + total as usize)
 }
 
-/// A well-formed byte word.
-fn valid_byte(word: u32) -> bool {
+/// The highest address that a pointer of the width holds.
+pub fn last_address(width: u32) -> u64 {
+    u64::MAX >> (64 - width)
+}
+
+/// A well-formed byte word: its position is one of a pointer's bytes.
+fn valid_byte(word: u32, width: u32) -> bool {
     let initialised = word >= 0x8000_0000;
     let provenance = word / 0x4000_0000 % 2 == 1;
     let middle = word / 0x100 % 0x40_0000;
     if !initialised {
         word == 0
     } else {
-        provenance || middle == 0
+        provenance && position(word) < width / 8 || middle == 0
     }
+}
+
+fn position(word: u32) -> u32 {
+    word / 0x800_0000 % 8
 }
 
 /// The freeze mask of layout words, or none.
@@ -237,7 +252,7 @@ impl Default for Reference {
 
 impl Reference {
     pub fn new() -> Reference {
-        Reference { allocs: Vec::new(), frames: vec![None; 32] }
+        Reference { allocs: Vec::new(), frames: vec![None; 32], width: 64 }
     }
 
     /// Answer one request; none stands for one that the input ends inside.
@@ -269,15 +284,21 @@ impl Reference {
         if !f.in_lists() || after.len() as u64 != f.tail() {
             return Err(2);
         }
+        if f.address > last_address(self.width) {
+            coverage::width(|| self.too_big(&f));
+            return Err(2);
+        }
         match f.kind {
             0 => return self.allocate(&f),
             4 => return self.retag(&f, after),
             5 => return self.new_call(f.fourth as usize),
             6 => return self.end_call(f.fourth as usize),
             9 => return if self.leaks().next().is_some() { Err(25) } else { Ok(Third::None) },
+            15 => return self.empty(f.extra),
             _ => {}
         }
-        if f.kind == 3 && !after.iter().all(|&w| valid_byte(w)) {
+        if f.kind == 3 && !after.iter().all(|&w| valid_byte(w, self.width)) {
+            coverage::width(|| self.beyond_positions(after));
             return Err(2);
         }
         self.made(&f)?;
@@ -331,13 +352,15 @@ impl Reference {
     fn allocate(&mut self, f: &Fields) -> Outcome {
         let (start, size) = (f.address as u128, f.fourth as u128);
         let end = start + size;
-        let fits = start > 0 && start % (1 << f.exponent) == 0 && end < 1 << 64;
+        let aligned = start > 0 && start % (1 << f.exponent) == 0;
+        let fits = aligned && end < 1 << self.width;
         let clash = self.allocs.iter().filter(|a| a.live).any(|a| {
             let low = a.address as u128;
             let high = low + a.words.len() as u128;
             low == start || low < end && start < high
         });
         if !fits || clash {
+            coverage::width(|| self.beyond_last(aligned && !clash));
             return Err(5);
         }
         let words: usize = self.allocs.iter().map(|a| a.words.len()).sum();
@@ -345,6 +368,7 @@ impl Reference {
             && words as u128 + size <= 4096
             && self.nodes() < 1024
             && self.codes() as u128 + size <= 32768;
+        coverage::width(|| self.up_to_last(end, size));
         if !room {
             return Err(15);
         }
@@ -413,6 +437,7 @@ impl Reference {
         a.nodes = after;
         if f.kind == 3 {
             a.words[range].copy_from_slice(bytes);
+            coverage::width(|| highest_positions(bytes, self.width));
             return Ok(Third::None);
         }
         Ok(Third::Words(a.words[range].to_vec()))
@@ -470,6 +495,14 @@ impl Reference {
             self.frames[f.frame()].as_mut().unwrap().push((f.allocation, number));
         }
         Ok(Third::Pointer(f.allocation, number))
+    }
+
+    /// Nothing is left but the width that is asked for.
+    fn empty(&mut self, extra: u32) -> Outcome {
+        let width = [16, 32, 64][extra as usize];
+        coverage::width(|| self.emptied(width));
+        *self = Reference { width, ..Reference::new() };
+        Ok(Third::None)
     }
 
     fn new_call(&mut self, frame: usize) -> Outcome {
@@ -630,6 +663,68 @@ fn describe(f: &Fields, words: &[u32]) -> Vec<String> {
     ]
 }
 
+/// What depends on the width, in words, for the counts.
+impl Reference {
+    fn named(&self, names: &[(bool, &str)]) -> Vec<String> {
+        let held = names.iter().filter(|(holds, _)| *holds);
+        held.map(|(_, name)| format!("width {}: {name}", self.width)).collect()
+    }
+
+    fn too_big(&self, f: &Fields) -> Vec<String> {
+        let touches = matches!(f.kind, 2 | 3 | 7 | 8);
+        let mut names = self.named(&[
+            (true, "2 by the address"),
+            (touches && f.fourth == 0, "2 by the address, length 0"),
+            (touches && !f.has, "2 by the address, without provenance"),
+            (f.address == 1 << self.width, "2 by the lowest address that is too big"),
+        ]);
+        names.push(format!("width {}: 2 by the address, kind {}", self.width, f.kind));
+        names
+    }
+
+    fn beyond_positions(&self, bytes: &[u32]) -> Vec<String> {
+        self.named(&[
+            (bytes.iter().all(|&w| valid_byte(w, 64)), "2 by a position"),
+            (
+                bytes.iter().any(|&w| w >> 30 == 3 && position(w) == self.width / 8),
+                "2 by the lowest position",
+            ),
+        ])
+    }
+
+    fn beyond_last(&self, alone: bool) -> Vec<String> {
+        self.named(&[(alone, "5 by address plus size")])
+    }
+
+    fn up_to_last(&self, end: u128, size: u128) -> Vec<String> {
+        self.named(&[
+            (end == last_address(self.width) as u128, "address plus size is the last address"),
+            (size >= 1 << (self.width - 1), "half of all addresses are asked for"),
+        ])
+    }
+
+    fn emptied(&self, width: u32) -> Vec<String> {
+        let mut names = self.named(&[
+            (self.allocs.iter().any(|a| a.live), "emptied with a live allocation"),
+            (
+                self.frames.iter().flatten().any(|entries| !entries.is_empty()),
+                "emptied with an entry in a frame",
+            ),
+        ]);
+        names.push(format!("width {width}: by an emptying"));
+        names
+    }
+}
+
+fn highest_positions(bytes: &[u32], width: u32) -> Vec<String> {
+    let stored = bytes.iter().any(|&w| w >> 30 == 3 && position(w) == width / 8 - 1);
+    if stored {
+        vec![format!("width {width}: the highest position")]
+    } else {
+        Vec::new()
+    }
+}
+
 /// The whole output of a run, or of a list.
 pub fn output(input: &[u8], list: bool) -> String {
     output_from(Reference::new(), input, list)
@@ -670,8 +765,8 @@ fn hexadecimal(words: &[u32]) -> String {
 }
 
 impl Reference {
-    /// The memory's lines, and the open frames' ones in a list.
-    pub fn text(&self, frames: bool) -> String {
+    /// The memory's lines, and those of the open frames and the width in a list.
+    pub fn text(&self, list: bool) -> String {
         let mut text = String::new();
         for (i, a) in self.allocs.iter().enumerate() {
             let state = if a.live { "live" } else { "dead" };
@@ -690,7 +785,7 @@ impl Reference {
                 writeln!(text, "n {i} {number} {parent} {protector} {codes}").unwrap();
             }
         }
-        for (i, frame) in self.frames.iter().enumerate().filter(|_| frames) {
+        for (i, frame) in self.frames.iter().enumerate().filter(|_| list) {
             let Some(entries) = frame else { continue };
             let mut line: Vec<String> = entries.iter().map(|(a, n)| format!("{a}.{n}")).collect();
             if line.is_empty() {
@@ -698,12 +793,15 @@ impl Reference {
             }
             writeln!(text, "f {i} {}", line.join(" ")).unwrap();
         }
+        if list {
+            writeln!(text, "w {}", self.width).unwrap();
+        }
         text
     }
 }
 
 impl Reference {
-    /// A memory and frames from the text that `text(true)` gives.
+    /// A memory, frames and width from the text that `text(true)` gives.
     pub fn parse(text: &str) -> Reference {
         let mut memory = Reference::new();
         let place = |list: &[&str], word: &str| list.iter().position(|w| *w == word).unwrap();
@@ -733,6 +831,7 @@ impl Reference {
                     let entries = entries.map(|(a, n)| (a.parse().unwrap(), n.parse().unwrap()));
                     memory.frames[number(1)] = Some(entries.collect());
                 }
+                "w" => memory.width = number(1) as u32,
                 _ => {}
             }
         }

@@ -3,20 +3,23 @@
 
 use crate::deep::{self, Style};
 use crate::random::Random;
-use crate::reference::{Alloc, Node, Reference};
+use crate::reference::{last_address, Alloc, Node, Reference};
+use crate::width::Widths;
 use crate::words::{self, Words};
 
 /// A start and a list of requests for it.
-pub fn start(seed: u64, index: u64) -> (Reference, Vec<Words>) {
+pub fn start(widths: Widths, seed: u64, index: u64) -> (Reference, Vec<Words>) {
     let mut r = Random::new(seed, index);
-    let memory = memory(&mut r);
-    let requests = requests(&mut r, &memory);
+    let width = widths.draw(&mut r);
+    let memory = memory(&mut r, width);
+    let requests = requests(&mut r, &memory, widths);
     (memory, requests)
 }
 
-fn memory(r: &mut Random) -> Reference {
-    let mut m = Reference::new();
-    let mut address = r.pick(&[1, 16, u64::MAX - 1000]);
+fn memory(r: &mut Random, width: u32) -> Reference {
+    let mut m = Reference { width, ..Reference::new() };
+    let below_last = if width == 64 { 1000 } else { 40 };
+    let mut address = r.pick(&[1, 16, last_address(width) - below_last]);
     for _ in 0..r.range(1, 3) {
         let exponent = r.below(3) as u32;
         address = address.next_multiple_of(1 << exponent);
@@ -26,7 +29,7 @@ fn memory(r: &mut Random) -> Reference {
     }
     for allocation in 0..m.allocs.len() {
         for byte in 0..m.allocs[allocation].words.len() {
-            m.allocs[allocation].words[byte] = word(r);
+            m.allocs[allocation].words[byte] = word(r, width);
         }
     }
     for frame in 0..4 {
@@ -37,11 +40,14 @@ fn memory(r: &mut Random) -> Reference {
     m
 }
 
-fn word(r: &mut Random) -> u32 {
+fn word(r: &mut Random, width: u32) -> u32 {
     match r.below(3) {
         0 => 0,
         1 => words::byte(r.next() as u8),
-        _ => words::fragment(r.next() as u8, r.below(8) as u32, r.below(4) as u32, r.below(6) as u32),
+        _ => {
+            let (value, position) = (r.next() as u8, r.below(width as u64 / 8) as u32);
+            words::fragment(value, position, r.below(4) as u32, r.below(6) as u32)
+        }
     }
 }
 
@@ -89,8 +95,9 @@ fn entries(r: &mut Random, m: &Reference) -> Vec<(usize, usize)> {
     entries
 }
 
-fn requests(r: &mut Random, start: &Reference) -> Vec<Words> {
+fn requests(r: &mut Random, start: &Reference, widths: Widths) -> Vec<Words> {
     let mut style = Style::draw(r);
+    style.empties = widths.empties(r);
     style.wild = 40;
     style.kinds = [1, 3, 5, 5, 5, 1, 8, 1, 1, 1];
     let mut m = start.clone();

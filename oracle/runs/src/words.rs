@@ -88,6 +88,11 @@ pub fn leak_check() -> Words {
     four(9 << 28, 0, 0)
 }
 
+/// Empties the memory, to 16, 32 or 64 bits.
+pub fn empty(width: u32) -> Words {
+    four(first(15, None, 0, width / 32), 0, 0)
+}
+
 pub fn metadata(kind: u32, count: u32) -> u32 {
     kind << 30 | count
 }

@@ -1,5 +1,7 @@
 //! `--name value` and `--flag` arguments.
 
+use runs::width::Widths;
+
 pub struct Arguments(Vec<String>);
 
 impl Arguments {
@@ -21,5 +23,11 @@ impl Arguments {
             None => default,
             Some(text) => text.replace(',', "").parse().unwrap_or_else(|_| panic!("{name} takes a number")),
         }
+    }
+
+    /// `--width`: of generated runs.
+    pub fn widths(&self) -> Widths {
+        let named = self.text("--width").map_or(Some(Widths::Start), Widths::named);
+        named.expect("--width takes 16, 32, 64 or any")
     }
 }

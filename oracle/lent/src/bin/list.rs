@@ -1,5 +1,5 @@
 //! The proved library's list of requests (`tree_borrows_run_list`) behind the interface of `oracle --batch --list`, so that `compare --lists`
-//! can hold it against the Rust: answers, memory and frames. The buffers of one list are lent to the next as they are.
+//! can hold it against the Rust: answers, memory, frames and width. The buffers of one list are lent to the next as they are.
 
 #[allow(dead_code)]
 #[path = "../buffers.rs"]
@@ -29,6 +29,7 @@ impl Lent {
             protectors: vec![7; buffers::NODES],
             words: vec![7; buffers::WORDS],
             codes: vec![7; buffers::CODES],
+            width: 7,
         };
         Lent { memory, frames: vec![7; FRAMES], answers: Vec::new() }
     }
@@ -37,6 +38,7 @@ impl Lent {
         self.answers.resize(ends.len() * (5 + buffers::WORDS), 0);
         let reply = self.memory.run_list(&mut self.frames, words, ends, &mut self.answers);
         assert!(reply.refusal == 0 && reply.whole == 1 && reply.at <= self.answers.len());
+        self.memory.width = reply.width;
     }
 }
 

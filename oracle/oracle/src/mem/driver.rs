@@ -5,7 +5,8 @@ use super::print;
 use super::refusals::{last_message, Failure};
 use super::request::{cut, MOST_WORDS};
 use super::start;
-use super::state::{Answer, Options, State};
+use super::state::{Answer, Options};
+use super::targets::{on, AnyState};
 use std::io::{BufReader, BufWriter, Read, Write};
 use std::panic::{catch_unwind, AssertUnwindSafe};
 
@@ -14,9 +15,9 @@ const USAGE: &str =
        oracle --itself [--batch] [--whole-counts] [--no-memory]
   A run on standard input, document 01's output on standard output.
   --list            go on after a refusal, take any number of words behind a fourth, and print the open frames
-                    last (f)
+                    and the width last (f, w)
   --start           before the run stand a 32-bit length and a text of that length: memory and frames to start
-                    from, in the lines that --list prints last (a, d, n, f)
+                    from, in the lines that --list prints last (a, d, n, f, w)
   --batch           many runs, each as a 32-bit length in bytes, most significant first, and its bytes;
                     outputs come in the same form
   --whole-counts    have the Rust loop over every count of elements of size 0
@@ -106,7 +107,7 @@ fn all_runs(mode: Mode) -> std::io::Result<()> {
 fn time(times: u32, mode: Mode) -> std::io::Result<()> {
     let mut input = Vec::new();
     std::io::stdin().lock().read_to_end(&mut input)?;
-    let mut state = State::new(mode.options);
+    let mut state = AnyState::new(64, mode.options);
     let mut at = 0;
     loop {
         let (words, next) = cut(&input, at);
@@ -132,7 +133,7 @@ fn run(input: &[u8], mode: Mode) -> String {
         let text = std::str::from_utf8(&after[..length]).expect("a text");
         (start::parse(text, mode.options), &after[length..])
     } else {
-        (State::new(mode.options), input)
+        (AnyState::new(64, mode.options), input)
     };
     let mut out = String::new();
     let (mut at, mut index) = (0, 0);
@@ -152,9 +153,9 @@ fn run(input: &[u8], mode: Mode) -> String {
         at = next;
         index += 1;
     }
-    print::memory(&mut out, &state);
+    on!(&state, state => print::memory(&mut out, state));
     if mode.list {
-        print::frames(&mut out, &state);
+        on!(&state, state => print::frames_and_width(&mut out, state));
     }
     out
 }

@@ -11,6 +11,7 @@ use super::print;
 use super::request::{self, Request, Retag};
 use super::retag::call;
 use super::state::{align, allocation_kind, Options, RustMemory, State};
+use super::targets::{on, AnyState, Bits16, Bits32};
 use super::*;
 use libspecr::hidden::propose;
 use std::fmt::Write;
@@ -33,7 +34,7 @@ use Said::{Accepted, Ended, NoCall};
 const LONGEST_MASK: u64 = 1 << 20;
 
 pub fn run(input: &str, options: Options) -> Text {
-    let mut state = State::new(options);
+    let mut state = AnyState::new(64, options);
     let mut out = Text::new();
     let lines = input.lines().map(|line| line.split('#').next().unwrap_or("").trim());
     for (index, line) in lines.filter(|line| !line.is_empty()).enumerate() {
@@ -50,8 +51,7 @@ pub fn run(input: &str, options: Options) -> Text {
         }
     }
     if !options.no_memory {
-        print::allocations(&mut out, &state, |out, number, root| paths(out, number, root, "/"));
-        frames(&mut out, &state);
+        on!(&state, state => left(&mut out, state));
     }
     out
 }
@@ -61,7 +61,18 @@ fn message(payload: Box<dyn std::any::Any + Send>) -> Text {
     text.or_else(|| payload.downcast_ref::<&str>().map(|text| text.to_string())).unwrap_or_default()
 }
 
-impl State {
+impl AnyState {
+    /// One that empties the memory is a new memory, over the target that it names.
+    fn ask(&mut self, line: &str) -> Said {
+        let words = words(&line.split_whitespace().collect::<Vec<_>>());
+        if self.is_emptied(words.as_deref()) {
+            return Accepted(Text::new());
+        }
+        on!(self, state => state.ask(line))
+    }
+}
+
+impl<T: Target> State<T> {
     fn ask(&mut self, line: &str) -> Said {
         let parts: Vec<&str> = line.split_whitespace().collect();
         match parts[..] {
@@ -76,11 +87,10 @@ impl State {
                 let tested = self.held.memory.signed_dereferenceable(pointer, Int::new(integer(len)));
                 said(tested, |()| Text::new())
             }
-            ["wrapping_offset", address, offset] => {
-                let pointer = self.ask_pointer(integer(address), None);
-                let moved = pointer.wrapping_offset::<x86_64>(Int::new(integer(offset)));
-                Accepted(std::format!("{}", moved.addr))
-            }
+            ["wrapping_offset", address, offset] => wrapped::<T>(address, offset),
+            ["wrapping_offset", address, offset, "16"] => wrapped::<Bits16>(address, offset),
+            ["wrapping_offset", address, offset, "32"] => wrapped::<Bits32>(address, offset),
+            ["wrapping_offset", address, offset, "64"] => wrapped::<x86_64>(address, offset),
             ["entry", frame, name] => {
                 let entry = self.ask_name(named(name));
                 match &mut self.held.frames[integer(frame) as usize] {
@@ -94,9 +104,7 @@ impl State {
     }
 
     fn ask_words(&mut self, parts: &[&str]) -> Said {
-        let word = |part: &&str| u32::from_str_radix(part, 16).ok().filter(|_| part.len() == 8);
-        let words: Option<Vec<u32>> = parts.iter().map(word).collect();
-        let Some(words) = words else { return NoCall("not words") };
+        let Some(words) = words(parts) else { return NoCall("not words") };
         let bytes: Vec<u8> = words.iter().flat_map(|word| word.to_be_bytes()).collect();
         match request::cut(&bytes, 0) {
             (Some(_), end) if end == bytes.len() => {}
@@ -139,7 +147,7 @@ impl State {
                 if self.held.frames[frame].is_some() {
                     return NoCall("the frame is there already");
                 }
-                self.held.frames[frame] = Some(RustMemory::new_call());
+                self.held.frames[frame] = Some(RustMemory::<T>::new_call());
                 Accepted(Text::new())
             }
             Request::EndCall { frame } => {
@@ -202,7 +210,7 @@ impl State {
             _ => None,
         };
         let thin = self.ask_named(pointer);
-        let mut extra = frame.map_or(RustMemory::new_call(), |frame| self.held.frames[frame].unwrap());
+        let mut extra = frame.map_or(RustMemory::<T>::new_call(), |frame| self.held.frames[frame].unwrap());
         let retagged = call(thin, retag, described).make(&mut self.held.memory, &mut extra);
         if let (Ok(_), Some(frame)) = (&retagged, frame) {
             self.held.frames[frame] = Some(extra);
@@ -250,6 +258,18 @@ fn ended(info: TerminationInfo) -> Text {
     }
 }
 
+fn words(parts: &[&str]) -> Option<Vec<u32>> {
+    let word = |part: &&str| u32::from_str_radix(part, 16).ok().filter(|_| part.len() == 8);
+    parts.iter().map(word).collect()
+}
+
+fn wrapped<T: Target>(address: &str, offset: &str) -> Said {
+    let pointer: ThinPointer<TreeBorrowsProvenance> =
+        ThinPointer { addr: Int::new(integer(address)), provenance: None };
+    let moved = pointer.wrapping_offset::<T>(Int::new(integer(offset)));
+    Accepted(std::format!("{}", moved.addr))
+}
+
 fn integer(text: &str) -> i128 {
     text.parse().expect("a number")
 }
@@ -276,7 +296,10 @@ fn paths(out: &mut Text, allocation: usize, node: Node, path: &str) {
     }
 }
 
-fn frames(out: &mut Text, state: &State) {
+/// The memory and frames as the Rust left them.
+fn left<T: Target>(out: &mut Text, state: &State<T>) {
+    print::allocations(out, state, |out, number, root| paths(out, number, root, "/"));
+
     for (number, frame) in state.held.frames.iter().enumerate() {
         let Some(frame) = frame else { continue };
         let entries: Vec<Text> = frame.protectors.iter().map(name_of).collect();

@@ -2,6 +2,7 @@
 
 use super::refusals::Failure;
 use super::state::{Answer, State, Value};
+use super::targets::width;
 use super::*;
 use std::fmt::Write;
 
@@ -35,14 +36,14 @@ fn push_words(out: &mut std::string::String, words: &[u32]) {
     }
 }
 
-pub fn memory(out: &mut std::string::String, state: &State) {
+pub fn memory<T: Target>(out: &mut std::string::String, state: &State<T>) {
     allocations(out, state, |out, number, root| nodes(out, state, number, root));
 }
 
 /// Each allocation, its bytes, and its nodes as `tree` prints them.
-pub fn allocations(
+pub fn allocations<T: Target>(
     out: &mut std::string::String,
-    state: &State,
+    state: &State<T>,
     tree: impl Fn(&mut std::string::String, usize, Node),
 ) {
     for (number, allocation) in state.held.memory.mem.allocations.iter().enumerate() {
@@ -60,7 +61,7 @@ pub fn allocations(
 }
 
 /// The tree's nodes, found by their paths and printed by their numbers.
-fn nodes(out: &mut std::string::String, state: &State, allocation: usize, root: Node) {
+fn nodes<T: Target>(out: &mut std::string::String, state: &State<T>, allocation: usize, root: Node) {
     let numbering = &state.numbers[allocation];
     let mut found: Vec<Option<Node>> = vec![None; numbering.place.len()];
     found[0] = Some(root);
@@ -86,8 +87,8 @@ fn nodes(out: &mut std::string::String, state: &State, allocation: usize, root: 
     }
 }
 
-/// Open frames with their entries, for lists only: document 01's output has none.
-pub fn frames(out: &mut std::string::String, state: &State) {
+/// Open frames with their entries and the width, for lists only: document 01's output has neither.
+pub fn frames_and_width<T: Target>(out: &mut std::string::String, state: &State<T>) {
     for (number, frame) in state.held.frames.iter().enumerate() {
         let Some(frame) = frame else { continue };
         write!(out, "f {number}").unwrap();
@@ -100,6 +101,7 @@ pub fn frames(out: &mut std::string::String, state: &State) {
         }
         out.push('\n');
     }
+    writeln!(out, "w {}", width::<T>()).unwrap();
 }
 
 fn kind(kind: AllocationKind) -> &'static str {

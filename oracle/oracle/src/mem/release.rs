@@ -10,7 +10,7 @@ use super::*;
 use std::panic::{catch_unwind, AssertUnwindSafe};
 
 /// The refusal of an end call that fails on `held`, all of whose entries name nodes that were made.
-pub fn why_refused(held: Held, extra: TreeBorrowsFrameExtra) -> Failure {
+pub fn why_refused<T: Target>(held: Held<T>, extra: TreeBorrowsFrameExtra) -> Failure {
     let mut memory = held.memory;
     for entry in extra.protectors.iter() {
         let before = memory;
@@ -30,19 +30,19 @@ pub fn why_refused(held: Held, extra: TreeBorrowsFrameExtra) -> Failure {
     Failure::Unexpected("the entries can be released one by one".into())
 }
 
-fn entry_node(memory: RustMemory, (id, path): TreeBorrowsProvenance) -> Node {
+fn entry_node<T: Target>(memory: RustMemory<T>, (id, path): TreeBorrowsProvenance) -> Node {
     let root = memory.mem.allocations.index_at(id.0).extra.root;
     path.iter().fold(root, |node, index| node.children.index_at(index))
 }
 
 /// 16's sentence.
-fn holds_unprotected(memory: RustMemory, entry: TreeBorrowsProvenance) -> bool {
+fn holds_unprotected<T: Target>(memory: RustMemory<T>, entry: TreeBorrowsProvenance) -> bool {
     let node = entry_node(memory, entry);
     !node.protected.yes() || node.permissions.any(|p| matches!(p, Permission::Unprot(_)))
 }
 
 /// The access of the first transition that fails.
-fn refused_access(memory: RustMemory, entry: TreeBorrowsProvenance) -> Option<AccessKind> {
+fn refused_access<T: Target>(memory: RustMemory<T>, entry: TreeBorrowsProvenance) -> Option<AccessKind> {
     let accesses = entry_node(memory, entry).permissions.map(|p| p.unprotect().1);
     let root = memory.mem.allocations.index_at(entry.0 .0).extra.root;
     refused_below(root, Some(entry.1), accesses)

@@ -73,22 +73,37 @@ fn words_after_fourth(first: u32, fourth: u32) -> usize {
     }
 }
 
-/// The request that the words hold.
-pub fn decode(words: &[u32]) -> Result<Request<'_>, Refusal> {
-    demand(words[0] >> 3 & 31 <= 29)?;
-    fields(words)
+/// The width that the words empty the memory to: kind 15, with extra 0, 1 or 2 and zeros everywhere else.
+pub fn empties_to(words: &[u32]) -> Option<u32> {
+    let (first, rest) = words.split_first()?;
+    let width = *[16, 32, 64].get(first.checked_sub(15 << 28)? as usize)?;
+    (rest == [0; 3]).then_some(width)
 }
 
-/// The same without the port's bound on exponents: 2 where no call of the Rust has such fields.
+/// The request that the words hold, in a run of so many bits.
+pub fn decode(words: &[u32], width: u32) -> Result<Request<'_>, Refusal> {
+    demand(words[0] >> 3 & 31 <= 29)?;
+    demand((address(words) as u128) < 1 << width)?;
+    let request = fields(words)?;
+    if let Request::Store { words, .. } = request {
+        demand(words.iter().all(|word| word >> 27 & 7 < width / 8))?;
+    }
+    Ok(request)
+}
+
+fn address(words: &[u32]) -> u64 {
+    (words[1] as u64) << 32 | words[2] as u64
+}
+
+/// The same without the port's bound on exponents and without the width: 2 where no call of the Rust has such fields.
 pub fn fields(words: &[u32]) -> Result<Request<'_>, Refusal> {
     let (first, fourth, after) = (words[0], words[3], &words[4..]);
     let exponent = first >> 3 & 31;
     let extra = first & 7;
-    let address = (words[1] as u64) << 32 | words[2] as u64;
     match first >> 28 {
         0 => {
             demand(provenance_fields(first) == 0 && extra <= 4)?;
-            Ok(Request::Allocate { kind: extra, exponent, address, size: fourth })
+            Ok(Request::Allocate { kind: extra, exponent, address: address(words), size: fourth })
         }
         1 => {
             demand(extra <= 4)?;
@@ -139,7 +154,7 @@ fn provenance_fields(first: u32) -> u32 {
 
 fn pointer(words: &[u32]) -> Result<Pointer, Refusal> {
     let fields = provenance_fields(words[0]);
-    let address = (words[1] as u64) << 32 | words[2] as u64;
+    let address = address(words);
     if fields & 1 == 1 {
         let provenance = Some(((fields >> 13) as usize, (fields >> 1 & 0xfff) as usize));
         return Ok(Pointer { address, provenance });

@@ -19,16 +19,16 @@ pub struct Call {
 }
 
 impl Call {
-    pub fn make(
+    pub fn make<T: Target>(
         self,
-        memory: &mut RustMemory,
+        memory: &mut RustMemory<T>,
         frame: &mut TreeBorrowsFrameExtra,
     ) -> Result<Pointer<TreeBorrowsProvenance>> {
         memory.retag_ptr(frame, self.pointer, self.ptr_type, self.fn_entry, move |_| self.vtable)
     }
 }
 
-impl State {
+impl<T: Target> State<T> {
     pub fn retag(&mut self, named: Named, retag: Retag) -> Answer {
         let frame = retag.frame();
         if frame.is_some_and(|frame| self.held.frames[frame].is_none()) {
@@ -44,7 +44,7 @@ impl State {
         {
             return Err(self.below_start(call));
         }
-        let mut extra = frame.map_or(RustMemory::new_call(), |frame| self.held.frames[frame].unwrap());
+        let mut extra = frame.map_or(RustMemory::<T>::new_call(), |frame| self.held.frames[frame].unwrap());
         let retagged = call.make(&mut self.held.memory, &mut extra);
         let retagged = retagged.map_err(|info| failure(info, AccessKind::Read));
         if let Err(Failure::Refused(7..=9, _)) = retagged {
@@ -75,7 +75,7 @@ impl State {
     /// 14: the Rust unwraps a negative offset there and panics.
     fn below_start(&self, call: Call) -> Failure {
         let confirmed = self.confirm_panic(|held| {
-            let _ = call.make(&mut held.memory, &mut RustMemory::new_call());
+            let _ = call.make(&mut held.memory, &mut RustMemory::<T>::new_call());
         });
         confirmed.err().unwrap_or_else(|| 14.into())
     }
@@ -106,7 +106,7 @@ impl State {
     }
 
     /// With `confirm_panics`: does the Rust panic there?
-    fn confirm_panic(&self, call: impl FnOnce(&mut Held)) -> std::result::Result<(), Failure> {
+    fn confirm_panic(&self, call: impl FnOnce(&mut Held<T>)) -> std::result::Result<(), Failure> {
         let mut held = self.held;
         if !self.options.confirm_panics {
             return Ok(());

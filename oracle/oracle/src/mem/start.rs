@@ -1,9 +1,10 @@
-//! A memory and frames from their text: the lines that a list's output ends with (`a`, `d`, `n`, `f`). With it the
-//! Rust can be asked about memories that no run makes. The text has to describe a well-formed memory;
-//! frames may hold any entries.
+//! A memory and frames from their text: the lines that a list's output ends with (`a`, `d`, `n`, `f`, `w`). With it
+//! the Rust can be asked about memories that no run makes. The text has to describe a well-formed memory;
+//! frames may hold any entries. Without a width it is 64.
 
 use super::numbering::Numbering;
 use super::state::{Options, State};
+use super::targets::{on, AnyState};
 use super::*;
 
 /// One `n` line.
@@ -13,8 +14,14 @@ struct Line {
     row: List<Permission>,
 }
 
-pub fn parse(text: &str, options: Options) -> State {
-    let mut state = State::new(options);
+pub fn parse(text: &str, options: Options) -> AnyState {
+    let width = text.lines().find_map(|line| line.strip_prefix("w ")).map_or(64, number);
+    let mut state = AnyState::new(width as u32, options);
+    on!(&mut state, state => fill(state, text));
+    state
+}
+
+fn fill<T: Target>(state: &mut State<T>, text: &str) {
     let lines: Vec<Vec<&str>> = text.lines().map(|line| line.split(' ').collect()).collect();
     let of = |letter: &'static str| lines.iter().filter(move |line| line[0] == letter);
     let count = of("a").count();
@@ -46,7 +53,6 @@ pub fn parse(text: &str, options: Options) -> State {
         state.held.frames[number(line[1])] =
             Some(TreeBorrowsFrameExtra { protectors: List::from_slice(&entries) });
     }
-    state
 }
 
 fn number(text: &str) -> usize {

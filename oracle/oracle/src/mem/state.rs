@@ -5,10 +5,11 @@ use super::numbering::Numbering;
 use super::refusals::{failure, set_message, Failure};
 use super::release;
 use super::request::{self, Refusal, Request};
+use super::targets::{width, AnySize};
 use super::*;
 use libspecr::hidden::{collect_if_large, propose};
 
-pub type RustMemory = TreeBorrowsMemory<x86_64>;
+pub type RustMemory<T> = TreeBorrowsMemory<T>;
 
 const MOST_ALLOCATIONS: usize = 128;
 const MOST_WORDS: u64 = 4096;
@@ -18,8 +19,8 @@ pub const MOST_ENTRIES: usize = 64;
 
 /// The Rust's values: both are `Copy`, so a refusal is undone by putting the old ones back.
 #[derive(GcCompat, Clone, Copy)]
-pub struct Held {
-    pub memory: RustMemory,
+pub struct Held<T: Target> {
+    pub memory: RustMemory<T>,
     pub frames: [Option<TreeBorrowsFrameExtra>; 32],
 }
 
@@ -45,14 +46,14 @@ pub struct Options {
     pub no_memory: bool,
 }
 
-pub struct State {
-    pub held: Held,
+pub struct State<T: Target> {
+    pub held: Held<T>,
     pub numbers: Vec<Numbering>,
     pub options: Options,
 }
 
-impl State {
-    pub fn new(options: Options) -> State {
+impl<T: Target> State<T> {
+    pub fn new(options: Options) -> Self {
         let held = Held { memory: RustMemory::new(), frames: [None; 32] };
         State { held, numbers: Vec::new(), options }
     }
@@ -90,7 +91,7 @@ impl State {
     }
 
     fn request(&mut self, words: Option<&[u32]>) -> Answer {
-        match request::decode(words.ok_or(2)?)? {
+        match request::decode(words.ok_or(2)?, width::<T>())? {
             Request::Allocate { kind, exponent, address, size } => {
                 self.allocate(kind, exponent, address, size)
             }
@@ -121,7 +122,7 @@ impl State {
                 if self.held.frames[frame].is_some() {
                     return Err(2.into());
                 }
-                self.held.frames[frame] = Some(RustMemory::new_call());
+                self.held.frames[frame] = Some(RustMemory::<T>::new_call());
                 Ok(Value::Nothing)
             }
             Request::EndCall { frame } => self.end_call(frame),
@@ -153,6 +154,7 @@ impl State {
         let bytes = Size::from_bytes(size).unwrap();
         match self.held.memory.allocate(allocation_kind(kind), bytes, align(exponent)) {
             libspecr::NdResult::NoChoice => return Err(5.into()),
+            libspecr::NdResult::Failed(_) if !self.is_picked(bytes, align(exponent)) => return Err(5.into()),
             libspecr::NdResult::Failed(info) => return Err(failure(info, AccessKind::Read)),
             libspecr::NdResult::Done(_) => {}
         }
@@ -162,6 +164,16 @@ impl State {
         }
         self.numbers.push(Numbering::root());
         Ok(Value::Pointer(Some((self.numbers.len() - 1, 0))))
+    }
+
+    /// Whether `pick` chooses the proposed address for a size that the Rust finds too large before it is asked.
+    fn is_picked(&self, size: Size, align: Align) -> bool {
+        let (allocations, _phantom) = (self.held.memory.mem.allocations, std::marker::PhantomData);
+        let mut memory: BasicMemory<AnySize<T>, _, _> = BasicMemory { allocations, _phantom };
+        let root = Node { children: List::new(), permissions: List::new(), protected: Protected::No };
+        let extra = TreeBorrowsAllocationExtra { root };
+        let allocated = memory.allocate(AllocationKind::Stack, size, align, Path::new(), extra);
+        matches!(allocated, libspecr::NdResult::Done(_))
     }
 
     /// 4 for all entries, then the Rust. No end call of a run is refused by either: only a memory and frames

@@ -3,6 +3,7 @@
 use runs::coverage::{self, Coverage};
 use runs::exchange::{exchange, Exchanged};
 use runs::random::Random;
+use runs::width::Widths;
 use runs::{generate, reference, start, words};
 use std::collections::{BTreeMap, VecDeque};
 use std::path::PathBuf;
@@ -10,7 +11,7 @@ use tools::arguments::Arguments;
 use tools::program::Program;
 use tools::shrink::shrink;
 
-const USAGE: &str = "usage: compare --program PATH [--batch] [--lists | --starts] [--seed S] [--count N] [--from I] [--counts]
+const USAGE: &str = "usage: compare --program PATH [--batch] [--lists | --starts] [--seed S] [--count N] [--from I] [--width W] [--counts]
   Runs I to I + N - 1 of the seed, answered by the program and by the oracle, which stands beside this one
   (or at --oracle PATH). PATH may have arguments, with spaces between.
   --batch      the program answers many runs in one process: it is started with --batch, and each
@@ -19,6 +20,8 @@ const USAGE: &str = "usage: compare --program PATH [--batch] [--lists | --starts
                with the oracle's answers, and the oracle's answers and memory with those before the exchanges
   --starts     lists that start from a memory and frames drawn by chance: the program is started with --list and
                --start, and each run has a 32-bit length and the starting text before it
+  --width W    16 or 32: each run empties the memory to so many bits first; any: runs that empty it now and then, to
+               any width; 64: neither (the default). With --starts, the width that a memory is drawn at
   --stream     the program's option for --batch, if it has another name
   --counts     print what the runs reached
   --show N     print this many differences (3)
@@ -52,7 +55,8 @@ fn main() -> std::io::Result<()> {
     } else {
         "runs"
     };
-    println!("seed {seed}, {what} {from} to {}", from + count - 1);
+    let width = arguments.text("--width").unwrap_or("64");
+    println!("seed {seed}, {what} {from} to {}, width {width}", from + count - 1);
     let differences = comparison.report();
     comparison.program.end();
     comparison.oracle.end();
@@ -64,6 +68,7 @@ struct Comparison {
     oracle: Program,
     lists: bool,
     starts: bool,
+    widths: Widths,
     counts: bool,
     shrinks: bool,
     show: u64,
@@ -100,6 +105,7 @@ impl Comparison {
             oracle: Program::start(&command(&oracle, &[("--batch", true), options[0], options[1]]), true)?,
             lists,
             starts,
+            widths: arguments.widths(),
             counts: arguments.has("--counts"),
             shrinks: !arguments.has("--no-shrink"),
             show: arguments.number("--show", 3),
@@ -121,7 +127,7 @@ impl Comparison {
     fn all_runs(&mut self, seed: u64, indices: std::ops::Range<u64>) -> std::io::Result<()> {
         let mut ahead: VecDeque<(u64, Vec<u8>)> = VecDeque::new();
         for index in indices {
-            let run = generate::run(seed, index);
+            let run = generate::run(self.widths, seed, index);
             *self.origins.entry(run.origin).or_default() += 1;
             self.count(&run.bytes);
             self.ask(index, run.bytes, &mut ahead)?;
@@ -205,7 +211,7 @@ impl Comparison {
 
     fn all_lists(&mut self, seed: u64, indices: std::ops::Range<u64>) -> std::io::Result<()> {
         for index in indices {
-            let list = generate::list(seed, index);
+            let list = generate::list(self.widths, seed, index);
             let exchanged = exchange(&mut Random::new(!seed, index), &list, 20);
             let (first, second) = (words::bytes(&list), words::bytes(&exchanged.list));
             self.count(&first);
@@ -229,7 +235,7 @@ impl Comparison {
     fn all_starts(&mut self, seed: u64, indices: std::ops::Range<u64>) -> std::io::Result<()> {
         let mut ahead: VecDeque<(u64, Vec<u8>)> = VecDeque::new();
         for index in indices {
-            let (memory, requests) = start::start(seed, index);
+            let (memory, requests) = start::start(self.widths, seed, index);
             let text = memory.text(true).into_bytes();
             let run = words::bytes(&requests);
             if self.counts {
@@ -258,7 +264,7 @@ impl Comparison {
     }
 }
 
-/// Every answer is found again at its request's new place, and memory and frames are the same.
+/// Every answer is found again at its request's new place, and memory, frames and width are the same.
 fn same_but_exchanged(before: &[u8], after: &[u8], exchanged: &Exchanged) -> bool {
     let (before, after) = (String::from_utf8_lossy(before), String::from_utf8_lossy(after));
     let before: Vec<&str> = before.lines().collect();

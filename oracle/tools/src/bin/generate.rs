@@ -4,6 +4,7 @@ use runs::coverage::{self, Coverage};
 use runs::exchange::exchange;
 use runs::random::Random;
 use runs::reference::Reference;
+use runs::width::Widths;
 use runs::{generate, reference, start, words};
 use std::collections::BTreeMap;
 use std::fs::File;
@@ -11,13 +12,15 @@ use std::io::{BufWriter, Write};
 use tools::arguments::Arguments;
 use tools::framing;
 
-const USAGE: &str = "usage: generate [--seed S] [--count N] [--from I] [--out FILE] [--lists | --starts] [--counts] [--reached FILE]
+const USAGE: &str = "usage: generate [--seed S] [--count N] [--from I] [--out FILE] [--lists | --starts] [--width W] [--counts] [--reached FILE]
   Runs I to I + N - 1 of the seed, written to FILE, each as a 32-bit length and its bytes.
   --lists   lists with exchanged neighbours instead: for each, three parts are written: the list, the
             list after the exchanges, and the exchanges as 32-bit numbers, each the first of two places
   --starts  lists that start from a memory and frames drawn by chance, each with a 32-bit length and the
             starting text before it, as `oracle --start` takes them
-  --counts  print which refusals, pairs of code and access, and layouts were reached
+  --width W 16 or 32: each empties the memory to so many bits first; any: now and then, to any width; 64: neither
+            (the default). With --starts, the width that a memory is drawn at
+  --counts  print which refusals, pairs of code and access, layouts, and edges of a width were reached
   --reached write to FILE, on a line for each run, what it reaches when it goes on after refusals";
 
 fn main() -> std::io::Result<()> {
@@ -40,16 +43,17 @@ fn main() -> std::io::Result<()> {
     let mut reached = Coverage::default();
     let mut origins: BTreeMap<&str, u64> = BTreeMap::new();
     let (lists, starts) = (arguments.has("--lists"), arguments.has("--starts"));
+    let widths = arguments.widths();
     for index in from..from + count {
         let (origin, memory, bytes) = if starts {
-            let (memory, requests) = start::start(seed, index);
+            let (memory, requests) = start::start(widths, seed, index);
             let bytes = words::bytes(&requests);
             framing::write(&mut out, &after_start(&memory, &bytes))?;
             ("start", memory, bytes)
         } else if lists {
-            ("list", Reference::new(), write_exchanged(&mut out, seed, index)?)
+            ("list", Reference::new(), write_exchanged(&mut out, widths, seed, index)?)
         } else {
-            let run = generate::run(seed, index);
+            let run = generate::run(widths, seed, index);
             framing::write(&mut out, &run.bytes)?;
             (run.origin, Reference::new(), run.bytes)
         };
@@ -84,8 +88,8 @@ fn after_start(memory: &Reference, run: &[u8]) -> Vec<u8> {
 }
 
 /// Both lists and the places; gives back the first list.
-fn write_exchanged(out: &mut impl Write, seed: u64, index: u64) -> std::io::Result<Vec<u8>> {
-    let list = generate::list(seed, index);
+fn write_exchanged(out: &mut impl Write, widths: Widths, seed: u64, index: u64) -> std::io::Result<Vec<u8>> {
+    let list = generate::list(widths, seed, index);
     let exchanged = exchange(&mut Random::new(!seed, index), &list, 20);
     let first = words::bytes(&list);
     let places: Vec<u32> = exchanged.places.iter().map(|&place| place as u32).collect();
