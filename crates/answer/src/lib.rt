@@ -1,3 +1,5 @@
+#![tactic(auto)]
+
 // What a request comes to. specs/Answer.antt gives the definition's answer for every case.
 ghost use Rattle.std.specs.Prelude.{◌≡◌, List, ℕ, min, length, take, drop};
 ghost use Rattle.definition.specs.Memory.{refused_with};

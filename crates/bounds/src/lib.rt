@@ -1,3 +1,5 @@
+#![tactic(auto)]
+
 // The tests that change nothing, by their refusals: 4, 7 to 9, 15, 25; and those of tables for 5 (two ranges) and 6.
 // They read the allocations' records alone, each once, and no sum that they take passes 2^64.
 ghost use Rattle.std.specs.Prelude.{◌≡◌, not, ◌&&◌, List, ℕ, ◌+◌, ◌^◌, ◌<◌, leb, length};

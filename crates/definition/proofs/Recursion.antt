@@ -15,7 +15,7 @@ use Rattle.definition.specs.Notation.{if◌then◌else◌}
 use Rattle.definition.specs.Tree.{Node, parents, visiting_order, Visit, visit_refusal, visited}
 use Rattle.definition.proofs.Trees.{Parents}
 use Rattle.definition.proofs.Order.{walk, walk-some, walk_none, root-spared}
-use Rattle.definition.proofs.Turns.{◌andThen◌, node_in_turn, in_turn, turn-refusal, turn-nodes}
+use Rattle.definition.proofs.Turns.{◌and_then◌, node_in_turn, in_turn, turn-refusal, turn-nodes}
 
 -- node n is the spared one
 abbrev pub is_the : Option ℕ → ℕ → Bool

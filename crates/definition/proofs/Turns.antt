@@ -40,8 +40,8 @@ node_in_turn v n nodes =
     (row.0, mutate_at n (with_row row.1) nodes)
 
 -- the Rust's `?`: a visit goes on only if no refusal was met
-infixl 20 ◌andThen◌
-abbrev pub ◌andThen◌ : ℕ × List Node → (List Node → ℕ × List Node) → ℕ × List Node
+infixl 20 ◌and_then◌
+abbrev pub ◌and_then◌ : ℕ × List Node → (List Node → ℕ × List Node) → ℕ × List Node
 t and_then go = elim t.0 [ zero ↦ go t.1 | suc r ↦ t ]
 
 -- the nodes of a list, one after another

@@ -1,3 +1,5 @@
+#![tactic(auto)]
+
 // The end of a call: the protectors of its frame are released. mem.rs: `TreeBorrowsFrameExtra`, `release_protector`, `end_call`.
 // specs/Release.antt says what is asked and what is left, in the definition's terms. A new call only opens its frame: `frames::open_frame`.
 ghost use Rattle.std.specs.Prelude.{◌≡◌, true, not, ◌++◌, ℕ, ◌-◌, ◌≤◌, ◌<◌, length, take, drop, replicate};

@@ -1,3 +1,5 @@
+#![tactic(auto)]
+
 // A frame's protector list in its three forms: by value, which covered code takes and returns; lent as a slice of entry structs, which
 // two walked functions read and extend; and in the buffer that holds a run's 32 frames. mem.rs: `TreeBorrowsFrameExtra`.
 // specs/List.antt says what an entry and a list are in the definition, specs/Buffer.antt what the buffer holds.

@@ -1,3 +1,5 @@
+#![tactic(auto)]
+
 // A run by its bytes: its requests performed one by one, and the text of its verdict. specs/Turn.antt and specs/Whole.antt say what is promised.
 use pointer::width::Width;
 

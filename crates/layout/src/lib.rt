@@ -1,3 +1,5 @@
+#![tactic(auto)]
+
 // A retag's layout words, to a freeze mask. mem.rs: `UnsafeCellStrategy::freeze_mask`, `cells_to_freeze_mask`.
 // A mask is filled into a lent buffer: 1 for a freeze byte, 0 for a cell byte (specs/Filled.antt).
 ghost use Rattle.std.specs.Prelude.{◌≡◌, map, ◌-◌, ◌%◌, ◌≤◌, ◌<◌, length, get_or, replicate};

@@ -1,3 +1,5 @@
+#![tactic(auto)]
+
 // The library's entries: the requests that need no frame, on five lent buffers. None has a `requires`. Each tests what is lent (1), then the
 // fields (2), and then calls the request on the memory that the buffers hold. specs/Entry.antt says what each comes to.
 pub mod allocate;

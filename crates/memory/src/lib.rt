@@ -1,3 +1,5 @@
+#![tactic(auto)]
+
 // The requests that need no frame, on buffers that hold a memory. mem.rs: `BasicMemory`, `TreeBorrowsMemory`. Each function is the core of one: it
 // requires that the buffers hold a well-formed memory, and says of every memory that they hold what the answer is, and what they hold afterwards.
 pub mod access;

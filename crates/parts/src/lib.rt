@@ -1,3 +1,5 @@
+#![tactic(auto)]
+
 // One allocation's parts of the buffers: where they lie. specs/Trees.antt says so in the definition's terms, and proofs/ that they hold its tree.
 ghost use Rattle.std.specs.Prelude.{◌≡◌, ◌+◌, ◌*◌, ◌≤◌};
 ghost use Rattle.parts.specs.Trees.{parts_in};

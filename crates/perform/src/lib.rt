@@ -1,3 +1,5 @@
+#![tactic(auto)]
+
 // A request that is well formed, on the buffers that hold a run's state: its fields go to the core of its kind.
 // specs/Performed.antt says what is asked and what is left; what comes out is the definition's `perform`.
 ghost use Rattle.definition.specs.Frame.{State};

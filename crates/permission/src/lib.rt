@@ -1,3 +1,5 @@
+#![tactic(auto)]
+
 // One permission, held as its code, and one access. A number from 15 on holds no permission: nothing changes it, and it allows everything.
 ghost use Rattle.std.specs.Prelude.{◌≡◌};
 ghost use Rattle.definition.specs.Permission.{code};

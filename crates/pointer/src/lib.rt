@@ -1,3 +1,5 @@
+#![tactic(auto)]
+
 // Pointers by value, and bytes as words. mem.rs: `ThinPointer`, `Provenance`, `AbstractByte`.
 // specs/Pointer.antt says what these values are in the definition.
 ghost use Rattle.std.specs.Prelude.{◌≡◌};

@@ -1,3 +1,5 @@
+#![tactic(auto)]
+
 // One request: its words to its fields, and refusal 2. Document 01: "A run and its requests".
 // specs/Fields.antt says what these values are in the definition.
 ghost use Rattle.std.specs.Prelude.{◌≡◌, true, not, eqb, List, ℕ, ◌<◌, ◌*◌, ◌+◌, ◌%◌, ◌^◌, length, get_or, drop};

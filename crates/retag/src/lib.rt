@@ -1,3 +1,5 @@
+#![tactic(auto)]
+
 // Retags that add a node. mem.rs: `ReborrowSettings`, `reborrow`, `retag_ptr`. The child's inside bytes are read through it, and these reads are what
 // reads through its parent are (definition's Retags): so they are made before it is there, and it is put in as its own read leaves it. Whatever can be
 // refused is tested first, so that a refusal leaves nothing to undo.

@@ -1,3 +1,5 @@
+#![tactic(auto)]
+
 // A run: a list of requests from the empty memory, each given by its words, on the buffers that hold a memory and its frames.
 ghost use Rattle.std.specs.Prelude.{◌≡◌, ◌-◌, take, drop};
 

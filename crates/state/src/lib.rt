@@ -1,3 +1,5 @@
+#![tactic(auto)]
+
 // Six lent buffers and a run's state: five hold its memory (`tables`), and one its frames (`frames`). Here are their lengths, and the empty state.
 // specs/State.antt says what they hold, specs/Lengths.antt how long they are.
 ghost use Rattle.std.specs.Prelude.{◌≡◌, true, length, replicate};

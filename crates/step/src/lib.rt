@@ -1,3 +1,5 @@
+#![tactic(auto)]
+
 // One request: 2, and then its kind. The buffers are not tested again: they hold a run's state, with the width beside them, and the next one afterwards.
 ghost use Rattle.std.specs.Prelude.{◌≡◌, List, ℕ};
 ghost use Rattle.definition.specs.Frame.{State};

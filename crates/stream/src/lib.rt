@@ -1,3 +1,5 @@
+#![tactic(auto)]
+
 // The bytes of a run: their words, and how many bytes the next request has. proofs/Cuts.antt shows that a run cut so is the definition's.
 ghost use Rattle.std.specs.Prelude.{◌≡◌, ◌∷◌, ◌+◌, ◌-◌, ◌*◌, ◌≤◌, ◌<◌, length, drop};
 ghost use Rattle.definition.specs.Run.{words_of};

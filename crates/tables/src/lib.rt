@@ -1,3 +1,5 @@
+#![tactic(auto)]
+
 // How five lent buffers hold a memory: looking an allocation up, making one, giving it a node.
 //
 // `allocs` has nine numbers for each allocation: state (0 never made, 1 live, 2 dead), kind, alignment exponent, address,

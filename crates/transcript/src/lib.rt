@@ -1,3 +1,5 @@
+#![tactic(auto)]
+
 // Answers written one behind the other into a lent buffer. specs/Transcript.antt says in which words.
 ghost use Rattle.std.specs.Prelude.{◌≡◌, List, [], ◌∷◌, ◌++◌, ℕ, ◌<◌, ◌^◌, length};
 ghost use Rattle.definition.specs.Memory.Named.{Pointer};

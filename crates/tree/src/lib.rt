@@ -1,3 +1,5 @@
+#![tactic(auto)]
+
 // One allocation's tree, lent as parts of tables: each node's parent, its mark, and a row of codes for its bytes. The visits that requests make of it:
 // `visit` makes them; here they are said of the nodes that the tables hold.
 mod accesses;

@@ -1,3 +1,5 @@
+#![tactic(auto)]
+
 // The library for C and Rust: its entries under names that a linker finds, with pointers and answers as numbers (specs/Numbers.antt).
 // Each promises the numbers of what the entry that it calls comes to, and none has a `requires`. A slice crosses as its address and its length,
 // a flag as a number, of which 0 and 1 are in its list (2).

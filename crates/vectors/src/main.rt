@@ -1,3 +1,5 @@
+#![tactic(auto)]
+
 // Replays a recorded sample from standard input, and prints how many runs have the text that the Rust printed. The sample is made by
 // `recorder --out FILE` of oracle/, whose README.md has its form.
 ghost use Rattle.std.specs.Prelude.{ℕ, ◌≤◌, ◌<◌, ◌^◌, ◌≡◌, true, List, length};

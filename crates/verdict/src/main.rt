@@ -1,3 +1,5 @@
+#![tactic(auto)]
+
 // Reads a run from standard input and prints its verdict: the line of each request up to the first that is refused, and the memory that is left.
 ghost use Rattle.std.specs.Prelude.{ℕ, ◌+◌, ◌-◌, ◌≤◌, ◌<◌, ◌^◌, ◌≡◌, true, false, List, length};
 ghost use Rattle.definition.specs.Memory.{Memory};

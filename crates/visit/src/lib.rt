@@ -1,3 +1,5 @@
+#![tactic(auto)]
+
 // A visit of one allocation's tree over its tables: each node's parent, and a row of codes for its bytes. It goes to every node but one that is
 // spared and its descendants, parents before children, children in the order they were made, each with its bytes ascending.
 // It is made in two passes, a check and, if nothing is refused, the change. So a refusal leaves nothing to undo.

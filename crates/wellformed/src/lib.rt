@@ -1,3 +1,5 @@
+#![tactic(auto)]
+
 // Whether five lent buffers hold a memory (refusal 1): one pass over what is used, one over the rest, and pairs of allocations.
 pub mod at_width;
 
