@@ -8,7 +8,7 @@ ghost use Rattle.answer.specs.Answer.Gives.{Nothing};
 
 use pointer::Provenance;
 
-#[derive(Drop)]
+#[derive(Clone, Copy)]
 pub enum Answer {
     // with document 01's number
     Refused(u8),

@@ -145,7 +145,7 @@ fn greater(a: u32, b: u32) -> u32
 }
 
 // Allocations, from one on and before another.
-#[derive(Drop)]
+#[derive(Clone, Copy)]
 struct Span {
     first: usize,
     end: usize,

@@ -12,14 +12,14 @@ ghost use Rattle.frames.specs.Buffer.{entry_number, entry_in, entries_in, entrie
 
 // Whom a frame protects: a node of an allocation. It has C's layout, so that C and Rust can lend a list of them.
 #[repr(C)]
-#[derive(Drop)]
+#[derive(Clone, Copy)]
 pub struct Entry {
     pub allocation: u32,
     pub node: u32,
 }
 
 // A list of entries by value: the first `count` of 64.
-#[derive(Drop)]
+#[derive(Clone, Copy)]
 pub struct Entries {
     pub list: [Entry; 64],
     pub count: usize,

@@ -8,7 +8,7 @@ pub mod whole;
 
 // How far a run was performed: the next request starts at `from`, its line goes to `at`, it has the number `index`; the last
 // was refused; the run has this width.
-#[derive(Drop)]
+#[derive(Clone, Copy)]
 pub struct Advance {
     pub from: usize,
     pub at: usize,
@@ -18,7 +18,7 @@ pub struct Advance {
 }
 
 // What comes of a whole run.
-#[derive(Drop)]
+#[derive(Clone, Copy)]
 pub enum Judged {
     // the text stands in front of the buffer, so long
     Text(usize),

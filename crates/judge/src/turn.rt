@@ -19,14 +19,14 @@ use step::Outcome;
 use stream::Cut;
 
 // Where the next line goes, and whether the request was refused.
-#[derive(Drop)]
+#[derive(Clone, Copy)]
 struct Line {
     at: usize,
     refused: bool,
 }
 
 // The same, with the width that the request leaves.
-#[derive(Drop)]
+#[derive(Clone, Copy)]
 struct LineAtWidth {
     line: Line,
     width: Width,

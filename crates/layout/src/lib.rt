@@ -8,7 +8,7 @@ ghost use Rattle.definition.specs.Layout.{unsafe_cell, cells_fit, is_freeze, hea
 ghost use Rattle.layout.specs.Filled.{header_of, meta_of, layout_of, is_tuple, has_cells, mask_bytes, Fills, elements_mask, last_mask, tail_mask, answered, afterwards};
 
 // Whether words have a mask.
-#[derive(Drop)]
+#[derive(Clone, Copy)]
 pub enum Mask {
     // of so many bytes
     Of(usize),
@@ -18,7 +18,7 @@ pub enum Mask {
 }
 
 // ---- words to their fields
-#[derive(Drop)]
+#[derive(Clone, Copy)]
 enum LayoutStrategy {
     Sized,
     Slice,
@@ -26,14 +26,14 @@ enum LayoutStrategy {
     Tuple,
 }
 
-#[derive(Drop)]
+#[derive(Clone, Copy)]
 struct Header {
     layout: LayoutStrategy,
     cells: u32,
     size: u32,
 }
 
-#[derive(Drop)]
+#[derive(Clone, Copy)]
 enum PointerMeta {
     NoMetadata,
     ElementCount(u32),

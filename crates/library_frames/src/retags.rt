@@ -26,7 +26,7 @@ use retag::ReborrowSettings;
 
 // What is retagged: extra (0 shared reference, 1 mutable reference, 2 box, 3 raw, 4 function, 5 vtable pointer), and the flags. They are read
 // where they have a use: unpin for a mutable reference, the others where a node is added.
-#[derive(Drop)]
+#[derive(Clone, Copy)]
 pub struct RetagSettings {
     pub extra: u32,
     pub function_entry: bool,
@@ -35,14 +35,14 @@ pub struct RetagSettings {
 }
 
 // The answer, and how many entries the frame then has.
-#[derive(Drop)]
+#[derive(Clone, Copy)]
 pub struct RetagAnswer {
     pub answer: Answer,
     pub count: usize,
 }
 
 // What a retag comes to, and the entry that is put into the frame's list. For none the place is behind the list.
-#[derive(Drop)]
+#[derive(Clone, Copy)]
 pub struct RetagOutcome {
     pub answer: RetagAnswer,
     pub at: usize,

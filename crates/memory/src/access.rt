@@ -68,7 +68,7 @@ fn access_tree(
 }
 
 // The first refusal or 0, and then where the bytes at the pointer start in the data; 0 where there are none.
-#[derive(Drop)]
+#[derive(Clone, Copy)]
 struct Outcome {
     refusal: u8,
     start: usize,

@@ -7,14 +7,14 @@ ghost use Rattle.parts.specs.Trees.{parts_in};
 use tables::Allocation;
 
 // From one place on and before another.
-#[derive(Drop)]
+#[derive(Clone, Copy)]
 pub struct Span {
     pub start: usize,
     pub end: usize,
 }
 
 // Where its nodes lie, and their codes; a node's row is as wide as the allocation has bytes.
-#[derive(Drop)]
+#[derive(Clone, Copy)]
 pub struct Parts {
     pub nodes: Span,
     pub codes: Span,

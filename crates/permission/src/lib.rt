@@ -9,27 +9,27 @@ ghost use Rattle.definition.specs.Permission.Protected.{No, Weak, Strong};
 ghost use Rattle.definition.specs.Retag.{start_perm};
 ghost use Rattle.permission.specs.Codes.{access_kind, node_relation, maybe_access, protector, safe_pointer, transition_code, is_protected_code, unprotected_code, end_access_code, prevents_code, init_access_code};
 
-#[derive(Drop)]
+#[derive(Clone, Copy)]
 pub enum AccessKind {
     Read,
     Write,
 }
 
 // Of a node to the accessed one: local to the accessed node and its ancestors, else foreign.
-#[derive(Drop)]
+#[derive(Clone, Copy)]
 pub enum NodeRelation {
     Local,
     Foreign,
 }
 
-#[derive(Drop)]
+#[derive(Clone, Copy)]
 pub enum MaybeAccess {
     Nothing,
     Access(AccessKind),
 }
 
 // What an access makes of a code: it stays, it becomes another code, or the access is refused with a number.
-#[derive(Drop)]
+#[derive(Clone, Copy)]
 pub enum Outcome {
     Stays,
     Becomes(u8),
@@ -176,14 +176,14 @@ pub fn prevents_deallocation(code: u8) -> bool
 }
 
 // The pointers that a retag makes a node for.
-#[derive(Drop)]
+#[derive(Clone, Copy)]
 pub enum SafePointer {
     SharedRef,
     MutableRef,
     Box,
 }
 
-#[derive(Drop)]
+#[derive(Clone, Copy)]
 pub enum Protected {
     No,
     Weak,

@@ -15,13 +15,13 @@ use crate::width::Width;
 pub mod width;
 
 // What a pointer may access: nothing, or an allocation, through one of its nodes.
-#[derive(Drop)]
+#[derive(Clone, Copy)]
 pub enum Provenance {
     None,
     Of { allocation: u32, node: u32 },
 }
 
-#[derive(Drop)]
+#[derive(Clone, Copy)]
 pub struct ThinPointer {
     pub addr: u64,
     pub provenance: Provenance,

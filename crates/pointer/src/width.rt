@@ -5,7 +5,7 @@ ghost use Rattle.definition.specs.Width.{bits, addresses, pointer_bytes};
 ghost use Rattle.definition.specs.Request.{position, is_too_high, is_too_far};
 ghost use Rattle.pointer.specs.Width.{width_of, is_width, width_at};
 
-#[derive(Drop)]
+#[derive(Clone, Copy)]
 pub enum Width {
     Bits16,
     Bits32,

@@ -22,7 +22,7 @@ use permission::{Protected, SafePointer};
 use pointer::width::{Width, any_far_byte};
 use pointer::{Provenance, ThinPointer};
 
-#[derive(Drop)]
+#[derive(Clone, Copy)]
 pub enum Kind {
     Allocate,
     Deallocate,
@@ -39,7 +39,7 @@ pub enum Kind {
 }
 
 // The fields of a request's first four words. The words that follow stay where they are lent (`following`).
-#[derive(Drop)]
+#[derive(Clone, Copy)]
 pub struct Request {
     pub kind: Kind,
     pub allocation: u32,

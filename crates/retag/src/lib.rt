@@ -34,7 +34,7 @@ use pointer::{Provenance, ThinPointer};
 use tables::{Allocation, NodePlace, Starts};
 
 // The pointer that is made, the protector, and whether the bytes outside the pointee are freeze bytes.
-#[derive(Drop)]
+#[derive(Clone, Copy)]
 pub struct ReborrowSettings {
     pub pointer: SafePointer,
     pub protected: Protected,

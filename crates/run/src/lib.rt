@@ -8,7 +8,7 @@ use pointer::width::Width;
 pub mod list;
 
 // What a list comes to: a refusal with document 01's number, or its answers, as far as the lent buffer has room, and the width that it leaves.
-#[derive(Drop)]
+#[derive(Clone, Copy)]
 pub enum ListRun {
     Refused(u8),
     Answered {

@@ -14,7 +14,7 @@ use pointer::width::Width;
 use transcript::Written;
 
 // How far a list is done: its answers are written so far, and the run has this width.
-#[derive(Drop)]
+#[derive(Clone, Copy)]
 struct Advance {
     written: Written,
     width: Width,

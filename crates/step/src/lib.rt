@@ -53,7 +53,7 @@ fn step_decoded(
 }
 
 // What a request of a run comes to: its answer, and the width that the run then has.
-#[derive(Drop)]
+#[derive(Clone, Copy)]
 pub struct Outcome {
     pub answer: Answer,
     pub width: Width,

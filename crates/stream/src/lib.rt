@@ -38,7 +38,7 @@ pub fn read_words(bytes: &[u8], words: &mut [u32]) -> usize
 }
 
 // The next request of a run: its fields, where there are bytes for them, and how many bytes it has.
-#[derive(Drop)]
+#[derive(Clone, Copy)]
 pub struct Cut {
     pub fields: Request,
     pub size: usize,

@@ -16,7 +16,7 @@ ghost use Rattle.tables.specs.Decoding.{made_in};
 ghost use Rattle.tables.specs.Held.{inserted, ZerosFrom, with_node, Records, StartsAt, Used, AllocationFits, Appended, moved_starts, RecordsBehind, NodeFits, PlaceFor, Trees};
 
 // Where the parts of an allocation start: in `words`, in `parents` and `protectors`, in `codes`.
-#[derive(Drop)]
+#[derive(Clone, Copy)]
 pub struct Starts {
     pub words: usize,
     pub nodes: usize,
@@ -24,7 +24,7 @@ pub struct Starts {
 }
 
 // An allocation's record.
-#[derive(Drop)]
+#[derive(Clone, Copy)]
 pub struct Allocation {
     pub state: u64,
     pub kind: u64,
@@ -338,7 +338,7 @@ fn move_starts(allocs: &mut [u64], k: usize, width: usize)
 }
 
 // How many nodes and codes are used, and where among them a node goes, and its row.
-#[derive(Drop)]
+#[derive(Clone, Copy)]
 pub struct NodePlace {
     pub nodes: usize,
     pub codes: usize,

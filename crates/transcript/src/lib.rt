@@ -11,7 +11,7 @@ use answer::Answer;
 use pointer::Provenance;
 
 // Where the next word goes, and whether all words so far found room.
-#[derive(Drop)]
+#[derive(Clone, Copy)]
 pub struct Written {
     pub at: usize,
     pub whole: bool,

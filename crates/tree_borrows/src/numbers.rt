@@ -12,7 +12,7 @@ use run::ListRun;
 
 // A pointer. It has provenance (1) or not (0), and then it names no allocation or node: both are 0.
 #[repr(C)]
-#[derive(Drop)]
+#[derive(Clone, Copy)]
 pub struct Pointer {
     pub address: u64,
     pub provenance: u8,
@@ -22,7 +22,7 @@ pub struct Pointer {
 
 // What is retagged: extra (0 shared reference, 1 mutable reference, 2 box, 3 raw, 4 function, 5 vtable pointer), and the flags, 0 or 1.
 #[repr(C)]
-#[derive(Drop)]
+#[derive(Clone, Copy)]
 pub struct Settings {
     pub extra: u32,
     pub function_entry: u8,
@@ -32,7 +32,7 @@ pub struct Settings {
 
 // An answer.
 #[repr(C)]
-#[derive(Drop)]
+#[derive(Clone, Copy)]
 pub struct Reply {
     // document 01's number, 0 for an accepted request
     pub refusal: u8,
@@ -45,7 +45,7 @@ pub struct Reply {
 
 // A retag's answer, and how many entries the frame then has.
 #[repr(C)]
-#[derive(Drop)]
+#[derive(Clone, Copy)]
 pub struct RetagReply {
     pub reply: Reply,
     pub count: usize,
@@ -54,7 +54,7 @@ pub struct RetagReply {
 // What a list of requests comes to: a refusal of the whole (1), or how far its answers reach in the lent buffer, whether all of them are there (1)
 // or not (0), and the width that it leaves, as a number of bits (0 where it is refused).
 #[repr(C)]
-#[derive(Drop)]
+#[derive(Clone, Copy)]
 pub struct ListReply {
     pub refusal: u8,
     pub whole: u8,
@@ -63,7 +63,7 @@ pub struct ListReply {
 }
 
 // With the entry that is put into the frame's list. For none the place is behind the list.
-#[derive(Drop)]
+#[derive(Clone, Copy)]
 pub struct RetagMade {
     pub answer: RetagReply,
     pub at: usize,

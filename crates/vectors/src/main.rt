@@ -11,7 +11,7 @@ ghost use Rattle.vectors.specs.Sample.{record_at, Agrees, one, Counted};
 use judge::Judged;
 
 // Where a record's run, its text and its end are.
-#[derive(Drop)]
+#[derive(Clone, Copy)]
 struct Record {
     found: bool,
     run: usize,

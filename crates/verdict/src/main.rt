@@ -16,7 +16,7 @@ use judge::Advance;
 use pointer::width::Width;
 
 // The input buffer holds bytes up to `end`, of which those from `advance.from` on are not yet performed; the text up to `advance.at` is not yet written.
-#[derive(Drop)]
+#[derive(Clone, Copy)]
 struct Progress {
     advance: Advance,
     end: usize,

@@ -21,7 +21,7 @@ pub use plan::{make_plan, relation};
 
 // The accesses of a visit: the same at each byte; or by a lent row of numbers, which tell each byte's access: 0 for none, 1 for a read, 2 for a
 // write; or by a lent row of codes, as a retag reads the bytes.
-#[derive(Drop)]
+#[derive(Clone, Copy)]
 pub enum Accesses {
     Each(AccessKind),
     Told,
@@ -30,7 +30,7 @@ pub enum Accesses {
 
 // The accessed node; the node that is spared with its descendants (a number that no node has spares none); the width of a row; the visited
 // bytes, `len` of them; and their accesses.
-#[derive(Drop)]
+#[derive(Clone, Copy)]
 pub struct Reach {
     pub node: usize,
     pub spared: usize,
@@ -42,7 +42,7 @@ pub struct Reach {
 
 // What the check pass tells: every code stays; nothing is refused; or the first refusal in the order of the visit. `Changes` is answered where a code
 // changes; its promise is only that nothing is refused, which is all that the apply pass after it needs.
-#[derive(Drop)]
+#[derive(Clone, Copy)]
 pub enum Answer {
     Stays,
     Changes,
