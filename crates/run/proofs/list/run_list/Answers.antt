@@ -1,0 +1,15 @@
+-- 1 by the lengths; else the list on buffers that were emptied.
+use mathlib.Core.Path.{sym, ◌∙◌}
+use borrow.Author.Tests.{not-true, not-false}
+use Rattle.run.proofs.Turns.{not-lent, list-ran}
+use Rattle.run.proofs.list.run_list.Goals as goal
+
+pub returns-then-not-have_lengths : goal.returns-then-not-have_lengths
+returns-then-not-have_lengths c = not-lent (sym c.have_lengths.ensures ∙ not-true _ c.if-not-have_lengths.true-raw)
+
+pub clear-requires : goal.clear-requires
+clear-requires c = sym c.have_lengths.ensures ∙ not-false _ c.if-not-have_lengths.false-raw
+
+pub returns : goal.returns
+returns c = let lengths = measured (cleared c.before.before.before.before.before.before.before.before.before.before.before.before.before.before.before.before).before in
+    list-ran (sym lengths.before.have-lengths.ensures ∙ not-false _ lengths.if1.left) c.run_cleared-p.ensures
