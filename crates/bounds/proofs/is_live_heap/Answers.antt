@@ -9,19 +9,16 @@ use Rattle.tables.specs.Held.{Records}
 use Rattle.tables.proofs.Lookup.{record-in, same_count}
 use Rattle.bounds.proofs.Points.{read-kind, read_live, read-dead}
 use Rattle.bounds.proofs.is_live_heap.Goals as goal
-use Rattle.bounds.proofs.is_live_heap.Goals.{After-allocation_at-a}
-
--- it was made, in every memory that has these records
-is_made : (c : After-allocation_at-a) {m : Memory} → Records m c.args.allocs.now → c.args.i < length m
-is_made c h = omega (arith, same_count h c.requires.1.0)
 
 pub allocation_at-a-requires : goal.allocation_at-a-requires
 allocation_at-a-requires c = record-in c.requires.1.0 _ c.requires.1.1
 
 pub returns-then-a-ne1 : goal.returns-then-a-ne1
-returns-then-a-ne1 c = λ m h. rw (read-dead h (is_made c.before.before h) c.allocation_at-a.ensures c.if-a-ne1.true)
+returns-then-a-ne1 c = let is_made : (m : Memory) → Records m c.args.allocs.now → c.args.i < length m = λ m h. omega (arith, same_count h c.requires.1.0) in
+    λ m h. rw (read-dead h (is_made _ h) c.allocation_at-a.ensures c.if-a-ne1.true)
 
 pub returns : goal.returns
-returns c = λ m h.
-    rw (read_live h (is_made c.before.before.before h) c.allocation_at-a.ensures c.if-a-ne1.false)
-    (ap (λ (k : ℕ). eqb k 1) (read-kind h (is_made c.before.before.before h) c.allocation_at-a.ensures))
+returns c = let is_made : (m : Memory) → Records m c.args.allocs.now → c.args.i < length m = λ m h. omega (arith, same_count h c.requires.1.0) in
+    λ m h.
+    rw (read_live h (is_made _ h) c.allocation_at-a.ensures c.if-a-ne1.false)
+    (ap (λ (k : ℕ). eqb k 1) (read-kind h (is_made _ h) c.allocation_at-a.ensures))

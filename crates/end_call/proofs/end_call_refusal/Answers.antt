@@ -26,14 +26,13 @@ pub release_lent-requires : goal.release_lent-requires
 release_lent-requires c = let m = c.requires.holds_marked.0 in
     let h = c.requires.holds_marked.1 in
     let list = c.args.list in
-    let n : any (is_unmade m) (entries_of list) ≡ false = sym (c.any_never_made.ensures m (records-of h)) ∙ c.if-any_never_made.false in
-    ((m, (h, subst⁻¹ (AllMade m) (written list c.numbers_of-numbers.result c.numbers_of-numbers.ensures) (all_made m (entries_of list) n))), c.requires.count_bound.1)
+    let n : any (is_unmade m) (entries_of list) ≡ false = sym (c.any_never_made.ensures m (records-of h)) ∙ c.if-any_never_made.false in record { holds_marked = (m, (h, subst⁻¹ (AllMade m) (written list c.numbers_of-numbers.result c.numbers_of-numbers.ensures) (all_made m (entries_of list) n))); area_len = c.requires.count_bound.1 }
 
 pub returns : goal.returns
 returns c = λ m h.
     let list = c.args.list in
     let r = c.release_lent in
-    let n : any (is_unmade m) (entries_of list) ≡ false = sym (c.any_never_made.ensures m (records-of h)) ∙ c.if-any_never_made.left in
+    let n : any (is_unmade m) (entries_of list) ≡ false = sym (c.any_never_made.ensures m (records-of h)) ∙ c.if-any_never_made.false in
     let same = written list c.numbers_of-numbers.result c.numbers_of-numbers.ensures in
     made-released n
     (subst (λ (es : List Provenance). ReleasedAll m es r.result r.new.1.1.0 r.new.1.1.1.0) same

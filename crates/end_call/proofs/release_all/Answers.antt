@@ -26,7 +26,7 @@ put_back-requires-then-refused-ne0 c = let h = c.requires.holds_marked.1.0 in
 
 pub returns-then-refused-ne0 : goal.returns-then-refused-ne0
 returns-then-refused-ne0 c = λ m h made.
-    some-refused h c.requires.touched.0 (c.release_until-refused.ensures m h made) c.if-refused-ne0.taken _ _ c.save.ensures
+    some-refused h c.requires.touched.0 (c.release_until-refused.ensures m h made) c.if-refused-ne0.true _ _ c.save.ensures
     c.save-2.ensures c.put_back.ensures c.put_back-then-refused-ne0.ensures
 
 pub returns-else-refused-ne0 : goal.returns-else-refused-ne0

@@ -15,5 +15,4 @@ starts_at-to-requires c = let m = c.requires.holds_marked.0 in
     (m, (records-of c.requires.holds_marked.1.0, spans-made m (entries_in c.args.numbers.now) _ _ c.span_of-span.ensures c.requires.holds_marked.1.1))
 
 pub release_all-requires : goal.release_all-requires
-release_all-requires c = let t = touched c.span_of-span.ensures c.starts_at-from.ensures c.starts_at-to.ensures in
-    (c.requires.holds_marked, (t, omega (arith, codes-total c.requires.holds_marked.1.0 t, c.requires.area_len)))
+release_all-requires c = let t = touched c.span_of-span.ensures c.starts_at-from.ensures c.starts_at-to.ensures in record { holds_marked = c.requires.holds_marked; touched = (t, omega (arith, codes-total c.requires.holds_marked.1.0 t, c.requires.area_len)) }

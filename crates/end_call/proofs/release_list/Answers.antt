@@ -28,5 +28,4 @@ pub overflow_sub-to : goal.overflow_sub-to
 overflow_sub-to c = codes-ordered c.requires.1.0 (touched c.span_of-span.ensures c.starts_at-from.ensures c.starts_at-to.ensures)
 
 pub release_all-requires-2 : goal.release_all-requires-2
-release_all-requires-2 c = let t = touched c.span_of-span.ensures c.starts_at-from.ensures c.starts_at-to.ensures in
-    (c.requires, (t, omega (arith, codes-total c.requires.1.0 t)))
+release_all-requires-2 c = let t = touched c.span_of-span.ensures c.starts_at-from.ensures c.starts_at-to.ensures in record { holds_marked = c.requires; touched = (t, omega (arith, codes-total c.requires.1.0 t)) }

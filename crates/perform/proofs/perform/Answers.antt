@@ -7,7 +7,7 @@ pub retag-requires : goal.retag-requires
 retag-requires c = (c.requires.0, trees c.requires.1.0)
 
 pub new_call-requires : goal.new_call-requires
-new_call-requires c = let u = c.frame_used-f.ensures in ((c.requires.0, (frames c.requires.1.0, new-closed c.requires.1.0 c.requires.1.1 u.0 c.in-NewCall.is)), u.1)
+new_call-requires c = let u = c.frame_used-f.ensures in record { holds_frames = (c.requires.0, (frames c.requires.1.0, new-closed c.requires.1.0 c.requires.1.1 u.0 c.in-NewCall.is)); f_bound = u.1 }
 
 pub end_call-requires : goal.end_call-requires
 end_call-requires c = record { holds_trees_and_frames = (c.requires.0, trees c.requires.1.0); f_bound = c.frame_used-f.ensures.1 }

@@ -19,7 +19,7 @@ place_in-from-requires c = let m = c.requires.located.0 in
     let reads = reads_at m c.args.n c.args.node c.args.p.addr c.args.inside.now in
     let made = k.fits.reached.made in
     let r = records-before reads m c.args.n made valid h in
-    λ long. omega (arith, read-address r made (own c.args.p r l c.requires.provenance_value.0), k.above long)
+    λ long. omega (arith, read-address r made (own c.args.p r l c.requires.provenance_value), k.above long)
 
 pub insert_child-requires : goal.insert_child-requires
 insert_child-requires c = let m = c.requires.located.0 in
@@ -27,25 +27,24 @@ insert_child-requires c = let m = c.requires.located.0 in
     let reads = reads_at m c.args.n c.args.node c.args.p.addr c.args.inside.now in
     let made = k.fits.reached.made in
     let r = records-before reads m c.args.n made valid h in
-    let q = own c.args.p r l c.requires.provenance_value.0 in
+    let q = own c.args.p r l c.requires.provenance_value in
     let place = c.place_in-from.ensures ∙ ap (λ (j : ℕ). place_in j c.args.p.addr (length c.args.inside.now)) (read-address r made q) in
     let long = read-size r made q in
     let after = after_reads m c.args.n c.args.node c.args.p.addr c.args.inside.now in
     let long_after = long ∙ sym (ap size (there-after reads m c.args.n made)) in
     let fits = fits_after reads (fits-at k place) in
-    let behind = c.node_place-place.ensures after c.args.n h.valid (used-after reads m c.args.n made l.used) (parts-after reads m c.args.n made l.part) in
-    ((after, (h, fits, long_after, behind)), c.requires.provenance_value.1)
+    let behind = c.node_place-place.ensures after c.args.n h.valid (used-after reads m c.args.n made l.used) (parts-after reads m c.args.n made l.part) in record { holds_marked = (after, (h, fits, long_after, behind)); inside_value = c.requires.inside_value }
 
 pub returns : goal.returns
 returns c = λ m mask l k valid h e.
     let reads = reads_at m c.args.n c.args.node c.args.p.addr c.args.inside.now in
     let made = k.fits.reached.made in
     let r = records-before reads m c.args.n made valid h in
-    let q = own c.args.p r l c.requires.provenance_value.0 in
+    let q = own c.args.p r l c.requires.provenance_value in
     let place = c.place_in-from.ensures ∙ ap (λ (j : ℕ). place_in j c.args.p.addr (length c.args.inside.now)) (read-address r made q) in
     let long = read-size r made q in
     let after = after_reads m c.args.n c.args.node c.args.p.addr c.args.inside.now in
     let long_after = long ∙ sym (ap size (there-after reads m c.args.n made)) in
     let fits = fits_after reads (fits-at k place) in
     let behind = c.node_place-place.ensures after c.args.n h.valid (used-after reads m c.args.n made l.used) (parts-after reads m c.args.n made l.part) in
-    added c.args.settings mask e c.args.p c.requires.provenance_value.0 m valid k place long (read-nodes r made q) (c.insert_child.ensures after mask h fits long_after behind e)
+    added c.args.settings mask e c.args.p c.requires.provenance_value m valid k place long (read-nodes r made q) (c.insert_child.ensures after mask h fits long_after behind e)

@@ -11,16 +11,16 @@ overflow_cast-node c = omega (arith, c.requires.holds_marked.1.1.reached.in_tree
 
 pub insert_node_at-requires : goal.insert_node_at-requires
 insert_node_at-requires c = let (h, fits, long, at) = c.requires.holds_marked.1 in
-    let (mask, e) = c.requires.inside_value in (
-      (
+    let (mask, e) = c.requires.inside_value in record {
+      node_fits = (
         c.requires.holds_marked.0,
         (
           child_at (settings_after_init (settings_of c.args.settings mask)) c.args.node c.args.from c.args.bytes,
           (child_fits c.args.settings mask h fits long e c.start_code-outside.ensures c.protector_number-number.ensures, at),
         ),
-      ),
-      omega (arith, long, fits.reached.within),
-    )
+      );
+      inside_bound = omega (arith, long, fits.reached.within);
+    }
 
 pub returns : goal.returns
 returns c = λ m mask h fits long at e.

@@ -14,8 +14,7 @@ pub slice_bounds-make_reads-end-2 : goal.slice_bounds-make_reads-end-2
 slice_bounds-make_reads-end-2 c = codes-in c.requires.1.1.0
 
 pub make_reads-requires : goal.make_reads-requires
-make_reads-requires c = let (h, k) = c.requires.1.1 in
-    (((allocation_at c.requires.0 c.requires.1.0).nodes, tree-held h), (node_in h k.in_tree, omega (arith, k.within, h.part.width)))
+make_reads-requires c = let (h, k) = c.requires.1.1 in record { some = ((allocation_at c.requires.0 c.requires.1.0).nodes, tree-held h); node_in_bounds = (node_in h k.in_tree, omega (arith, k.within, h.part.width)) }
 
 pub returns : goal.returns
 returns c = λ m n h k. tree-visited h (c.make_reads.ensures (allocation_at m n).nodes (tree-held h))

@@ -21,14 +21,10 @@ pub reborrow_inside-requires : goal.reborrow_inside-requires
 reborrow_inside-requires c = let M = c.args.mask.now in
     let codes = c.inside_codes.new.mask in
     let long : length codes ≡ c.args.len = c.inside_codes.auto.mask ∙ length-take-le c.args.len M c.requires.len_in_bounds in
-    let front = take_at codes (drop c.args.len M) c.args.len long in
-    (c.requires.holds_marked, (mask_of (take c.args.len M), front ∙ c.inside_codes.ensures))
+    let front = take_at codes (drop c.args.len M) c.args.len long in record { holds_marked = c.requires.holds_marked; inside_value = (mask_of (take c.args.len M), front ∙ c.inside_codes.ensures) }
 
 pub returns : goal.returns
 returns c = let M = c.args.mask.now in
     let codes = c.inside_codes.new.mask in
     let long : length codes ≡ c.args.len = c.inside_codes.auto.mask ∙ length-take-le c.args.len M c.requires.len_in_bounds in
-    let front = take_at codes (drop c.args.len M) c.args.len long in (
-      λ s frame h e. c.reborrow_inside.ensures s frame (mask_of (take c.args.len M)) h (record { entered = e; inside = front ∙ c.inside_codes.ensures }),
-      ap (λ (l : List ℕ). l ++ drop c.args.len M) c.inside_codes.ensures,
-    )
+    let front = take_at codes (drop c.args.len M) c.args.len long in record { retagged = λ s frame h e. c.reborrow_inside.ensures s frame (mask_of (take c.args.len M)) h (record { entered = e; inside = front ∙ c.inside_codes.ensures }); mask_after = ap (λ (l : List ℕ). l ++ drop c.args.len M) c.inside_codes.ensures }

@@ -24,51 +24,6 @@ use Rattle.retag.proofs.Grown.{count_small}
 use Rattle.retag.proofs.Codes.{inside-length}
 use Rattle.retag.proofs.Tests.{first-4}
 use Rattle.retag.proofs.reborrow_inside.Goals as goal
-use Rattle.retag.proofs.reborrow_inside.Goals.{After-used_behind-used, Else-never_made, Else-refused-ne0}
-
--- 4 was passed, and so the record that was looked up is the allocation's own
-known : (c : Else-never_made) → (m : Memory) → HoldsMarked m c.args.allocs.now c.args.parents.now c.args.protectors.now c.args.codes.now
-    → Points m c.args.allocs.now (provenance_of c.args.p.provenance)
-known c m h =
-    let r = (trees-of h).records in
-    let made = c.never_made.ensures m _ r c.target_of-a.ensures in
-    record { records = r; made = ap (λ (q : Provenance). names_never_made m (provenance_of q)) c.in-Of.is ∙ sym made ∙ c.if-never_made.false }
-
-found : (c : Else-never_made) → c.target_of-a.result ≡ target_in c.args.allocs.now (provenance_of c.args.p.provenance)
-found c =
-    c.target_of-a.ensures ∙ ap (λ (q : Provenance). target_in c.args.allocs.now (provenance_of q)) (sym c.in-Of.is)
-
-own-record : (c : Else-never_made) → (m : Memory) → HoldsMarked m c.args.allocs.now c.args.parents.now c.args.protectors.now c.args.codes.now
-    → c.target_of-a.result ≡ record_at c.args.allocs.now c.in-Of.allocation
-own-record c m h = points-read c.args.p c.in-Of.is (known c m h) (found c)
-
-made : (c : Else-never_made) → (m : Memory) → HoldsMarked m c.args.allocs.now c.args.parents.now c.args.protectors.now c.args.codes.now
-    → c.in-Of.allocation < length m
-made c m h = points-made c.args.p c.in-Of.is (known c m h)
-
--- where the tree lies, and how much is used
-located : (c : After-used_behind-used) → (m : Memory) → HoldsMarked m c.args.allocs.now c.args.parents.now c.args.protectors.now c.args.codes.now
-    → Located m c.args.allocs.now (provenance_of c.args.p.provenance) c.in-Of.allocation (target-of-before-never-made (never-made-before-used-behind c)).target-of.result c.used_behind-used.result c.parts_of-t.result
-located c m h =
-    let r = (trees-of h).records in
-    let u = c.used_behind-used.ensures m r in
-    record {
-      made = (known c.before.before m h).made;
-      read = found c.before.before;
-      used = record { words = refl; nodes = u.nodes; codes = u.codes };
-      part = subst (λ (c.before.before.before.before.before.before.before.before.before.before.before : Parts). PartsOf m c.in-Of.allocation c.before.before.before.before.before.before.before.before.before.before.before) (sym c.parts_of-t.ensures) (parts-read r (made c.before.before m h) (own-record c.before.before m h));
-    }
-
--- where nothing is refused: there is a place for the child, and the buffers hold the memory in which the reads are made
-passed : (c : Else-refused-ne0) → (m : Memory) → HoldsMarked m c.args.allocs.now c.args.parents.now c.args.protectors.now c.args.codes.now → Passed m c.in-Of.allocation c.in-Of.node c.args.p.addr (length c.args.inside.now)
-passed c m h = (c.retag_refusal-refused.ensures.tested m _ _ (trees-of h) (located c.before.before.before.before.before m h) c.in-Of.is).passed c.if-refused-ne0.false
-
-read : (c : Else-refused-ne0) → (m : Memory) → HoldsMarked m c.args.allocs.now c.args.parents.now c.args.protectors.now c.args.codes.now
-    → HoldsMarked (after_reads m c.in-Of.allocation c.in-Of.node c.args.p.addr c.args.inside.now) c.args.allocs.now c.args.parents.now c.args.protectors.now c.retag_refusal-refused.new.inside
-read c m h =
-    let of = c.provenance-1.given.0 in
-    holds_after (reads_at m of.0 of.1.0 c.args.p.addr c.args.inside.now) m of.0 (passed c m h).fits.reached.made h
-    (tested-made c.args.inside.now (c.retag_refusal-refused.ensures.tested m _ _ (trees-of h) (located c.before.before.before.before.before m h) c.in-Of.is) c.if-refused-ne0.false)
 
 pub returns-then-inside-eq0 : goal.returns-then-inside-eq0
 returns-then-inside-eq0 c = λ s frame mask h a.
@@ -87,20 +42,98 @@ returns-then-never_made c = λ s frame mask h a.
     (refused-by-tests c.args.settings mask frame c.args.entries s a c.args.p _ unmade (λ z. omega (arith, z))) (λ z. omega (arith, z)) h.trees
 
 pub parts_of-t-requires : goal.parts_of-t-requires
-parts_of-t-requires c = let (m, h) = c.requires.holds_marked in
+parts_of-t-requires c = let known : (m : Memory) → HoldsMarked m c.args.allocs.now c.args.parents.now c.args.protectors.now c.args.codes.now
+    → Points m c.args.allocs.now (provenance_of c.args.p.provenance) = λ m h. let r = (trees-of h).records in
+    let made = c.never_made.ensures m _ r c.target_of-a.ensures in
+    record { records = r; made = ap (λ (q : Provenance). names_never_made m (provenance_of q)) c.in-Of.is ∙ sym made ∙ c.if-never_made.false } in
+    let found : c.target_of-a.result ≡ target_in c.args.allocs.now (provenance_of c.args.p.provenance) = c.target_of-a.ensures ∙ ap (λ (q : Provenance). target_in c.args.allocs.now (provenance_of q)) (sym c.in-Of.is) in
+    let own-record : (m : Memory) → HoldsMarked m c.args.allocs.now c.args.parents.now c.args.protectors.now c.args.codes.now
+    → c.target_of-a.result ≡ record_at c.args.allocs.now c.in-Of.allocation = λ m h. points-read c.args.p c.in-Of.is (known m h) (found) in
+    let made : (m : Memory) → HoldsMarked m c.args.allocs.now c.args.parents.now c.args.protectors.now c.args.codes.now
+    → c.in-Of.allocation < length m = λ m h. points-made c.args.p c.in-Of.is (known m h) in
+    let (m, h) = c.requires.holds_marked in
     let r = (trees-of h).records in
-    (read-nodes r (made c m h) (own-record c m h), read-codes r (made c m h) (own-record c m h))
+    (read-nodes r (made m h) (own-record m h), read-codes r (made m h) (own-record m h))
 
 pub used_behind-used-requires : goal.used_behind-used-requires
-used_behind-used-requires c = let (m, h) = c.requires.holds_marked in (m, ((trees-of h).records, made c.before m h))
+used_behind-used-requires c = let known : (m : Memory) → HoldsMarked m c.args.allocs.now c.args.parents.now c.args.protectors.now c.args.codes.now
+    → Points m c.args.allocs.now (provenance_of c.args.p.provenance) = λ m h. let r = (trees-of h).records in
+    let made = c.never_made.ensures m _ r c.target_of-a.ensures in
+    record { records = r; made = ap (λ (q : Provenance). names_never_made m (provenance_of q)) c.in-Of.is ∙ sym made ∙ c.if-never_made.false } in
+    let found : c.target_of-a.result ≡ target_in c.args.allocs.now (provenance_of c.args.p.provenance) = c.target_of-a.ensures ∙ ap (λ (q : Provenance). target_in c.args.allocs.now (provenance_of q)) (sym c.in-Of.is) in
+    let own-record : (m : Memory) → HoldsMarked m c.args.allocs.now c.args.parents.now c.args.protectors.now c.args.codes.now
+    → c.target_of-a.result ≡ record_at c.args.allocs.now c.in-Of.allocation = λ m h. points-read c.args.p c.in-Of.is (known m h) (found) in
+    let made : (m : Memory) → HoldsMarked m c.args.allocs.now c.args.parents.now c.args.protectors.now c.args.codes.now
+    → c.in-Of.allocation < length m = λ m h. points-made c.args.p c.in-Of.is (known m h) in
+    let located : (m : Memory) → HoldsMarked m c.args.allocs.now c.args.parents.now c.args.protectors.now c.args.codes.now
+    → Located m c.args.allocs.now (provenance_of c.args.p.provenance) c.in-Of.allocation (target-of-before-never-made (never-made-before-used-behind c)).target-of.result c.used_behind-used.result c.parts_of-t.result = λ m h. let r = (trees-of h).records in
+    let u = c.used_behind-used.ensures m r in
+    record {
+      made = (known m h).made;
+      read = found c.before;
+      used = record { words = refl; nodes = u.nodes; codes = u.codes };
+      part = subst (λ (t : Parts). PartsOf m c.in-Of.allocation t) (sym c.parts_of-t.ensures) (parts-read r (made m h) (own-record m h));
+    } in
+    let passed : (m : Memory) → HoldsMarked m c.args.allocs.now c.args.parents.now c.args.protectors.now c.args.codes.now → Passed m c.in-Of.allocation c.in-Of.node c.args.p.addr (length c.args.inside.now) = λ m h. (c.retag_refusal-refused.ensures.tested m _ _ (trees-of h) (located m h) c.in-Of.is).passed c.if-refused-ne0.false in
+    let read : (m : Memory) → HoldsMarked m c.args.allocs.now c.args.parents.now c.args.protectors.now c.args.codes.now
+    → HoldsMarked (after_reads m c.in-Of.allocation c.in-Of.node c.args.p.addr c.args.inside.now) c.args.allocs.now c.args.parents.now c.args.protectors.now c.retag_refusal-refused.new.inside = λ m h. let of = c.provenance-1.given.0 in
+    holds_after (reads_at m of.0 of.1.0 c.args.p.addr c.args.inside.now) m of.0 (passed m h).fits.reached.made h
+    (tested-made c.args.inside.now (c.retag_refusal-refused.ensures.tested m _ _ (trees-of h) (located m h) c.in-Of.is) c.if-refused-ne0.false) in
+    let (m, h) = c.requires.holds_marked in (m, ((trees-of h).records, made m h))
 
 pub retag_refusal-refused-requires : goal.retag_refusal-refused-requires
-retag_refusal-refused-requires c = let (m, h) = c.requires.holds_marked in
-    (m, (_, (_, (trees-of h, located c.before m h, c.in-Of.is))))
+retag_refusal-refused-requires c = let known : (m : Memory) → HoldsMarked m c.args.allocs.now c.args.parents.now c.args.protectors.now c.args.codes.now
+    → Points m c.args.allocs.now (provenance_of c.args.p.provenance) = λ m h. let r = (trees-of h).records in
+    let made = c.never_made.ensures m _ r c.target_of-a.ensures in
+    record { records = r; made = ap (λ (q : Provenance). names_never_made m (provenance_of q)) c.in-Of.is ∙ sym made ∙ c.if-never_made.false } in
+    let found : c.target_of-a.result ≡ target_in c.args.allocs.now (provenance_of c.args.p.provenance) = c.target_of-a.ensures ∙ ap (λ (q : Provenance). target_in c.args.allocs.now (provenance_of q)) (sym c.in-Of.is) in
+    let own-record : (m : Memory) → HoldsMarked m c.args.allocs.now c.args.parents.now c.args.protectors.now c.args.codes.now
+    → c.target_of-a.result ≡ record_at c.args.allocs.now c.in-Of.allocation = λ m h. points-read c.args.p c.in-Of.is (known m h) (found) in
+    let made : (m : Memory) → HoldsMarked m c.args.allocs.now c.args.parents.now c.args.protectors.now c.args.codes.now
+    → c.in-Of.allocation < length m = λ m h. points-made c.args.p c.in-Of.is (known m h) in
+    let located : (m : Memory) → HoldsMarked m c.args.allocs.now c.args.parents.now c.args.protectors.now c.args.codes.now
+    → Located m c.args.allocs.now (provenance_of c.args.p.provenance) c.in-Of.allocation (target-of-before-never-made (never-made-before-used-behind c.before)).target-of.result c.used_behind-used.result c.parts_of-t.result = λ m h. let r = (trees-of h).records in
+    let u = c.used_behind-used.ensures m r in
+    record {
+      made = (known m h).made;
+      read = found c.before.before.before;
+      used = record { words = refl; nodes = u.nodes; codes = u.codes };
+      part = subst (λ (t : Parts). PartsOf m c.in-Of.allocation t) (sym c.parts_of-t.ensures) (parts-read r (made m h) (own-record m h));
+    } in
+    let passed : (m : Memory) → HoldsMarked m c.args.allocs.now c.args.parents.now c.args.protectors.now c.args.codes.now → Passed m c.in-Of.allocation c.in-Of.node c.args.p.addr (length c.args.inside.now) = λ m h. (c.retag_refusal-refused.ensures.tested m _ _ (trees-of h) (located m h) c.in-Of.is).passed c.if-refused-ne0.false in
+    let read : (m : Memory) → HoldsMarked m c.args.allocs.now c.args.parents.now c.args.protectors.now c.args.codes.now
+    → HoldsMarked (after_reads m c.in-Of.allocation c.in-Of.node c.args.p.addr c.args.inside.now) c.args.allocs.now c.args.parents.now c.args.protectors.now c.retag_refusal-refused.new.inside = λ m h. let of = c.provenance-1.given.0 in
+    holds_after (reads_at m of.0 of.1.0 c.args.p.addr c.args.inside.now) m of.0 (passed m h).fits.reached.made h
+    (tested-made c.args.inside.now (c.retag_refusal-refused.ensures.tested m _ _ (trees-of h) (located m h) c.in-Of.is) c.if-refused-ne0.false) in
+    let (m, h) = c.requires.holds_marked in
+    (m, (_, (_, (trees-of h, located m h, c.in-Of.is))))
 
 pub returns-then-refused-ne0 : goal.returns-then-refused-ne0
-returns-then-refused-ne0 c = λ s frame mask h a.
-    let l = located c.before.before.before.before.before s.memory h in
+returns-then-refused-ne0 c = let known : (m : Memory) → HoldsMarked m c.args.allocs.now c.args.parents.now c.args.protectors.now c.args.codes.now
+    → Points m c.args.allocs.now (provenance_of c.args.p.provenance) = λ m h. let r = (trees-of h).records in
+    let made = c.never_made.ensures m _ r c.target_of-a.ensures in
+    record { records = r; made = ap (λ (q : Provenance). names_never_made m (provenance_of q)) c.in-Of.is ∙ sym made ∙ c.if-never_made.false } in
+    let found : c.target_of-a.result ≡ target_in c.args.allocs.now (provenance_of c.args.p.provenance) = c.target_of-a.ensures ∙ ap (λ (q : Provenance). target_in c.args.allocs.now (provenance_of q)) (sym c.in-Of.is) in
+    let own-record : (m : Memory) → HoldsMarked m c.args.allocs.now c.args.parents.now c.args.protectors.now c.args.codes.now
+    → c.target_of-a.result ≡ record_at c.args.allocs.now c.in-Of.allocation = λ m h. points-read c.args.p c.in-Of.is (known m h) (found) in
+    let made : (m : Memory) → HoldsMarked m c.args.allocs.now c.args.parents.now c.args.protectors.now c.args.codes.now
+    → c.in-Of.allocation < length m = λ m h. points-made c.args.p c.in-Of.is (known m h) in
+    let located : (m : Memory) → HoldsMarked m c.args.allocs.now c.args.parents.now c.args.protectors.now c.args.codes.now
+    → Located m c.args.allocs.now (provenance_of c.args.p.provenance) c.in-Of.allocation (target-of-before-never-made (never-made-before-used-behind c.before.before.before.before.before)).target-of.result c.used_behind-used.result c.parts_of-t.result = λ m h. let r = (trees-of h).records in
+    let u = c.used_behind-used.ensures m r in
+    record {
+      made = (known m h).made;
+      read = found c.before.before.before.before.before.before.before;
+      used = record { words = refl; nodes = u.nodes; codes = u.codes };
+      part = subst (λ (t : Parts). PartsOf m c.in-Of.allocation t) (sym c.parts_of-t.ensures) (parts-read r (made m h) (own-record m h));
+    } in
+    let passed : (m : Memory) → HoldsMarked m c.args.allocs.now c.args.parents.now c.args.protectors.now c.args.codes.now → Passed m c.in-Of.allocation c.in-Of.node c.args.p.addr (length c.args.inside.now) = λ m h. (c.retag_refusal-refused.ensures.tested m _ _ (trees-of h) (located m h) c.in-Of.is).passed c.if-refused-ne0.false in
+    let read : (m : Memory) → HoldsMarked m c.args.allocs.now c.args.parents.now c.args.protectors.now c.args.codes.now
+    → HoldsMarked (after_reads m c.in-Of.allocation c.in-Of.node c.args.p.addr c.args.inside.now) c.args.allocs.now c.args.parents.now c.args.protectors.now c.retag_refusal-refused.new.inside = λ m h. let of = c.provenance-1.given.0 in
+    holds_after (reads_at m of.0 of.1.0 c.args.p.addr c.args.inside.now) m of.0 (passed m h).fits.reached.made h
+    (tested-made c.args.inside.now (c.retag_refusal-refused.ensures.tested m _ _ (trees-of h) (located m h) c.in-Of.is) c.if-refused-ne0.false) in
+    λ s frame mask h a.
+    let l = located s.memory h in
     retagged-refused (settings_of c.args.settings mask) frame c.args.p c.in-Of.is s _
     (c.retag_refusal-refused.ensures.value s frame mask _ _ (trees-of h) l c.in-Of.is a) c.if-refused-ne0.true
     (record {
@@ -111,12 +144,58 @@ returns-then-refused-ne0 c = λ s frame mask h a.
     })
 
 pub add_child-child-requires : goal.add_child-child-requires
-add_child-child-requires c = let (m, h) = c.requires.holds_marked in ((m, (located c.before.before.before.before.before.before.before.before.before m h, passed c.before.before.before.before m h, h.valid, read c.before.before.before.before m h)), (c.in-Of.is, c.requires.inside_value))
+add_child-child-requires c = let known : (m : Memory) → HoldsMarked m c.args.allocs.now c.args.parents.now c.args.protectors.now c.args.codes.now
+    → Points m c.args.allocs.now (provenance_of c.args.p.provenance) = λ m h. let r = (trees-of h).records in
+    let made = c.never_made.ensures m _ r c.target_of-a.ensures in
+    record { records = r; made = ap (λ (q : Provenance). names_never_made m (provenance_of q)) c.in-Of.is ∙ sym made ∙ c.if-never_made.false } in
+    let found : c.target_of-a.result ≡ target_in c.args.allocs.now (provenance_of c.args.p.provenance) = c.target_of-a.ensures ∙ ap (λ (q : Provenance). target_in c.args.allocs.now (provenance_of q)) (sym c.in-Of.is) in
+    let own-record : (m : Memory) → HoldsMarked m c.args.allocs.now c.args.parents.now c.args.protectors.now c.args.codes.now
+    → c.target_of-a.result ≡ record_at c.args.allocs.now c.in-Of.allocation = λ m h. points-read c.args.p c.in-Of.is (known m h) (found) in
+    let made : (m : Memory) → HoldsMarked m c.args.allocs.now c.args.parents.now c.args.protectors.now c.args.codes.now
+    → c.in-Of.allocation < length m = λ m h. points-made c.args.p c.in-Of.is (known m h) in
+    let located : (m : Memory) → HoldsMarked m c.args.allocs.now c.args.parents.now c.args.protectors.now c.args.codes.now
+    → Located m c.args.allocs.now (provenance_of c.args.p.provenance) c.in-Of.allocation (target-of-before-never-made (never-made-before-used-behind c.before.before.before.before.before.before.before.before.before)).target-of.result c.used_behind-used.result c.parts_of-t.result = λ m h. let r = (trees-of h).records in
+    let u = c.used_behind-used.ensures m r in
+    record {
+      made = (known m h).made;
+      read = found c.before.before.before.before.before.before.before.before.before.before.before;
+      used = record { words = refl; nodes = u.nodes; codes = u.codes };
+      part = subst (λ (t : Parts). PartsOf m c.in-Of.allocation t) (sym c.parts_of-t.ensures) (parts-read r (made m h) (own-record m h));
+    } in
+    let passed : (m : Memory) → HoldsMarked m c.args.allocs.now c.args.parents.now c.args.protectors.now c.args.codes.now → Passed m c.in-Of.allocation c.in-Of.node c.args.p.addr (length c.args.inside.now) = λ m h. (c.retag_refusal-refused.ensures.tested m _ _ (trees-of h) (located m h) c.in-Of.is).passed c.if-refused-ne0.false in
+    let read : (m : Memory) → HoldsMarked m c.args.allocs.now c.args.parents.now c.args.protectors.now c.args.codes.now
+    → HoldsMarked (after_reads m c.in-Of.allocation c.in-Of.node c.args.p.addr c.args.inside.now) c.args.allocs.now c.args.parents.now c.args.protectors.now c.retag_refusal-refused.new.inside = λ m h. let of = c.provenance-1.given.0 in
+    holds_after (reads_at m of.0 of.1.0 c.args.p.addr c.args.inside.now) m of.0 (passed m h).fits.reached.made h
+    (tested-made c.args.inside.now (c.retag_refusal-refused.ensures.tested m _ _ (trees-of h) (located m h) c.in-Of.is) c.if-refused-ne0.false) in
+    let (m, h) = c.requires.holds_marked in record { located = (m, (located m h, passed m h, h.valid, read m h)); provenance_value = c.in-Of.is; inside_value = c.requires.inside_value }
 
 pub overflow_cast-result : goal.overflow_cast-result
-overflow_cast-result c = let (m, h) = c.requires.holds_marked in
-    let k = passed c.before.before.before.before.before.before.before.before.before.before.before.before.before m h in
-    omega (arith, (c.add_child-child.ensures m c.requires.inside_value.0 (located c.before.before.before.before.before.before.before.before.before.before.before.before.before.before.before.before.before.before m h) k h.valid (read c.before.before.before.before.before.before.before.before.before.before.before.before.before m h) c.requires.inside_value.1).number, count_small m h.valid _ k.fits.reached.made)
+overflow_cast-result c = let known : (m : Memory) → HoldsMarked m c.args.allocs.now c.args.parents.now c.args.protectors.now c.args.codes.now
+    → Points m c.args.allocs.now (provenance_of c.args.p.provenance) = λ m h. let r = (trees-of h).records in
+    let made = c.never_made.ensures m _ r c.target_of-a.ensures in
+    record { records = r; made = ap (λ (q : Provenance). names_never_made m (provenance_of q)) c.in-Of.is ∙ sym made ∙ c.if-never_made.false } in
+    let found : c.target_of-a.result ≡ target_in c.args.allocs.now (provenance_of c.args.p.provenance) = c.target_of-a.ensures ∙ ap (λ (q : Provenance). target_in c.args.allocs.now (provenance_of q)) (sym c.in-Of.is) in
+    let own-record : (m : Memory) → HoldsMarked m c.args.allocs.now c.args.parents.now c.args.protectors.now c.args.codes.now
+    → c.target_of-a.result ≡ record_at c.args.allocs.now c.in-Of.allocation = λ m h. points-read c.args.p c.in-Of.is (known m h) (found) in
+    let made : (m : Memory) → HoldsMarked m c.args.allocs.now c.args.parents.now c.args.protectors.now c.args.codes.now
+    → c.in-Of.allocation < length m = λ m h. points-made c.args.p c.in-Of.is (known m h) in
+    let located : (m : Memory) → HoldsMarked m c.args.allocs.now c.args.parents.now c.args.protectors.now c.args.codes.now
+    → Located m c.args.allocs.now (provenance_of c.args.p.provenance) c.in-Of.allocation (target-of-before-never-made (never-made-before-used-behind c.before.before.before.before.before.before.before.before.before.before.before.before.before.before.before.before.before.before)).target-of.result c.used_behind-used.result c.parts_of-t.result = λ m h. let r = (trees-of h).records in
+    let u = c.used_behind-used.ensures m r in
+    record {
+      made = (known m h).made;
+      read = found c.before.before.before.before.before.before.before.before.before.before.before.before.before.before.before.before.before.before.before.before;
+      used = record { words = refl; nodes = u.nodes; codes = u.codes };
+      part = subst (λ (t : Parts). PartsOf m c.in-Of.allocation t) (sym c.parts_of-t.ensures) (parts-read r (made m h) (own-record m h));
+    } in
+    let passed : (m : Memory) → HoldsMarked m c.args.allocs.now c.args.parents.now c.args.protectors.now c.args.codes.now → Passed m c.in-Of.allocation c.in-Of.node c.args.p.addr (length c.args.inside.now) = λ m h. (c.retag_refusal-refused.ensures.tested m _ _ (trees-of h) (located m h) c.in-Of.is).passed c.if-refused-ne0.false in
+    let read : (m : Memory) → HoldsMarked m c.args.allocs.now c.args.parents.now c.args.protectors.now c.args.codes.now
+    → HoldsMarked (after_reads m c.in-Of.allocation c.in-Of.node c.args.p.addr c.args.inside.now) c.args.allocs.now c.args.parents.now c.args.protectors.now c.retag_refusal-refused.new.inside = λ m h. let of = c.provenance-1.given.0 in
+    holds_after (reads_at m of.0 of.1.0 c.args.p.addr c.args.inside.now) m of.0 (passed m h).fits.reached.made h
+    (tested-made c.args.inside.now (c.retag_refusal-refused.ensures.tested m _ _ (trees-of h) (located m h) c.in-Of.is) c.if-refused-ne0.false) in
+    let (m, h) = c.requires.holds_marked in
+    let k = passed m h in
+    omega (arith, (c.add_child-child.ensures m c.requires.inside_value.0 (located m h) k h.valid (read m h) c.requires.inside_value.1).number, count_small m h.valid _ k.fits.reached.made)
 
 pub returns-else-inside-eq0 : goal.returns-else-inside-eq0
 returns-else-inside-eq0 c = λ s frame mask h a.
@@ -126,8 +205,31 @@ returns-else-inside-eq0 c = λ s frame mask h a.
     (Refused 7) refl (λ words. refl) h.trees
 
 pub returns-else-refused-ne0 : goal.returns-else-refused-ne0
-returns-else-refused-ne0 c = λ s frame mask h a.
+returns-else-refused-ne0 c = let known : (m : Memory) → HoldsMarked m c.args.allocs.now c.args.parents.now c.args.protectors.now c.args.codes.now
+    → Points m c.args.allocs.now (provenance_of c.args.p.provenance) = λ m h. let r = (trees-of h).records in
+    let made = c.never_made.ensures m _ r c.target_of-a.ensures in
+    record { records = r; made = ap (λ (q : Provenance). names_never_made m (provenance_of q)) c.in-Of.is ∙ sym made ∙ c.if-never_made.false } in
+    let found : c.target_of-a.result ≡ target_in c.args.allocs.now (provenance_of c.args.p.provenance) = c.target_of-a.ensures ∙ ap (λ (q : Provenance). target_in c.args.allocs.now (provenance_of q)) (sym c.in-Of.is) in
+    let own-record : (m : Memory) → HoldsMarked m c.args.allocs.now c.args.parents.now c.args.protectors.now c.args.codes.now
+    → c.target_of-a.result ≡ record_at c.args.allocs.now c.in-Of.allocation = λ m h. points-read c.args.p c.in-Of.is (known m h) (found) in
+    let made : (m : Memory) → HoldsMarked m c.args.allocs.now c.args.parents.now c.args.protectors.now c.args.codes.now
+    → c.in-Of.allocation < length m = λ m h. points-made c.args.p c.in-Of.is (known m h) in
+    let located : (m : Memory) → HoldsMarked m c.args.allocs.now c.args.parents.now c.args.protectors.now c.args.codes.now
+    → Located m c.args.allocs.now (provenance_of c.args.p.provenance) c.in-Of.allocation (target-of-before-never-made (never-made-before-used-behind c.before.before.before.before.before.before.before.before.before.before.before.before.before.before.before.before.before.before)).target-of.result c.used_behind-used.result c.parts_of-t.result = λ m h. let r = (trees-of h).records in
+    let u = c.used_behind-used.ensures m r in
+    record {
+      made = (known m h).made;
+      read = found c.before.before.before.before.before.before.before.before.before.before.before.before.before.before.before.before.before.before.before.before;
+      used = record { words = refl; nodes = u.nodes; codes = u.codes };
+      part = subst (λ (t : Parts). PartsOf m c.in-Of.allocation t) (sym c.parts_of-t.ensures) (parts-read r (made m h) (own-record m h));
+    } in
+    let passed : (m : Memory) → HoldsMarked m c.args.allocs.now c.args.parents.now c.args.protectors.now c.args.codes.now → Passed m c.in-Of.allocation c.in-Of.node c.args.p.addr (length c.args.inside.now) = λ m h. (c.retag_refusal-refused.ensures.tested m _ _ (trees-of h) (located m h) c.in-Of.is).passed c.if-refused-ne0.false in
+    let read : (m : Memory) → HoldsMarked m c.args.allocs.now c.args.parents.now c.args.protectors.now c.args.codes.now
+    → HoldsMarked (after_reads m c.in-Of.allocation c.in-Of.node c.args.p.addr c.args.inside.now) c.args.allocs.now c.args.parents.now c.args.protectors.now c.retag_refusal-refused.new.inside = λ m h. let of = c.provenance-1.given.0 in
+    holds_after (reads_at m of.0 of.1.0 c.args.p.addr c.args.inside.now) m of.0 (passed m h).fits.reached.made h
+    (tested-made c.args.inside.now (c.retag_refusal-refused.ensures.tested m _ _ (trees-of h) (located m h) c.in-Of.is) c.if-refused-ne0.false) in
+    λ s frame mask h a.
     let m = s.memory in
-    let l = located c.before.before.before.before.before.before.before.before.before.before.before.before.before.before.before.before.before.before m h in
+    let l = located m h in
     retagged-child (settings_of c.args.settings mask) frame c.args.p c.in-Of.is s (sym (c.retag_refusal-refused.ensures.value s frame mask _ _ (trees-of h) l c.in-Of.is a) ∙ c.if-refused-ne0.false)
-    (c.add_child-child.ensures m mask l (passed c.before.before.before.before.before.before.before.before.before.before.before.before.before m h) h.valid (read c.before.before.before.before.before.before.before.before.before.before.before.before.before m h) a.inside)
+    (c.add_child-child.ensures m mask l (passed m h) h.valid (read m h) a.inside)

@@ -17,55 +17,61 @@ use Rattle.retag.specs.Settings.{place_in}
 use Rattle.retag.proofs.Children.{tested-refused, tested-read, refused-by-tests, refused-by-reads}
 use Rattle.retag.proofs.Tests.{own, passed-at, fits-at}
 use Rattle.retag.proofs.retag_refusal.Goals as goal
-use Rattle.retag.proofs.retag_refusal.Goals.{After-bounds_refusal-refused, After-place_in-from, Else-refused-ne0}
-
--- what the tests refuse, and that they refuse nothing
-tested : (c : After-bounds_refusal-refused) → let a = c.args in (m : Memory) (A : List ℕ) (n : ℕ) → HoldsTrees m A a.parents.now a.codes.now
-    → Located m A (provenance_of a.p.provenance) n a.a a.used a.t → a.p.provenance ≡ Of n a.node
-    → c.bounds_refusal-refused.result ≡ bounds_refusal (is_yes (protector a.settings.protected)) a.entries (length a.inside.now) (thin_pointer_of a.p) m
-tested c m A n h l of = c.bounds_refusal-refused.ensures m A n _ of (record { records = h.records; made = l.made }) l.read l.used
-
-tests-passed : (c : Else-refused-ne0) → let a = c.args in (m : Memory) (A : List ℕ) (n : ℕ) → HoldsTrees m A a.parents.now a.codes.now
-    → Located m A (provenance_of a.p.provenance) n a.a a.used a.t → a.p.provenance ≡ Of n a.node → Passed m n a.node a.p.addr (length a.inside.now)
-tests-passed c m A n h l of =
-    let a = c.args in
-    passed-at m a.p of (is_yes (protector a.settings.protected)) a.entries (length a.inside.now) (sym (tested c.before m A n h l of) ∙ c.if-refused-ne0.false)
-
--- where the bytes start
-place : (c : After-place_in-from) → let a = c.args in (m : Memory) (A : List ℕ) (n : ℕ) → HoldsTrees m A a.parents.now a.codes.now
-    → Located m A (provenance_of a.p.provenance) n a.a a.used a.t → a.p.provenance ≡ Of n a.node
-    → c.place_in-from.result ≡ place_in (allocation_at m n).address a.p.addr (length a.inside.now)
-place c m A n h l of =
-    let a = c.args in
-    c.place_in-from.ensures
-    ∙ ap (λ (k : ℕ). place_in k a.p.addr (length a.inside.now)) (read-address h.records (tests-passed c.before m A n h l of).fits.reached.made (own a.p h.records l of))
 
 pub bounds_refusal-refused-requires : goal.bounds_refusal-refused-requires
-bounds_refusal-refused-requires c = let (m, (A, (n, (h, l, of)))) = c.requires in (target-space h.records _ l.read, (m, (h.records.valid, l.used)))
+bounds_refusal-refused-requires c = let (m, (A, (n, (h, l, of)))) = c.requires in record { size_bound = target-space h.records _ l.read; valid = (m, (h.records.valid, l.used)) }
 
 pub returns-then-refused-ne0 : goal.returns-then-refused-ne0
-returns-then-refused-ne0 c = let a = c.args in (
-  λ s frame mask A n h l of asked. refused-by-tests a.settings mask frame a.entries s asked a.p _ (tested c.before s.memory A n h l of) c.if-refused-ne0.true,
-  λ m A n h l of. tested-refused a.inside.now c.if-refused-ne0.true h.codes,
-)
+returns-then-refused-ne0 c = let tested : let a = c.args in (m : Memory) (A : List ℕ) (n : ℕ) → HoldsTrees m A a.parents.now a.codes.now
+    → Located m A (provenance_of a.p.provenance) n a.a a.used a.t → a.p.provenance ≡ Of n a.node
+    → c.bounds_refusal-refused.result ≡ bounds_refusal (is_yes (protector a.settings.protected)) a.entries (length a.inside.now) (thin_pointer_of a.p) m = λ m A n h l of. c.bounds_refusal-refused.ensures m A n _ of (record { records = h.records; made = l.made }) l.read l.used in
+    let a = c.args in record { value = λ s frame mask A n h l of asked. refused-by-tests a.settings mask frame a.entries s asked a.p _ (tested s.memory A n h l of) c.if-refused-ne0.true; tested = λ m A n h l of. tested-refused a.inside.now c.if-refused-ne0.true h.codes }
 
 pub place_in-from-requires : goal.place_in-from-requires
-place_in-from-requires c = let (m, (A, (n, (h, l, of)))) = c.requires in
-    let passed = tests-passed c m A n h l of in
+place_in-from-requires c = let tested : let a = c.args in (m : Memory) (A : List ℕ) (n : ℕ) → HoldsTrees m A a.parents.now a.codes.now
+    → Located m A (provenance_of a.p.provenance) n a.a a.used a.t → a.p.provenance ≡ Of n a.node
+    → c.bounds_refusal-refused.result ≡ bounds_refusal (is_yes (protector a.settings.protected)) a.entries (length a.inside.now) (thin_pointer_of a.p) m = λ m A n h l of. c.bounds_refusal-refused.ensures m A n _ of (record { records = h.records; made = l.made }) l.read l.used in
+    let tests-passed : let a = c.args in (m : Memory) (A : List ℕ) (n : ℕ) → HoldsTrees m A a.parents.now a.codes.now
+    → Located m A (provenance_of a.p.provenance) n a.a a.used a.t → a.p.provenance ≡ Of n a.node → Passed m n a.node a.p.addr (length a.inside.now) = λ m A n h l of. let a = c.args in
+    passed-at m a.p of (is_yes (protector a.settings.protected)) a.entries (length a.inside.now) (sym (tested m A n h l of) ∙ c.if-refused-ne0.false) in
+    let (m, (A, (n, (h, l, of)))) = c.requires in
+    let passed = tests-passed m A n h l of in
     λ long. omega (arith, read-address h.records passed.fits.reached.made (own c.args.p h.records l of), passed.above long)
 
 pub make_reads-requires : goal.make_reads-requires
-make_reads-requires c = let (m, (A, (n, (h, l, of)))) = c.requires in
-    (m, (n, (tree-at h l.part, (fits-at (tests-passed c.before.before m A n h l of) (place c.before m A n h l of)).reached)))
+make_reads-requires c = let tested : let a = c.args in (m : Memory) (A : List ℕ) (n : ℕ) → HoldsTrees m A a.parents.now a.codes.now
+    → Located m A (provenance_of a.p.provenance) n a.a a.used a.t → a.p.provenance ≡ Of n a.node
+    → c.bounds_refusal-refused.result ≡ bounds_refusal (is_yes (protector a.settings.protected)) a.entries (length a.inside.now) (thin_pointer_of a.p) m = λ m A n h l of. c.bounds_refusal-refused.ensures m A n _ of (record { records = h.records; made = l.made }) l.read l.used in
+    let tests-passed : let a = c.args in (m : Memory) (A : List ℕ) (n : ℕ) → HoldsTrees m A a.parents.now a.codes.now
+    → Located m A (provenance_of a.p.provenance) n a.a a.used a.t → a.p.provenance ≡ Of n a.node → Passed m n a.node a.p.addr (length a.inside.now) = λ m A n h l of. let a = c.args in
+    passed-at m a.p of (is_yes (protector a.settings.protected)) a.entries (length a.inside.now) (sym (tested m A n h l of) ∙ c.if-refused-ne0.false) in
+    let place : let a = c.args in (m : Memory) (A : List ℕ) (n : ℕ) → HoldsTrees m A a.parents.now a.codes.now
+    → Located m A (provenance_of a.p.provenance) n a.a a.used a.t → a.p.provenance ≡ Of n a.node
+    → c.place_in-from.result ≡ place_in (allocation_at m n).address a.p.addr (length a.inside.now) = λ m A n h l of. let a = c.args in
+    c.place_in-from.ensures
+    ∙ ap (λ (k : ℕ). place_in k a.p.addr (length a.inside.now)) (read-address h.records (tests-passed m A n h l of).fits.reached.made (own a.p h.records l of)) in
+    let (m, (A, (n, (h, l, of)))) = c.requires in
+    (m, (n, (tree-at h l.part, (fits-at (tests-passed m A n h l of) (place m A n h l of)).reached)))
 
 pub returns : goal.returns
-returns c = let reads = c.make_reads in (
-  λ s frame mask A n h l of a.
-      let at = place c.before.before.before.before s.memory A n h l of in
-      (reads.ensures s.memory n (tree-at h l.part) (fits-at (tests-passed c.before.before.before.before.before s.memory A n h l of) at).reached).refusal
-      ∙ refused-by-reads c.args.settings mask frame c.args.entries s a c.args.p of h.records.valid (sym (tested c.before.before.before.before.before.before s.memory A n h l of) ∙ c.if-refused-ne0.left) at,
-  λ m A n h l of.
-      let at = place c.before.before.before.before m A n h l of in
-      let fits = tests-passed c.before.before.before.before.before m A n h l of in
-      tested-read c.args.inside.now fits at (reads.ensures m n (tree-at h l.part) (fits-at fits at).reached),
-)
+returns c = let tested : let a = c.args in (m : Memory) (A : List ℕ) (n : ℕ) → HoldsTrees m A a.parents.now a.codes.now
+    → Located m A (provenance_of a.p.provenance) n a.a a.used a.t → a.p.provenance ≡ Of n a.node
+    → c.bounds_refusal-refused.result ≡ bounds_refusal (is_yes (protector a.settings.protected)) a.entries (length a.inside.now) (thin_pointer_of a.p) m = λ m A n h l of. c.bounds_refusal-refused.ensures m A n _ of (record { records = h.records; made = l.made }) l.read l.used in
+    let tests-passed : let a = c.args in (m : Memory) (A : List ℕ) (n : ℕ) → HoldsTrees m A a.parents.now a.codes.now
+    → Located m A (provenance_of a.p.provenance) n a.a a.used a.t → a.p.provenance ≡ Of n a.node → Passed m n a.node a.p.addr (length a.inside.now) = λ m A n h l of. let a = c.args in
+    passed-at m a.p of (is_yes (protector a.settings.protected)) a.entries (length a.inside.now) (sym (tested m A n h l of) ∙ c.if-refused-ne0.false) in
+    let place : let a = c.args in (m : Memory) (A : List ℕ) (n : ℕ) → HoldsTrees m A a.parents.now a.codes.now
+    → Located m A (provenance_of a.p.provenance) n a.a a.used a.t → a.p.provenance ≡ Of n a.node
+    → c.place_in-from.result ≡ place_in (allocation_at m n).address a.p.addr (length a.inside.now) = λ m A n h l of. let a = c.args in
+    c.place_in-from.ensures
+    ∙ ap (λ (k : ℕ). place_in k a.p.addr (length a.inside.now)) (read-address h.records (tests-passed m A n h l of).fits.reached.made (own a.p h.records l of)) in
+    let reads = c.make_reads in record {
+      value = λ s frame mask A n h l of a.
+          let at = place s.memory A n h l of in
+          (reads.ensures s.memory n (tree-at h l.part) (fits-at (tests-passed s.memory A n h l of) at).reached).refusal
+          ∙ refused-by-reads c.args.settings mask frame c.args.entries s a c.args.p of h.records.valid (sym (tested s.memory A n h l of) ∙ c.if-refused-ne0.false) at;
+      tested = λ m A n h l of.
+          let at = place m A n h l of in
+          let fits = tests-passed m A n h l of in
+          tested-read c.args.inside.now fits at (reads.ensures m n (tree-at h l.part) (fits-at fits at).reached);
+    }

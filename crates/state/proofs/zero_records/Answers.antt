@@ -6,32 +6,33 @@ use native.Mathlib.Omega.{arith}
 use lib.ListN.{length, set}
 use Rattle.frames.proofs.Fill.{zeros-more, zeros-length, zeros-all}
 use Rattle.state.proofs.zero_records.Goals as goal
-use Rattle.state.proofs.zero_records.Goals.{At-loop-i}
-
--- the buffer stays as long as it is
-kept : (c : At-loop-i) → length c.loop-i.allocs ≡ length c.args.allocs.now
-kept c = ap length c.loop-i.invariant.1 ∙ zeros-length c.args.allocs.now c.loop-i.i c.loop-i.invariant.0
 
 pub loop-i-init : goal.loop-i-init
 loop-i-init c = (omega arith, refl)
 
 pub offset_bounds-allocs-i : goal.offset_bounds-allocs-i
-offset_bounds-allocs-i c = omega (arith, kept c.before)
+offset_bounds-allocs-i c = let kept : length c.loop-i.allocs ≡ length c.args.allocs.now = ap length c.loop-i.invariant.1 ∙ zeros-length c.args.allocs.now c.loop-i.i c.loop-i.invariant.0 in
+    omega (arith, kept)
 
 pub bounds-allocs-i : goal.bounds-allocs-i
-bounds-allocs-i c = omega (arith, kept c.before)
+bounds-allocs-i c = let kept : length c.loop-i.allocs ≡ length c.args.allocs.now = ap length c.loop-i.invariant.1 ∙ zeros-length c.args.allocs.now c.loop-i.i c.loop-i.invariant.0 in
+    omega (arith, kept)
 
 pub loop-i-smaller : goal.loop-i-smaller
-loop-i-smaller c = omega (arith, kept c.before)
+loop-i-smaller c = let kept : length c.loop-i.allocs ≡ length c.args.allocs.now = ap length c.loop-i.invariant.1 ∙ zeros-length c.args.allocs.now c.loop-i.i c.loop-i.invariant.0 in
+    omega (arith, kept)
 
 pub loop-i-preserved : goal.loop-i-preserved
-loop-i-preserved c = let i = c.loop-i.i in
-    let same = kept c.before in
+loop-i-preserved c = let kept : length c.loop-i.allocs ≡ length c.args.allocs.now = ap length c.loop-i.invariant.1 ∙ zeros-length c.args.allocs.now c.loop-i.i c.loop-i.invariant.0 in
+    let i = c.loop-i.i in
+    let same = kept in
     (omega arith, ap (λ (l : List ℕ). set l i 0) c.loop-i.invariant.1 ∙ zeros-more c.args.allocs.now i (omega arith))
 
 pub shape_of-allocs : goal.shape_of-allocs
-shape_of-allocs c = kept c.before
+shape_of-allocs c = let kept : length c.loop-i.allocs ≡ length c.args.allocs.now = ap length c.loop-i.invariant.1 ∙ zeros-length c.args.allocs.now c.loop-i.i c.loop-i.invariant.0 in
+    kept
 
 pub returns : goal.returns
-returns c = let same = kept c.before in
+returns c = let kept : length c.loop-i.allocs ≡ length c.args.allocs.now = ap length c.loop-i.invariant.1 ∙ zeros-length c.args.allocs.now c.loop-i.i c.loop-i.invariant.0 in
+    let same = kept in
     c.loop-i.invariant.1 ∙ zeros-all c.args.allocs.now c.loop-i.i (omega arith)

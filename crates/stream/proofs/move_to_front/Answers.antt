@@ -7,22 +7,19 @@ use lib.ListN.{set, get_or, length}
 use Rattle.stream.proofs.Words.{moved_more, moved_length}
 use Rattle.stream.specs.Stream.{moved}
 use Rattle.stream.proofs.move_to_front.Goals as goal
-use Rattle.stream.proofs.move_to_front.Goals.{At-loop-at}
-
--- the buffer stays as long as it is
-kept : (c : At-loop-at) → length c.loop-at.bytes ≡ length c.args.bytes.now
-kept c =
-    let l = c.loop-at in
-    ap length l.invariant.1.1 ∙ moved_length c.args.from l.n c.args.bytes.now (omega arith)
 
 pub loop-at-init : goal.loop-at-init
 loop-at-init c = (omega arith, (c.requires.0, refl))
 
 pub bounds-bytes-at : goal.bounds-bytes-at
-bounds-bytes-at c = omega (arith, kept c.before.before)
+bounds-bytes-at c = let kept : length c.loop-at.bytes ≡ length c.args.bytes.now = let l = c.loop-at in
+    ap length l.invariant.1.1 ∙ moved_length c.args.from l.n c.args.bytes.now (omega arith) in
+    omega (arith, kept)
 
 pub bounds-bytes-n : goal.bounds-bytes-n
-bounds-bytes-n c = omega (arith, kept c.before.before)
+bounds-bytes-n c = let kept : length c.loop-at.bytes ≡ length c.args.bytes.now = let l = c.loop-at in
+    ap length l.invariant.1.1 ∙ moved_length c.args.from l.n c.args.bytes.now (omega arith) in
+    omega (arith, kept)
 
 pub loop-at-preserved : goal.loop-at-preserved
 loop-at-preserved c = let l = c.loop-at in
@@ -37,7 +34,9 @@ loop-at-preserved c = let l = c.loop-at in
     )
 
 pub shape_of-bytes : goal.shape_of-bytes
-shape_of-bytes c = kept c.before
+shape_of-bytes c = let kept : length c.loop-at.bytes ≡ length c.args.bytes.now = let l = c.loop-at in
+    ap length l.invariant.1.1 ∙ moved_length c.args.from l.n c.args.bytes.now (omega arith) in
+    kept
 
 pub returns : goal.returns
 returns c = let l = c.loop-at in

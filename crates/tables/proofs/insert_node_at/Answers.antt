@@ -23,8 +23,7 @@ pub insert_made_row_in_used-requires : goal.insert_made_row_in_used-requires
 insert_made_row_in_used-requires c = let s = entry-before-one (one-before-row c.before.before.before) in
     let (ok, at) = s.pre.0.1.1 in
     let k = codes-moved _ ok at.behind at.used in
-    let long = write-wide s.args.from s.args.inside.now s.args.width s.args.outside in
-    (k.0, ((k.1.0, omega (arith, k.1.1, long)), s.pre.1))
+    let long = write-wide s.args.from s.args.inside.now s.args.width s.args.outside in record { zeros_from = k.0; p_le_used = (k.1.0, omega (arith, k.1.1, long)); inside_bound = s.pre.1 }
 
 pub bounds-allocs-p : goal.bounds-allocs-p
 bounds-allocs-p c = count-in _ c.requires.node_fits.1.1.0

@@ -15,7 +15,7 @@ returns c = let a = c.args in
     let C = a.c.now in
     let R = a.row.now in
     let p = a.p in
-    let D = c.shift_right.last.0 in
+    let D = c.shift_right.new.c in
     let k : length D ≡ length C = c.shift_right.kept.0 in
     let h : p + length R ≤ length C = omega arith in
     let h2 : p + length R ≤ length D = omega arith in

@@ -8,7 +8,7 @@ use Rattle.tables.proofs.Moving.{Moving}
 use Rattle.tables.proofs.move_starts.Given as goal
 
 abbrev pub invariant-loop-i : goal.invariant-loop-i
-invariant-loop-i l = (l : List ℕ) (p : Starts) (m : Memory) (z : ℕ) → RecordsBehind l.initial.i l p m z l.width l.initial.allocs → Moving l.i l p m z l.width l.allocs
+invariant-loop-i s = (l : List ℕ) (p : Starts) (m : Memory) (z : ℕ) → RecordsBehind s.initial.i l p m z s.width s.initial.allocs → Moving s.i l p m z s.width s.allocs
 
 abbrev pub decreases-loop-i : goal.decreases-loop-i
 decreases-loop-i l = 128 - l.i

@@ -6,13 +6,6 @@ use native.Mathlib.Omega.{arith}
 use Rattle.wellformed.proofs.Walk.{walk-front, walk-bad, walk-on, PartsFit, walk-fits, walk-rest}
 use Rattle.wellformed.specs.WellFormed.{bad_allocations}
 use Rattle.wellformed.proofs.bad_allocations.Goals as goal
-use Rattle.wellformed.proofs.bad_allocations.Goals.{Else-bad_allocation_at}
-
--- an allocation that passed has room for its parts
-parts-fit : (c : Else-bad_allocation_at)
-    → let a = c.args in
-    PartsFit a.allocs.now a.parents.now a.protectors.now a.words.now a.codes.now c.loop-i.i c.loop-i.node c.loop-i.word c.loop-i.code
-parts-fit c = let k = c.loop-i.inv in walk-fits _ _ _ _ _ _ _ _ _ _ c.bad_allocation_at.ensures c.if-bad_allocation_at.false k.1 k.2 k.3 k.4
 
 pub loop-i-init : goal.loop-i-init
 loop-i-init c = let a = c.args in (
@@ -32,20 +25,30 @@ returns-then-bad_allocation_at c = let a = c.args in
     sym (walk-bad a.allocs.now a.parents.now a.protectors.now a.words.now a.codes.now c.loop-i.i c.loop-i.node c.loop-i.word c.loop-i.code _ c.bad_allocation_at.ensures a.count (omega arith) c.if-bad_allocation_at.true) ∙ c.loop-i.inv.5
 
 pub overflow_add-node : goal.overflow_add-node
-overflow_add-node c = omega (arith, (parts-fit c.before.before).parents)
+overflow_add-node c = let parts-fit : let a = c.args in
+    PartsFit a.allocs.now a.parents.now a.protectors.now a.words.now a.codes.now c.loop-i.i c.loop-i.node c.loop-i.word c.loop-i.code = let k = c.loop-i.inv in walk-fits _ _ _ _ _ _ _ _ _ _ c.bad_allocation_at.ensures c.if-bad_allocation_at.false k.1 k.2 k.3 k.4 in
+    omega (arith, (parts-fit).parents)
 
 pub overflow_add-word : goal.overflow_add-word
-overflow_add-word c = omega (arith, (parts-fit c.before.before).words)
+overflow_add-word c = let parts-fit : let a = c.args in
+    PartsFit a.allocs.now a.parents.now a.protectors.now a.words.now a.codes.now c.loop-i.i c.loop-i.node c.loop-i.word c.loop-i.code = let k = c.loop-i.inv in walk-fits _ _ _ _ _ _ _ _ _ _ c.bad_allocation_at.ensures c.if-bad_allocation_at.false k.1 k.2 k.3 k.4 in
+    omega (arith, (parts-fit).words)
 
 pub overflow_mul-code : goal.overflow_mul-code
-overflow_mul-code c = omega (arith, (parts-fit c.before.before).codes)
+overflow_mul-code c = let parts-fit : let a = c.args in
+    PartsFit a.allocs.now a.parents.now a.protectors.now a.words.now a.codes.now c.loop-i.i c.loop-i.node c.loop-i.word c.loop-i.code = let k = c.loop-i.inv in walk-fits _ _ _ _ _ _ _ _ _ _ c.bad_allocation_at.ensures c.if-bad_allocation_at.false k.1 k.2 k.3 k.4 in
+    omega (arith, (parts-fit).codes)
 
 pub overflow_add-code : goal.overflow_add-code
-overflow_add-code c = omega (arith, (parts-fit c.before.before).codes)
+overflow_add-code c = let parts-fit : let a = c.args in
+    PartsFit a.allocs.now a.parents.now a.protectors.now a.words.now a.codes.now c.loop-i.i c.loop-i.node c.loop-i.word c.loop-i.code = let k = c.loop-i.inv in walk-fits _ _ _ _ _ _ _ _ _ _ c.bad_allocation_at.ensures c.if-bad_allocation_at.false k.1 k.2 k.3 k.4 in
+    omega (arith, (parts-fit).codes)
 
 pub loop-i-preserved : goal.loop-i-preserved
-loop-i-preserved c = let a = c.args in
-    let fits = parts-fit c.before.before in (
+loop-i-preserved c = let parts-fit : let a = c.args in
+    PartsFit a.allocs.now a.parents.now a.protectors.now a.words.now a.codes.now c.loop-i.i c.loop-i.node c.loop-i.word c.loop-i.code = let k = c.loop-i.inv in walk-fits _ _ _ _ _ _ _ _ _ _ c.bad_allocation_at.ensures c.if-bad_allocation_at.false k.1 k.2 k.3 k.4 in
+    let a = c.args in
+    let fits = parts-fit in (
       omega arith,
       fits.parents,
       fits.protectors,

@@ -8,14 +8,6 @@ use lib.Dec.{eqb, leb}
 use Rattle.definition.specs.Memory.{is_misaligned}
 use Rattle.wellformed.specs.WellFormed.{bad_record}
 use Rattle.wellformed.proofs.bad_record.Goals as goal
-use Rattle.wellformed.proofs.bad_record.Goals.{Else-address-eq0}
-
-others : (c : Else-address-eq0)
-    → let a = c.args in
-    bad_record a.state a.kind a.exponent a.address a.size a.nodes
-    ≡ is_misaligned a.address a.exponent || leb (2 ^ 64) (a.address + a.size) || eqb a.nodes 0
-unfolding bad_record
-others c = rw (ne_eqb _ _ c.if-state-eq0.false, le-ltb _ _ c.if-state-gt2.false, le-ltb _ _ c.if-kind-gt4.false, le-ltb _ _ c.if-exponent-gt29.false, ne_eqb _ _ c.if-address-eq0.false)
 
 pub returns-then-state-eq0 : goal.returns-then-state-eq0
 unfolding bad_record
@@ -38,12 +30,24 @@ unfolding bad_record
 returns-then-address-eq0 c = sym (rw (ne_eqb _ _ c.if-state-eq0.false, le-ltb _ _ c.if-state-gt2.false, le-ltb _ _ c.if-kind-gt4.false, le-ltb _ _ c.if-exponent-gt29.false, eq-eqb _ _ c.if-address-eq0.true))
 
 pub returns-then-is_misaligned : goal.returns-then-is_misaligned
-returns-then-is_misaligned c = sym (others c.before.before ∙ rw (sym c.is_misaligned.ensures ∙ c.if-is_misaligned.true))
+unfolding bad_record
+returns-then-is_misaligned c = let others : let a = c.args in
+    bad_record a.state a.kind a.exponent a.address a.size a.nodes
+    ≡ is_misaligned a.address a.exponent || leb (2 ^ 64) (a.address + a.size) || eqb a.nodes 0 = rw (ne_eqb _ _ c.if-state-eq0.false, le-ltb _ _ c.if-state-gt2.false, le-ltb _ _ c.if-kind-gt4.false, le-ltb _ _ c.if-exponent-gt29.false, ne_eqb _ _ c.if-address-eq0.false) in
+    sym (others ∙ rw (sym c.is_misaligned.ensures ∙ c.if-is_misaligned.true))
 
 pub returns-then-size-room : goal.returns-then-size-room
-returns-then-size-room c = let a = c.args in
-    sym (others c.before.before.before ∙ rw (sym c.is_misaligned.ensures ∙ c.if-is_misaligned.false, le-leb (2 ^ 64) (a.address + a.size) (omega arith)))
+unfolding bad_record
+returns-then-size-room c = let others : let a = c.args in
+    bad_record a.state a.kind a.exponent a.address a.size a.nodes
+    ≡ is_misaligned a.address a.exponent || leb (2 ^ 64) (a.address + a.size) || eqb a.nodes 0 = rw (ne_eqb _ _ c.if-state-eq0.false, le-ltb _ _ c.if-state-gt2.false, le-ltb _ _ c.if-kind-gt4.false, le-ltb _ _ c.if-exponent-gt29.false, ne_eqb _ _ c.if-address-eq0.false) in
+    let a = c.args in
+    sym (others ∙ rw (sym c.is_misaligned.ensures ∙ c.if-is_misaligned.false, le-leb (2 ^ 64) (a.address + a.size) (omega arith)))
 
 pub returns : goal.returns
-returns c = let a = c.args in
-    sym (others c.before.before.before ∙ rw (sym c.is_misaligned.ensures ∙ c.if-is_misaligned.false, lt-leb (2 ^ 64) (a.address + a.size) (omega arith)))
+unfolding bad_record
+returns c = let others : let a = c.args in
+    bad_record a.state a.kind a.exponent a.address a.size a.nodes
+    ≡ is_misaligned a.address a.exponent || leb (2 ^ 64) (a.address + a.size) || eqb a.nodes 0 = rw (ne_eqb _ _ c.if-state-eq0.false, le-ltb _ _ c.if-state-gt2.false, le-ltb _ _ c.if-kind-gt4.false, le-ltb _ _ c.if-exponent-gt29.false, ne_eqb _ _ c.if-address-eq0.false) in
+    let a = c.args in
+    sym (others ∙ rw (sym c.is_misaligned.ensures ∙ c.if-is_misaligned.false, lt-leb (2 ^ 64) (a.address + a.size) (omega arith)))

@@ -5,14 +5,6 @@ use Rattle.definition.specs.Notation.{any}
 use Rattle.definition.specs.Request.{nonzero}
 use Rattle.wellformed.specs.WellFormed.{bad_rest}
 use Rattle.wellformed.proofs.bad_rest.Goals as goal
-use Rattle.wellformed.proofs.bad_rest.Goals.{Else-any_nonzero_u8}
-
-others : (c : Else-any_nonzero_u8)
-    → let a = (entry (first c)).args in
-    bad_rest a.allocs.now a.parents.now a.protectors.now a.words.now a.codes.now ≡ any nonzero a.words.now || any nonzero a.codes.now
-unfolding bad_rest
-others c =
-    rw (sym c.any_nonzero_u64.ensures ∙ c.if-any_nonzero_u64.false, sym c.any_nonzero_u16.ensures ∙ c.if-any_nonzero_u16.false, sym c.any_nonzero_u8.ensures ∙ c.if-any_nonzero_u8.false)
 
 pub returns-then-any_nonzero_u64 : goal.returns-then-any_nonzero_u64
 unfolding bad_rest
@@ -27,7 +19,13 @@ unfolding bad_rest
 returns-then-any_nonzero_u8 c = sym (rw (sym c.any_nonzero_u64.ensures ∙ c.if-any_nonzero_u64.false, sym c.any_nonzero_u16.ensures ∙ c.if-any_nonzero_u16.false, sym c.any_nonzero_u8.ensures ∙ c.if-any_nonzero_u8.true))
 
 pub returns-then-any_nonzero_u32 : goal.returns-then-any_nonzero_u32
-returns-then-any_nonzero_u32 c = sym (others c.before.before ∙ rw (sym c.any_nonzero_u32.ensures ∙ c.if-any_nonzero_u32.true))
+unfolding bad_rest
+returns-then-any_nonzero_u32 c = let others : let a = (entry (first c.before.before)).args in
+    bad_rest a.allocs.now a.parents.now a.protectors.now a.words.now a.codes.now ≡ any nonzero a.words.now || any nonzero a.codes.now = rw (sym c.any_nonzero_u64.ensures ∙ c.if-any_nonzero_u64.false, sym c.any_nonzero_u16.ensures ∙ c.if-any_nonzero_u16.false, sym c.any_nonzero_u8.ensures ∙ c.if-any_nonzero_u8.false) in
+    sym (others ∙ rw (sym c.any_nonzero_u32.ensures ∙ c.if-any_nonzero_u32.true))
 
 pub returns : goal.returns
-returns c = c.any_nonzero_u8-2.ensures ∙ sym (others c.before.before.before ∙ rw (sym c.any_nonzero_u32.ensures ∙ c.if-any_nonzero_u32.false))
+unfolding bad_rest
+returns c = let others : let a = (entry (first c.before.before.before)).args in
+    bad_rest a.allocs.now a.parents.now a.protectors.now a.words.now a.codes.now ≡ any nonzero a.words.now || any nonzero a.codes.now = rw (sym c.any_nonzero_u64.ensures ∙ c.if-any_nonzero_u64.false, sym c.any_nonzero_u16.ensures ∙ c.if-any_nonzero_u16.false, sym c.any_nonzero_u8.ensures ∙ c.if-any_nonzero_u8.false) in
+    c.any_nonzero_u8-2.ensures ∙ sym (others ∙ rw (sym c.any_nonzero_u32.ensures ∙ c.if-any_nonzero_u32.false))

@@ -6,8 +6,7 @@ use Rattle.judge.specs.Turn.{LineWritten}
 use Rattle.judge.proofs.turn.answer_bytes.Goals as goal
 
 pub step_bytes-outcome-requires : goal.step_bytes-outcome-requires
-step_bytes-outcome-requires c = let a = entry (lent c) in
-    (a.pre.0, a.pre.1.1)
+step_bytes-outcome-requires c = let a = entry (lent c) in record { holds_run = a.pre.0; bytes_len_bound = a.pre.1.1 }
 
 pub write_answer-line-requires : goal.write_answer-line-requires
 write_answer-line-requires c = let a = entry (lent c.before.before.before.before.before.before.before.before.before.before.before.before.before.before.before.before) in

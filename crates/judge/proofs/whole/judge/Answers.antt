@@ -10,7 +10,7 @@ pub answer_all-p-requires : goal.answer_all-p-requires
 answer_all-p-requires c = record { holds_state = c.clear.ensures; request_len = (entry (cleared c).before).requires.1 }
 
 pub finish-requires : goal.finish-requires
-finish-requires c = let k = c.answer_all-p in ((k.last.1.1.1.1.1.0, k.ensures.0), k.ensures.1)
+finish-requires c = let k = c.answer_all-p in record { by_index = (k.last.1.1.1.1.1.0, k.ensures.0); out_value = k.ensures.1 }
 
 pub shape_of-allocs : goal.shape_of-allocs
 shape_of-allocs c = c.answer_all-p.auto.allocs ∙ (cleared (answered c).before).clear.auto.0

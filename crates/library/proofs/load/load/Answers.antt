@@ -18,8 +18,7 @@ returns-then-bad_load c =
 
 pub load-requires : goal.load-requires
 load-requires c = let formed = sym c.well_formed_at.ensures ∙ not-false _ c.if-not-well_formed_at.false-raw in
-    let fine = sym c.bad_load.ensures ∙ c.if-bad_load.false in
-    ((_, holds-trees (sound-at _ _ formed)), exponent-shifts _ (load-exponent _ _ _ fine))
+    let fine = sym c.bad_load.ensures ∙ c.if-bad_load.false in record { holds_trees = (_, holds-trees (sound-at _ _ formed)); exponent_bound = exponent-shifts _ (load-exponent _ _ _ fine) }
 
 pub returns : goal.returns
 returns c = let formed = sym c.well_formed_at.ensures ∙ not-false _ c.if-not-well_formed_at.false-raw in

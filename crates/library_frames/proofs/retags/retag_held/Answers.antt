@@ -10,15 +10,6 @@ use Rattle.parts.proofs.Lent.{records-of}
 use Rattle.library_frames.specs.Settings.{fields_of}
 use Rattle.library_frames.proofs.Masks.{blank, blank-length, performed-mask, performed-none, performed-same, performed-node}
 use Rattle.library_frames.proofs.retags.retag_held.Goals as goal
-use Rattle.library_frames.proofs.retags.retag_held.Goals.{After-freeze_mask-found, In-Of-2}
-
--- ---- what is known there
-adds : (c : After-freeze_mask-found) → adds_no_node (fields_of c.args.settings) ≡ false
-adds c = sym c.adds_no_node.ensures ∙ c.if-adds_no_node.false
-
--- the layout has a mask of the length that is answered
-has-mask : (c : In-Of-2) → let layout = (asked (filled c)).args.layout.now in HasMask layout blank (afterwards layout blank) c.in-Of.len
-has-mask c = answers_of (asked (filled c)).args.layout.now blank blank-length _ (sym c.in-Of.is ∙ c.freeze_mask-found.ensures.0)
 
 pub retag_without_node-requires : goal.retag_without_node-requires
 retag_without_node-requires c = let held = c.requires in (held.0, records-of held.1)
@@ -30,20 +21,23 @@ returns-then-adds_no_node c = let t = c.args in
     held.trees
 
 pub reborrow-requires : goal.reborrow-requires
-reborrow-requires c = let mask = found (settings c) in
-    ((asked (filled mask)).requires, omega (arith, (has-mask mask).bound, (filled mask).freeze-mask.kept.1.0, blank-length))
+reborrow-requires c = let has-mask : let layout = (asked (filled c)).args.layout.now in HasMask layout blank (afterwards layout blank) c.in-Of.len = answers_of (asked (filled c)).args.layout.now blank blank-length _ (sym c.in-Of.is ∙ c.freeze_mask-found.ensures.0) in
+    let mask = found (settings c) in record { holds_marked = (asked (filled mask)).requires; len_in_bounds = omega (arith, (has-mask mask).bound, (filled mask).freeze-mask.kept.1.0, blank-length) }
 
 pub returns-in-Of : goal.returns-in-Of
-returns-in-Of c = let t = (asked (filled c)).args in
+returns-in-Of c = let adds : adds_no_node (fields_of c.args.settings) ≡ false = sym c.adds_no_node.ensures ∙ c.if-adds_no_node.false in
+    let has-mask : let layout = (asked (filled c)).args.layout.now in HasMask layout blank (afterwards layout blank) c.in-Of.len = answers_of (asked (filled c)).args.layout.now blank blank-length _ (sym c.in-Of.is ∙ c.freeze_mask-found.ensures.0) in
+    let t = (asked (filled c)).args in
     λ s held count.
-    performed-node t.settings (thin_pointer_of t.p) t.layout.now s (adds c.before.before.before.before.before.before.before.before.before.before.before.before.before.before.before.before.before.before)
-    (performed-mask t.settings (thin_pointer_of t.p) t.layout.now s c.reborrow_settings-w.result c.reborrow_settings-w.ensures blank _ (has-mask c) _ c.freeze_mask-found.ensures.1
+    performed-node t.settings (thin_pointer_of t.p) t.layout.now s (adds)
+    (performed-mask t.settings (thin_pointer_of t.p) t.layout.now s c.reborrow_settings-w.result c.reborrow_settings-w.ensures blank _ (has-mask) _ c.freeze_mask-found.ensures.1
     (c.reborrow.ensures.retagged s 0 held count))
 
 pub returns-in-None : goal.returns-in-None
-returns-in-None c = let t = c.args in
+returns-in-None c = let adds : adds_no_node (fields_of c.args.settings) ≡ false = sym c.adds_no_node.ensures ∙ c.if-adds_no_node.false in
+    let t = c.args in
     λ s held count.
-    performed-node t.settings (thin_pointer_of t.p) t.layout.now s (adds c.before.before)
+    performed-node t.settings (thin_pointer_of t.p) t.layout.now s (adds)
     (performed-none t.settings (thin_pointer_of t.p) t.layout.now s (answers-none t.layout.now blank blank-length (sym c.in-None.is ∙ c.freeze_mask-found.ensures.0)) held.trees)
 
 pub returns-in-WrongLength : goal.returns-in-WrongLength

@@ -11,27 +11,6 @@ use Rattle.parts.specs.Trees.{HoldsTrees}
 use Rattle.memory.specs.Access.{Checked, Found, Reached}
 use Rattle.memory.proofs.LoadStore.{checked, none-empty, unvisited-accessed, reached-through, accessed-through, start_none, start-through, words-in}
 use Rattle.memory.proofs.access.access.Goals as goal
-use Rattle.memory.proofs.access.access.Goals.{Else-len-eq0}
-
--- then 4 and 7 to 9 refuse nothing, the bytes lie in the allocation, and the record is its own
-passed : (c : Else-len-eq0) (m : Memory) → HoldsTrees m c.args.allocs.now c.args.parents.now c.args.codes.now
-    → Checked m (thin_pointer_of c.args.p) c.args.len
-passed c m h =
-    let a = c.args in
-    let refused = c.pointer_refusal-refused in
-    checked (thin_pointer_of a.p) a.len a.exponent m refused.result (refused.ensures m _ h.records c.target_of-a.ensures) c.if-refused-ne0.false
-
-reach : (c : Else-len-eq0) (m : Memory) → HoldsTrees m c.args.allocs.now c.args.parents.now c.args.codes.now
-    → let of = c.provenance-1.given.0 in Reached m of.0 of.1.0 c.args.p.addr c.args.len
-reach c m h = reached-through c.args.p c.in-Of.is c.if-len-eq0.false (passed c m h)
-
-own : (c : Else-len-eq0) (m : Memory) → HoldsTrees m c.args.allocs.now c.args.parents.now c.args.codes.now
-    → c.target_of-a.result ≡ record_at c.args.allocs.now c.in-Of.allocation
-own c m h = points-read c.args.p c.in-Of.is (record { records = h.records; made = (passed c m h).made }) c.target_of-a.ensures
-
-found : (c : Else-len-eq0) (m : Memory) → HoldsTrees m c.args.allocs.now c.args.parents.now c.args.codes.now
-    → Found m c.in-Of.allocation c.target_of-a.result c.args.parents.now c.args.codes.now
-found c m h = record { records = c.args.allocs.now; trees = h; read = own c m h }
 
 pub target_of-a-requires : goal.target_of-a-requires
 target_of-a-requires c = allocs-length c.requires.holds_trees.1.records
@@ -54,17 +33,41 @@ pub returns-then-len-eq0 : goal.returns-then-len-eq0
 returns-then-len-eq0 c = record { accessed = (λ m bytes h. unvisited-accessed _ h 0 (sym c.if-refused-ne0.false ∙ c.pointer_refusal-refused.ensures m _ h.records c.target_of-a.ensures) (λ z. c.if-len-eq0.true)); start_value = (λ m h z. sym (start_none _ _ m c.if-len-eq0.true)) }
 
 pub overflow_sub-start : goal.overflow_sub-start
-overflow_sub-start c = let (m, h) = c.requires.holds_trees in
-    let k = reach c.before m h in
-    omega (arith, read-address h.records k.made (own c.before m h), k.above)
+overflow_sub-start c = let passed : (m : Memory) → HoldsTrees m c.args.allocs.now c.args.parents.now c.args.codes.now
+    → Checked m (thin_pointer_of c.args.p) c.args.len = λ m h. let a = c.args in
+    let refused = c.pointer_refusal-refused in
+    checked (thin_pointer_of a.p) a.len a.exponent m refused.result (refused.ensures m _ h.records c.target_of-a.ensures) c.if-refused-ne0.false in
+    let reach : (m : Memory) → HoldsTrees m c.args.allocs.now c.args.parents.now c.args.codes.now
+    → let of = c.provenance-1.given.0 in Reached m of.0 of.1.0 c.args.p.addr c.args.len = λ m h. reached-through c.args.p c.in-Of.is c.if-len-eq0.false (passed m h) in
+    let own : (m : Memory) → HoldsTrees m c.args.allocs.now c.args.parents.now c.args.codes.now
+    → c.target_of-a.result ≡ record_at c.args.allocs.now c.in-Of.allocation = λ m h. points-read c.args.p c.in-Of.is (record { records = h.records; made = (passed m h).made }) c.target_of-a.ensures in
+    let (m, h) = c.requires.holds_trees in
+    let k = reach m h in
+    omega (arith, read-address h.records k.made (own m h), k.above)
 
 pub overflow_add-start : goal.overflow_add-start
-overflow_add-start c = let (m, h) = c.requires.holds_trees in
-    let k = passed c.before.before m h in
-    omega (arith, start-through c.args.p c.in-Of.is c.if-len-eq0.false h.records k (own c.before.before m h), words-in h.records.valid k)
+overflow_add-start c = let passed : (m : Memory) → HoldsTrees m c.args.allocs.now c.args.parents.now c.args.codes.now
+    → Checked m (thin_pointer_of c.args.p) c.args.len = λ m h. let a = c.args in
+    let refused = c.pointer_refusal-refused in
+    checked (thin_pointer_of a.p) a.len a.exponent m refused.result (refused.ensures m _ h.records c.target_of-a.ensures) c.if-refused-ne0.false in
+    let own : (m : Memory) → HoldsTrees m c.args.allocs.now c.args.parents.now c.args.codes.now
+    → c.target_of-a.result ≡ record_at c.args.allocs.now c.in-Of.allocation = λ m h. points-read c.args.p c.in-Of.is (record { records = h.records; made = (passed m h).made }) c.target_of-a.ensures in
+    let (m, h) = c.requires.holds_trees in
+    let k = passed m h in
+    omega (arith, start-through c.args.p c.in-Of.is c.if-len-eq0.false h.records k (own m h), words-in h.records.valid k)
 
 pub access_tree-refusal-requires : goal.access_tree-refusal-requires
-access_tree-refusal-requires c = let (m, h) = c.requires.holds_trees in (m, (_, (found c.before.before.before m h, reach c.before.before.before m h)))
+access_tree-refusal-requires c = let passed : (m : Memory) → HoldsTrees m c.args.allocs.now c.args.parents.now c.args.codes.now
+    → Checked m (thin_pointer_of c.args.p) c.args.len = λ m h. let a = c.args in
+    let refused = c.pointer_refusal-refused in
+    checked (thin_pointer_of a.p) a.len a.exponent m refused.result (refused.ensures m _ h.records c.target_of-a.ensures) c.if-refused-ne0.false in
+    let reach : (m : Memory) → HoldsTrees m c.args.allocs.now c.args.parents.now c.args.codes.now
+    → let of = c.provenance-1.given.0 in Reached m of.0 of.1.0 c.args.p.addr c.args.len = λ m h. reached-through c.args.p c.in-Of.is c.if-len-eq0.false (passed m h) in
+    let own : (m : Memory) → HoldsTrees m c.args.allocs.now c.args.parents.now c.args.codes.now
+    → c.target_of-a.result ≡ record_at c.args.allocs.now c.in-Of.allocation = λ m h. points-read c.args.p c.in-Of.is (record { records = h.records; made = (passed m h).made }) c.target_of-a.ensures in
+    let found : (m : Memory) → HoldsTrees m c.args.allocs.now c.args.parents.now c.args.codes.now
+    → Found m c.in-Of.allocation c.target_of-a.result c.args.parents.now c.args.codes.now = λ m h. record { records = c.args.allocs.now; trees = h; read = own m h } in
+    let (m, h) = c.requires.holds_trees in (m, (_, (found m h, reach m h)))
 
 pub returns-in-None : goal.returns-in-None
 returns-in-None c = record {
@@ -82,12 +85,22 @@ returns-in-None c = record {
 }
 
 pub returns-else-len-eq0 : goal.returns-else-len-eq0
-returns-else-len-eq0 c = record {
-  accessed = (λ m bytes h.
-      let a = c.args in
-      let refused = c.pointer_refusal-refused in
-      accessed-through a.p c.in-Of.is c.if-len-eq0.false (access_kind a.kind) a.exponent bytes h refused.result (refused.ensures m _ h.records c.target_of-a.ensures) c.if-refused-ne0.false
-      (c.access_tree-refusal.ensures m _ (found c.before.before.before.before.before.before m h) (reach c.before.before.before.before.before.before m h)));
-  start_value = (λ m h z.
-      start-through c.args.p c.in-Of.is c.if-len-eq0.false h.records (passed c.before.before.before.before.before.before m h) (own c.before.before.before.before.before.before m h));
-}
+returns-else-len-eq0 c = let passed : (m : Memory) → HoldsTrees m c.args.allocs.now c.args.parents.now c.args.codes.now
+    → Checked m (thin_pointer_of c.args.p) c.args.len = λ m h. let a = c.args in
+    let refused = c.pointer_refusal-refused in
+    checked (thin_pointer_of a.p) a.len a.exponent m refused.result (refused.ensures m _ h.records c.target_of-a.ensures) c.if-refused-ne0.false in
+    let reach : (m : Memory) → HoldsTrees m c.args.allocs.now c.args.parents.now c.args.codes.now
+    → let of = c.provenance-1.given.0 in Reached m of.0 of.1.0 c.args.p.addr c.args.len = λ m h. reached-through c.args.p c.in-Of.is c.if-len-eq0.false (passed m h) in
+    let own : (m : Memory) → HoldsTrees m c.args.allocs.now c.args.parents.now c.args.codes.now
+    → c.target_of-a.result ≡ record_at c.args.allocs.now c.in-Of.allocation = λ m h. points-read c.args.p c.in-Of.is (record { records = h.records; made = (passed m h).made }) c.target_of-a.ensures in
+    let found : (m : Memory) → HoldsTrees m c.args.allocs.now c.args.parents.now c.args.codes.now
+    → Found m c.in-Of.allocation c.target_of-a.result c.args.parents.now c.args.codes.now = λ m h. record { records = c.args.allocs.now; trees = h; read = own m h } in
+    record {
+      accessed = (λ m bytes h.
+          let a = c.args in
+          let refused = c.pointer_refusal-refused in
+          accessed-through a.p c.in-Of.is c.if-len-eq0.false (access_kind a.kind) a.exponent bytes h refused.result (refused.ensures m _ h.records c.target_of-a.ensures) c.if-refused-ne0.false
+          (c.access_tree-refusal.ensures m _ (found m h) (reach m h)));
+      start_value = (λ m h z.
+          start-through c.args.p c.in-Of.is c.if-len-eq0.false h.records (passed m h) (own m h));
+    }

@@ -12,57 +12,81 @@ use Rattle.parts.proofs.Lent.{tree-at, parts-read, nodes-ordered, codes-ordered,
 use Rattle.memory.specs.Access.{Found, Reached}
 use Rattle.memory.proofs.OneTree.{access-visited}
 use Rattle.memory.proofs.access.access_tree.Goals as goal
-use Rattle.memory.proofs.access.access_tree.Goals.{After-parts_of-t}
-
--- the tree that is lent, for each memory that the tables hold; and for the one that the caller has
-lent : (c : After-parts_of-t) (m : Memory) (n : ℕ) → let a = c.args in Found m n a.a a.parents.now a.codes.now → Reached m n a.node a.addr a.len
-    → TreeAt m n a.parents.now a.codes.now c.parts_of-t.result
-lent c m n f k =
-    let a = c.args in
-    subst (λ (r : Parts). TreeAt m n a.parents.now a.codes.now r) (sym c.parts_of-t.ensures) (tree-at f.trees (parts-read f.trees.records k.made f.read))
-
-given : (c : After-parts_of-t) → TreeAt c.requires.0 c.requires.1.0 c.args.parents.now c.args.codes.now c.parts_of-t.result
-given c = let (m, (n, (f, k))) = c.requires in lent c m n f k
-
--- where the allocation starts
-base : (c : After-parts_of-t) (m : Memory) (n : ℕ) → let a = c.args in Found m n a.a a.parents.now a.codes.now → Reached m n a.node a.addr a.len
-    → a.a.address ≡ (allocation_at m n).address
-base c m n f k = read-address f.trees.records k.made f.read
 
 pub parts_of-t-requires : goal.parts_of-t-requires
 parts_of-t-requires c = let (m, (n, (f, k))) = c.requires in (read-nodes f.trees.records k.made f.read, read-codes f.trees.records k.made f.read)
 
 pub overflow_sub-from : goal.overflow_sub-from
-overflow_sub-from c = let (m, (n, (f, k))) = c.requires in omega (arith, base c m n f k, k.above)
+overflow_sub-from c = let base : (m : Memory) (n : ℕ) → let a = c.args in Found m n a.a a.parents.now a.codes.now → Reached m n a.node a.addr a.len
+    → a.a.address ≡ (allocation_at m n).address = λ m n f k. read-address f.trees.records k.made f.read in
+    let (m, (n, (f, k))) = c.requires in omega (arith, base m n f k, k.above)
 
 pub offset_bounds-parents-first : goal.offset_bounds-parents-first
-offset_bounds-parents-first c = omega (arith, nodes-small (given c), nodes-ordered (given c))
+offset_bounds-parents-first c = let lent : (m : Memory) (n : ℕ) → let a = c.args in Found m n a.a a.parents.now a.codes.now → Reached m n a.node a.addr a.len
+    → TreeAt m n a.parents.now a.codes.now c.parts_of-t.result = λ m n f k. let a = c.args in
+    subst (λ (r : Parts). TreeAt m n a.parents.now a.codes.now r) (sym c.parts_of-t.ensures) (tree-at f.trees (parts-read f.trees.records k.made f.read)) in
+    let given : TreeAt c.requires.0 c.requires.1.0 c.args.parents.now c.args.codes.now c.parts_of-t.result = let (m, (n, (f, k))) = c.requires in lent m n f k in
+    omega (arith, nodes-small (given), nodes-ordered (given))
 
 pub slice_bounds-access-count : goal.slice_bounds-access-count
-slice_bounds-access-count c = omega (arith, nodes-ordered (given c))
+slice_bounds-access-count c = let lent : (m : Memory) (n : ℕ) → let a = c.args in Found m n a.a a.parents.now a.codes.now → Reached m n a.node a.addr a.len
+    → TreeAt m n a.parents.now a.codes.now c.parts_of-t.result = λ m n f k. let a = c.args in
+    subst (λ (r : Parts). TreeAt m n a.parents.now a.codes.now r) (sym c.parts_of-t.ensures) (tree-at f.trees (parts-read f.trees.records k.made f.read)) in
+    let given : TreeAt c.requires.0 c.requires.1.0 c.args.parents.now c.args.codes.now c.parts_of-t.result = let (m, (n, (f, k))) = c.requires in lent m n f k in
+    omega (arith, nodes-ordered (given))
 
 pub slice_bounds-access-start : goal.slice_bounds-access-start
-slice_bounds-access-start c = nodes-ordered (given c)
+slice_bounds-access-start c = let lent : (m : Memory) (n : ℕ) → let a = c.args in Found m n a.a a.parents.now a.codes.now → Reached m n a.node a.addr a.len
+    → TreeAt m n a.parents.now a.codes.now c.parts_of-t.result = λ m n f k. let a = c.args in
+    subst (λ (r : Parts). TreeAt m n a.parents.now a.codes.now r) (sym c.parts_of-t.ensures) (tree-at f.trees (parts-read f.trees.records k.made f.read)) in
+    let given : TreeAt c.requires.0 c.requires.1.0 c.args.parents.now c.args.codes.now c.parts_of-t.result = let (m, (n, (f, k))) = c.requires in lent m n f k in
+    nodes-ordered (given)
 
 pub slice_bounds-access-end : goal.slice_bounds-access-end
-slice_bounds-access-end c = parents-in (given c)
+slice_bounds-access-end c = let lent : (m : Memory) (n : ℕ) → let a = c.args in Found m n a.a a.parents.now a.codes.now → Reached m n a.node a.addr a.len
+    → TreeAt m n a.parents.now a.codes.now c.parts_of-t.result = λ m n f k. let a = c.args in
+    subst (λ (r : Parts). TreeAt m n a.parents.now a.codes.now r) (sym c.parts_of-t.ensures) (tree-at f.trees (parts-read f.trees.records k.made f.read)) in
+    let given : TreeAt c.requires.0 c.requires.1.0 c.args.parents.now c.args.codes.now c.parts_of-t.result = let (m, (n, (f, k))) = c.requires in lent m n f k in
+    parents-in (given)
 
 pub slice_bounds-access-count-2 : goal.slice_bounds-access-count-2
-slice_bounds-access-count-2 c = omega (arith, codes-ordered (given c.before))
+slice_bounds-access-count-2 c = let lent : (m : Memory) (n : ℕ) → let a = c.args in Found m n a.a a.parents.now a.codes.now → Reached m n a.node a.addr a.len
+    → TreeAt m n a.parents.now a.codes.now c.parts_of-t.result = λ m n f k. let a = c.args in
+    subst (λ (r : Parts). TreeAt m n a.parents.now a.codes.now r) (sym c.parts_of-t.ensures) (tree-at f.trees (parts-read f.trees.records k.made f.read)) in
+    let given : TreeAt c.requires.0 c.requires.1.0 c.args.parents.now c.args.codes.now c.parts_of-t.result = let (m, (n, (f, k))) = c.requires in lent m n f k in
+    omega (arith, codes-ordered (given))
 
 pub slice_bounds-access-start-2 : goal.slice_bounds-access-start-2
-slice_bounds-access-start-2 c = codes-ordered (given c.before)
+slice_bounds-access-start-2 c = let lent : (m : Memory) (n : ℕ) → let a = c.args in Found m n a.a a.parents.now a.codes.now → Reached m n a.node a.addr a.len
+    → TreeAt m n a.parents.now a.codes.now c.parts_of-t.result = λ m n f k. let a = c.args in
+    subst (λ (r : Parts). TreeAt m n a.parents.now a.codes.now r) (sym c.parts_of-t.ensures) (tree-at f.trees (parts-read f.trees.records k.made f.read)) in
+    let given : TreeAt c.requires.0 c.requires.1.0 c.args.parents.now c.args.codes.now c.parts_of-t.result = let (m, (n, (f, k))) = c.requires in lent m n f k in
+    codes-ordered (given)
 
 pub slice_bounds-access-end-2 : goal.slice_bounds-access-end-2
-slice_bounds-access-end-2 c = codes-in (given c.before)
+slice_bounds-access-end-2 c = let lent : (m : Memory) (n : ℕ) → let a = c.args in Found m n a.a a.parents.now a.codes.now → Reached m n a.node a.addr a.len
+    → TreeAt m n a.parents.now a.codes.now c.parts_of-t.result = λ m n f k. let a = c.args in
+    subst (λ (r : Parts). TreeAt m n a.parents.now a.codes.now r) (sym c.parts_of-t.ensures) (tree-at f.trees (parts-read f.trees.records k.made f.read)) in
+    let given : TreeAt c.requires.0 c.requires.1.0 c.args.parents.now c.args.codes.now c.parts_of-t.result = let (m, (n, (f, k))) = c.requires in lent m n f k in
+    codes-in (given)
 
 pub access-requires : goal.access-requires
-access-requires c = let t = given c.before.before in
-    let (m, (n, (f, k))) = c.requires in
-    ((_, tree-held t), (node_in t k.in_tree, omega (arith, base c.before.before m n f k, t.part.width, k.above, k.within)))
+access-requires c = let lent : (m : Memory) (n : ℕ) → let a = c.args in Found m n a.a a.parents.now a.codes.now → Reached m n a.node a.addr a.len
+    → TreeAt m n a.parents.now a.codes.now c.parts_of-t.result = λ m n f k. let a = c.args in
+    subst (λ (r : Parts). TreeAt m n a.parents.now a.codes.now r) (sym c.parts_of-t.ensures) (tree-at f.trees (parts-read f.trees.records k.made f.read)) in
+    let given : TreeAt c.requires.0 c.requires.1.0 c.args.parents.now c.args.codes.now c.parts_of-t.result = let (m, (n, (f, k))) = c.requires in lent m n f k in
+    let base : (m : Memory) (n : ℕ) → let a = c.args in Found m n a.a a.parents.now a.codes.now → Reached m n a.node a.addr a.len
+    → a.a.address ≡ (allocation_at m n).address = λ m n f k. read-address f.trees.records k.made f.read in
+    let t = given in
+    let (m, (n, (f, k))) = c.requires in record { some = (_, tree-held t); node_in_bounds = (node_in t k.in_tree, omega (arith, base m n f k, t.part.width, k.above, k.within)) }
 
 pub returns : goal.returns
-returns c = λ m n f k.
+returns c = let lent : (m : Memory) (n : ℕ) → let a = c.args in Found m n a.a a.parents.now a.codes.now → Reached m n a.node a.addr a.len
+    → TreeAt m n a.parents.now a.codes.now c.parts_of-t.result = λ m n f k. let a = c.args in
+    subst (λ (r : Parts). TreeAt m n a.parents.now a.codes.now r) (sym c.parts_of-t.ensures) (tree-at f.trees (parts-read f.trees.records k.made f.read)) in
+    let base : (m : Memory) (n : ℕ) → let a = c.args in Found m n a.a a.parents.now a.codes.now → Reached m n a.node a.addr a.len
+    → a.a.address ≡ (allocation_at m n).address = λ m n f k. read-address f.trees.records k.made f.read in
+    λ m n f k.
     let a = c.args in
-    let t = lent c.before.before.before.before.before m n f k in
-    access-visited t (access_kind a.kind) a.node a.addr a.len (base c.before.before.before.before.before m n f k) _ (c.access.ensures _ (tree-held t))
+    let t = lent m n f k in
+    access-visited t (access_kind a.kind) a.node a.addr a.len (base m n f k) _ (c.access.ensures _ (tree-held t))

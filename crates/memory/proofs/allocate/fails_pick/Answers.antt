@@ -10,19 +10,6 @@ use Rattle.definition.proofs.ValidMemory.{some-address}
 use Rattle.pointer.specs.Width.{width_of}
 use Rattle.memory.proofs.Allocated.{pick-zero, pick-misaligned, pick-beyond, pick-overlap}
 use Rattle.memory.proofs.allocate.fails_pick.Goals as goal
-use Rattle.memory.proofs.allocate.fails_pick.Goals.{Else-is_misaligned, Else-is_too_high}
-
-abbrev width : Else-is_misaligned → Width
-width c = width_of c.args.width
-
-positive : (c : Else-is_misaligned) → c.args.address ≡ 0 → ⊥
-positive c = c.if-address-eq0.false
-
-aligned : (c : Else-is_misaligned) → let a = c.args in is_misaligned a.address a.exponent ≡ false
-aligned c = sym c.is_misaligned.ensures ∙ c.if-is_misaligned.false
-
-low : (c : Else-is_too_high) → c.args.address < addresses (width c.before.before)
-low c = leb-false (addresses (width c.before.before)) c.args.address (sym c.is_too_high.ensures ∙ c.if-is_too_high.false)
 
 pub returns-then-address-eq0 : goal.returns-then-address-eq0
 returns-then-address-eq0 c = λ m h. sym (pick-zero _ m _ _ _ c.if-address-eq0.true)
@@ -31,18 +18,30 @@ pub returns-then-is_misaligned : goal.returns-then-is_misaligned
 returns-then-is_misaligned c = λ m h. sym (pick-misaligned _ m _ _ _ c.if-address-eq0.false (sym c.is_misaligned.ensures ∙ c.if-is_misaligned.true))
 
 pub returns-then-is_too_high : goal.returns-then-is_too_high
-returns-then-is_too_high c = λ m h.
-    let high = leb-true (addresses (width c.before.before)) c.args.address (sym c.is_too_high.ensures ∙ c.if-is_too_high.true) in
-    sym (pick-beyond (width c.before.before) m _ _ _ (positive c.before.before) (aligned c.before.before) (omega (arith, high, some-address (width c.before.before))))
+returns-then-is_too_high c = let width : Width = width_of c.args.width in
+    let positive : c.args.address ≡ 0 → ⊥ = c.if-address-eq0.false in
+    let aligned : let a = c.args in is_misaligned a.address a.exponent ≡ false = sym c.is_misaligned.ensures ∙ c.if-is_misaligned.false in
+    λ m h.
+    let high = leb-true (addresses (width)) c.args.address (sym c.is_too_high.ensures ∙ c.if-is_too_high.true) in
+    sym (pick-beyond (width) m _ _ _ (positive) (aligned) (omega (arith, high, some-address (width))))
 
 pub overflow_sub-last_address : goal.overflow_sub-last_address
-overflow_sub-last_address c = omega (arith, c.last_address.ensures, low c.before)
+overflow_sub-last_address c = let width : Width = width_of c.args.width in
+    let low : c.args.address < addresses (width) = leb-false (addresses (width)) c.args.address (sym c.is_too_high.ensures ∙ c.if-is_too_high.false) in
+    omega (arith, c.last_address.ensures, low)
 
 pub returns-then-last_address-address : goal.returns-then-last_address-address
-returns-then-last_address-address c = λ m h.
-    sym (pick-beyond (width c.before.before.before.before) m _ _ _ (positive c.before.before.before.before) (aligned c.before.before.before.before) (omega (arith, c.last_address.ensures, c.if-last_address-address.true)))
+returns-then-last_address-address c = let width : Width = width_of c.args.width in
+    let positive : c.args.address ≡ 0 → ⊥ = c.if-address-eq0.false in
+    let aligned : let a = c.args in is_misaligned a.address a.exponent ≡ false = sym c.is_misaligned.ensures ∙ c.if-is_misaligned.false in
+    λ m h.
+    sym (pick-beyond (width) m _ _ _ (positive) (aligned) (omega (arith, c.last_address.ensures, c.if-last_address-address.true)))
 
 pub returns : goal.returns
-returns c = λ m h.
+returns c = let width : Width = width_of c.args.width in
+    let positive : c.args.address ≡ 0 → ⊥ = c.if-address-eq0.false in
+    let aligned : let a = c.args in is_misaligned a.address a.exponent ≡ false = sym c.is_misaligned.ensures ∙ c.if-is_misaligned.false in
+    let low : c.args.address < addresses (width) = leb-false (addresses (width)) c.args.address (sym c.is_too_high.ensures ∙ c.if-is_too_high.false) in
+    λ m h.
     c.overlaps_any.ensures m h
-    ∙ pick-overlap (width c.before.before.before.before.before) m _ _ _ (positive c.before.before.before.before.before) (aligned c.before.before.before.before.before) (omega (arith, low c.before.before.before, c.last_address.ensures, c.if-last_address-address.false))
+    ∙ pick-overlap (width) m _ _ _ (positive) (aligned) (omega (arith, low, c.last_address.ensures, c.if-last_address-address.false))

@@ -9,10 +9,10 @@ use Rattle.perform.proofs.Retagging.{not_entered, is-entered}
 use Rattle.perform.proofs.retags.enter_node.Goals as goal
 
 pub push_entry-requires : goal.push_entry-requires
-push_entry-requires c = let k = c.requires.can_enter.1 in let yes = ap (λ (x : Protected). is_yes (protector x)) c.in-Weak.is in ((c.requires.can_enter.0, (k.holds, k.room yes _ refl)), (c.requires.f_bound, k.small yes _ refl))
+push_entry-requires c = let k = c.requires.can_enter.1 in let yes = ap (λ (x : Protected). is_yes (protector x)) c.in-Weak.is in record { holds_frames = (c.requires.can_enter.0, (k.holds, k.room yes _ refl)); f_bound = (c.requires.f_bound, k.small yes _ refl) }
 
 pub push_entry-requires-in-Strong : goal.push_entry-requires-in-Strong
-push_entry-requires-in-Strong c = let k = c.requires.can_enter.1 in let yes = ap (λ (x : Protected). is_yes (protector x)) c.in-Strong.is in ((c.requires.can_enter.0, (k.holds, k.room yes _ refl)), (c.requires.f_bound, k.small yes _ refl))
+push_entry-requires-in-Strong c = let k = c.requires.can_enter.1 in let yes = ap (λ (x : Protected). is_yes (protector x)) c.in-Strong.is in record { holds_frames = (c.requires.can_enter.0, (k.holds, k.room yes _ refl)); f_bound = (c.requires.f_bound, k.small yes _ refl) }
 
 pub returns-in-No : goal.returns-in-No
 returns-in-No c = λ fs h. h.held ∙ ap frames_held (sym (not_entered (protector c.args.protected) c.args.f fs (ap (λ (x : Protected). is_yes (protector x)) c.in-No.is) (some (record { allocation = c.args.allocation; node = c.args.node }))))

@@ -19,7 +19,7 @@ pub reborrow-answer-requires : goal.reborrow-answer-requires
 reborrow-answer-requires c = record { holds_marked = (c.requires.holds_trees_and_frames.0.memory, trees-held c.requires.holds_trees_and_frames.1); len_in_bounds = c.requires.len_in_bounds }
 
 pub enter-requires : goal.enter-requires
-enter-requires c = let h = c.requires.holds_trees_and_frames.1 in let f = c.frame_number-f.result in let inside : f < 32 = omega (arith, c.frame_number-f.ensures) in ((c.requires.holds_trees_and_frames.0.frames, can-enter h c.settings-w.result (mask_of (take c.args.len c.args.mask.now)) f inside _ (c.reborrow-answer.ensures.retagged c.requires.holds_trees_and_frames.0 f (trees-held h) (c.entry_count-count.ensures c.requires.holds_trees_and_frames.0.frames (frames-held h)))), inside)
+enter-requires c = let h = c.requires.holds_trees_and_frames.1 in let f = c.frame_number-f.result in let inside : f < 32 = omega (arith, c.frame_number-f.ensures) in record { can_enter = (c.requires.holds_trees_and_frames.0.frames, can-enter h c.settings-w.result (mask_of (take c.args.len c.args.mask.now)) f inside _ (c.reborrow-answer.ensures.retagged c.requires.holds_trees_and_frames.0 f (trees-held h) (c.entry_count-count.ensures c.requires.holds_trees_and_frames.0.frames (frames-held h)))); f_bound = inside }
 
 pub returns : goal.returns
 returns c = λ s ws h. let f = c.frame_number-f.result in let inside : f < 32 = omega (arith, c.frame_number-f.ensures) in

@@ -18,8 +18,7 @@ blank-length : length blank ≡ 4096
 blank-length = length-replicate {A = ℕ} 4096 0
 
 pub reborrow_entered-requires : goal.reborrow_entered-requires
-reborrow_entered-requires c = let has = answers_of c.args.following.now blank blank-length c.in-Of.len (sym c.in-Of.is ∙ c.freeze_mask-made.ensures.0) in
-    ((c.requires.0, c.requires.1), omega (arith, has.bound, c.freeze_mask-made.auto.mask, blank-length))
+reborrow_entered-requires c = let has = answers_of c.args.following.now blank blank-length c.in-Of.len (sym c.in-Of.is ∙ c.freeze_mask-made.ensures.0) in record { holds_trees_and_frames = (c.requires.0, c.requires.1); len_in_bounds = omega (arith, has.bound, c.freeze_mask-made.auto.mask, blank-length) }
 
 pub returns-in-Of : goal.returns-in-Of
 returns-in-Of c = let a = c.args in

@@ -7,17 +7,13 @@ use Rattle.definition.specs.Memory.{Memory}
 use Rattle.definition.specs.Output.{allocation_lines}
 use Rattle.tables.proofs.Lookup.{record-in, same_count}
 use Rattle.tables.proofs.ReadBack.{holds-records}
-use Rattle.tables.specs.Held.{buffers, StartsAt, Holds}
+use Rattle.tables.specs.Held.{buffers, StartsAt}
 use Rattle.report.proofs.Held.{words-within, words_small, parents-within, protectors-within, codes-within, found-nodes, found-size, found-allocation}
 use Rattle.report.proofs.Writes.{room_as, written_as}
 use Rattle.report.proofs.allocations.allocation_lines.Goals as goal
-use Rattle.report.proofs.allocations.allocation_lines.Goals.{After-starts_at-end, Start}
+use Rattle.report.proofs.allocations.allocation_lines.Goals.{After-starts_at-end}
 
--- where the allocation's parts start and end, in every memory that the buffers hold
-abbrev Held : Start → Memory → Type 0
-Held s m = let a = s.args in Holds m (buffers a.allocs.now a.parents.now a.protectors.now a.words.now a.codes.now)
-
-module _ (c : After-starts_at-end) {m : Memory} (h : Held c.before.before.before.before.before.before.before.before.before m) where
+module _ (c : After-starts_at-end) {m : Memory} (h : Held m) where
   is_made : c.args.a < length m
   is_made =
       let fit = c.requires.1 in
@@ -31,7 +27,7 @@ module _ (c : After-starts_at-end) {m : Memory} (h : Held c.before.before.before
 
 -- they lie within the buffers
 module _ (c : After-starts_at-end) where
-  holds : Held c.before.before.before.before.before.before.before.before.before c.requires.0
+  holds : Held c.requires.0
   holds = c.requires.1.holds
 
   words-in : let end = c.starts_at-end.result.words in (c.starts_at-start.result.words ≤ end) × (end ≤ length c.args.words.now)
@@ -102,13 +98,7 @@ slice_bounds-put_allocation-end-4 c = omega (arith, codes-in c.before.before.bef
 
 pub put_allocation-requires : goal.put_allocation-requires
 put_allocation-requires c = let h = c.requires.1.holds in
-    let read = c.allocation_at-x.ensures in (
-      found-size h _ (is_made c.before.before.before.before.before h) (starts c.before.before.before.before.before h) (ends c.before.before.before.before.before h) read,
-      (
-        found-nodes h _ (is_made c.before.before.before.before.before h) (starts c.before.before.before.before.before h) (ends c.before.before.before.before.before h),
-        room_as (ap (allocation_lines c.args.a) (sym (found-allocation h _ (is_made c.before.before.before.before.before h) (starts c.before.before.before.before.before h) (ends c.before.before.before.before.before h) read))) c.requires.1.room,
-      ),
-    )
+    let read = c.allocation_at-x.ensures in record { words_len = found-size h _ (is_made c.before.before.before.before.before h) (starts c.before.before.before.before.before h) (ends c.before.before.before.before.before h) read; nodes = found-nodes h _ (is_made c.before.before.before.before.before h) (starts c.before.before.before.before.before h) (ends c.before.before.before.before.before h); room = room_as (ap (allocation_lines c.args.a) (sym (found-allocation h _ (is_made c.before.before.before.before.before h) (starts c.before.before.before.before.before h) (ends c.before.before.before.before.before h) read))) c.requires.1.room }
 
 pub returns : goal.returns
 returns c = λ m h.

@@ -9,14 +9,9 @@ use Rattle.tables.specs.Decoding.{allocation_kind}
 use Rattle.report.proofs.Names.{stack-rest}
 use Rattle.report.proofs.Writes.{room_as, written_as}
 use Rattle.report.proofs.allocations.put_kind.Goals as goal
-use Rattle.report.proofs.allocations.put_kind.Goals.{In_default}
 
 abbrev text : AllocationKind → Text
 text k = ascii " " ++ kind_name k
-
--- behind the other arms
-is-stack : (c : In_default) → allocation_kind c.args.kind ≡ Stack
-is-stack c = let none = c.in_default.in_default-own.rest in stack-rest _ none.0.0.0.1 none.0.0.1 none.0.1 none.1
 
 pub put_bytes-requires : goal.put_bytes-requires
 unfolding kind_name
@@ -36,7 +31,8 @@ put_bytes-requires-in-4 c = room_as (ap (λ (n : ℕ). text (allocation_kind n))
 
 pub put_bytes-requires-in_default : goal.put_bytes-requires-in_default
 unfolding kind_name
-put_bytes-requires-in_default c = room_as (ap text (is-stack c.before.before.before)) c.requires
+put_bytes-requires-in_default c = let is-stack : allocation_kind c.args.kind ≡ Stack = let none = c.in_default.in_default-own.rest in stack-rest _ none.0.0.0.1 none.0.0.1 none.0.1 none.1 in
+    room_as (ap text (is-stack)) c.requires
 
 pub returns-in-1 : goal.returns-in-1
 unfolding kind_name
@@ -56,4 +52,5 @@ returns-in-4 c = written_as (ap (λ (n : ℕ). text (allocation_kind n)) (sym c.
 
 pub returns-in_default : goal.returns-in_default
 unfolding kind_name
-returns-in_default c = written_as (ap text (sym (is-stack c.before.before.before.before.before.before))) c.put_bytes-in_default.ensures
+returns-in_default c = let is-stack : allocation_kind c.args.kind ≡ Stack = let none = c.in_default.in_default-own.rest in stack-rest _ none.0.0.0.1 none.0.0.1 none.0.1 none.1 in
+    written_as (ap text (sym (is-stack))) c.put_bytes-in_default.ensures

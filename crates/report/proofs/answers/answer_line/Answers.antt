@@ -8,23 +8,18 @@ use Rattle.answer.specs.Answer.{answer_of}
 use Rattle.report.proofs.Numbers.{decimal-length}
 use Rattle.report.proofs.Writes.{both-inside, written_as}
 use Rattle.report.proofs.answers.answer_line.Goals as goal
-use Rattle.report.proofs.answers.answer_line.Goals.{After-put_decimal-p, After-put_number-q}
-
--- where each number ends
-index-end : (c : After-put_decimal-p) → c.put_decimal-p.result ≤ c.args.at + 20
-index-end c = omega (arith, decimal-length c.args.index (omega arith), c.put_decimal-p.ensures.place)
-
-refusal-end : (c : After-put_number-q) → c.put_number-q.result ≤ (entry (indexed c)).args.at + 41
-refusal-end c = omega (arith, decimal-length (refused (indexed c)).refusal.result (omega arith), index-end c.before.before.before.before, c.put_number-q.ensures.place)
 
 pub put_decimal-p-requires : goal.put_decimal-p-requires
 put_decimal-p-requires c = record { fits = omega (arith, decimal-length c.args.index (omega arith), c.requires) }
 
 pub put_number-q-requires : goal.put_number-q-requires
-put_number-q-requires c = record { fits = omega (arith, decimal-length c.refusal-refusal.result (omega arith), index-end c.before.before.before, c.put_decimal-p.auto.out, c.requires) }
+put_number-q-requires c = let index-end : c.put_decimal-p.result ≤ c.args.at + 20 = omega (arith, decimal-length c.args.index (omega arith), c.put_decimal-p.ensures.place) in
+    record { fits = omega (arith, decimal-length c.refusal-refusal.result (omega arith), index-end, c.put_decimal-p.auto.out, c.requires) }
 
 pub put_given-requires : goal.put_given-requires
-put_given-requires c = omega (arith, refusal-end c.before.before.before, c.put_number-q.auto.out, c.put_decimal-p.auto.out, (entry (indexed c.before.before.before)).requires)
+put_given-requires c = let index-end : c.put_decimal-p.result ≤ c.args.at + 20 = omega (arith, decimal-length c.args.index (omega arith), c.put_decimal-p.ensures.place) in
+    let refusal-end : c.put_number-q.result ≤ (entry (indexed c.before.before.before)).args.at + 41 = omega (arith, decimal-length (refused (indexed c.before.before.before)).refusal.result (omega arith), index-end, c.put_number-q.ensures.place) in
+    omega (arith, refusal-end, c.put_number-q.auto.out, c.put_decimal-p.auto.out, (entry (indexed c.before.before.before)).requires)
 
 pub returns : goal.returns
 unfolding answer_line ended

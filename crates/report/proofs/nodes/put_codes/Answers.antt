@@ -10,52 +10,46 @@ use Rattle.definition.proofs.Places.{all-at}
 use Rattle.report.proofs.Rows.{codes-none, codes-some, codes-next, codes-end}
 use Rattle.report.proofs.Writes.{Left, all_left, left_as, less-left, none_left, last_written, room_next, room_as, byte-room, byte-as, written_as}
 use Rattle.report.proofs.nodes.put_codes.Goals as goal
-use Rattle.report.proofs.nodes.put_codes.Goals.{After-put_byte-p, At-loop-i, Else-row-eq0, In-loop-i, Then-row-eq0}
-
-abbrev row : At-loop-i → List ℕ
-row c = (entry (space c)).args.row.now
-
--- there are no codes
-none : (c : Then-row-eq0) → ascii " -" ≡ ascii " " ++ codes (map permission c.args.row.now)
-none c = codes-none c.args.row.now c.if-row-eq0.true
-
--- there are, and each has a digit
-some : (c : Else-row-eq0) → Left c.args.out.now c.args.at (ascii " " ++ codes (map permission c.args.row.now)) c.args.out.now c.args.at (ascii " " ++ map digit c.args.row.now)
-some c =
-    left_as (ap (λ (t : Text). ascii " " ++ t) (codes-some c.args.row.now c.requires.all c.if-row-eq0.false)) (all_left c.requires.room)
-
-digits : (c : After-put_byte-p) → Left c.args.out.now c.args.at (ascii " " ++ codes (map permission c.args.row.now)) c.put_byte-p.new.out c.put_byte-p.result (map digit c.args.row.now)
-digits c = less-left (ascii " ") _ (some c.before.before) c.put_byte-p.ensures
-
--- in a turn: the next digit, and those behind it
-next : (c : In-loop-i) → let put = c.put_byte-p in let l = c.loop-i in
-    Left put.last.0 put.result (map digit (row c.before)) l.out l.p ((digit (get_or (row c.before) l.i 0) ∷ []) ++ map digit (drop (l.i + 1) (row c.before)))
-next c = let l = c.loop-i in left_as (codes-next (row c.before) l.i c.loop-i-test.true) l.invariant.1
 
 pub put_bytes-requires : goal.put_bytes-requires
-put_bytes-requires c = room_as (sym (none c.before.before.before)) c.requires.room
+put_bytes-requires c = let none : ascii " -" ≡ ascii " " ++ codes (map permission c.args.row.now) = codes-none c.args.row.now c.if-row-eq0.true in
+    room_as (sym (none)) c.requires.room
 
 pub returns-then-row-eq0 : goal.returns-then-row-eq0
-returns-then-row-eq0 c = written_as (none c.before.before.before.before.before.before) c.put_bytes.ensures
+returns-then-row-eq0 c = let none : ascii " -" ≡ ascii " " ++ codes (map permission c.args.row.now) = codes-none c.args.row.now c.if-row-eq0.true in
+    written_as (none) c.put_bytes.ensures
 
 pub put_byte-p-requires : goal.put_byte-p-requires
-put_byte-p-requires c = room_next (ascii " ") _ (some c.before)
+put_byte-p-requires c = let some : Left c.args.out.now c.args.at (ascii " " ++ codes (map permission c.args.row.now)) c.args.out.now c.args.at (ascii " " ++ map digit c.args.row.now) = left_as (ap (λ (t : Text). ascii " " ++ t) (codes-some c.args.row.now c.requires.all c.if-row-eq0.false)) (all_left c.requires.room) in
+    room_next (ascii " ") _ (some)
 
 pub loop-i-init : goal.loop-i-init
-loop-i-init c = (omega arith, all_left (digits c.before.before).room)
+loop-i-init c = let some : Left c.args.out.now c.args.at (ascii " " ++ codes (map permission c.args.row.now)) c.args.out.now c.args.at (ascii " " ++ map digit c.args.row.now) = left_as (ap (λ (t : Text). ascii " " ++ t) (codes-some c.args.row.now c.requires.all c.if-row-eq0.false)) (all_left c.requires.room) in
+    let digits : Left c.args.out.now c.args.at (ascii " " ++ codes (map permission c.args.row.now)) c.put_byte-p.new.out c.put_byte-p.result (map digit c.args.row.now) = less-left (ascii " ") _ (some) c.put_byte-p.ensures in
+    (omega arith, all_left (digits).room)
 
 pub digit_of-requires : goal.digit_of-requires
-digit_of-requires c = omega (arith, all-at (λ (n : ℕ). n < 15) (row c.before.before.before) c.loop-i.i 0 (entry (space c.before.before.before)).pre.0 c.loop-i-test.true)
+digit_of-requires c = let row : List ℕ = (entry (space c.before.before.before)).args.row.now in
+    omega (arith, all-at (λ (n : ℕ). n < 15) (row) c.loop-i.i 0 (entry (space c.before.before.before)).pre.0 c.loop-i-test.true)
 
 pub put_byte-p-requires-in-loop-i : goal.put_byte-p-requires-in-loop-i
-put_byte-p-requires-in-loop-i c = byte-room (room_next _ _ (next c.before.before.before))
+put_byte-p-requires-in-loop-i c = let row : List ℕ = (entry (space c.before.before.before.before)).args.row.now in
+    let next : let put = c.put_byte-p in let l = c.loop-i in
+    Left put.last.0 put.result (map digit (row)) l.out l.p ((digit (get_or (row) l.i 0) ∷ []) ++ map digit (drop (l.i + 1) (row))) = let l = c.loop-i in left_as (codes-next (row) l.i c.loop-i-test.true) l.invariant.1 in
+    byte-room (room_next _ _ (next))
 
 pub loop-i-preserved : goal.loop-i-preserved
-loop-i-preserved c = (omega arith, less-left _ _ (next c.before.before.before.before.before.before) (byte-as c.digit_of.ensures c.put_byte-p-in-loop-i.ensures))
+loop-i-preserved c = let row : List ℕ = (entry (space c.before.before.before.before.before.before.before)).args.row.now in
+    let next : let put = c.put_byte-p in let l = c.loop-i in
+    Left put.last.0 put.result (map digit (row)) l.out l.p ((digit (get_or (row) l.i 0) ∷ []) ++ map digit (drop (l.i + 1) (row))) = let l = c.loop-i in left_as (codes-next (row) l.i c.loop-i-test.true) l.invariant.1 in
+    (omega arith, less-left _ _ (next) (byte-as c.digit_of.ensures c.put_byte-p-in-loop-i.ensures))
 
 pub shape_of-out : goal.shape_of-out
 shape_of-out c = c.loop-i.invariant.1.kept ∙ c.put_byte-p.kept.0
 
 pub returns : goal.returns
-returns c = let l = c.loop-i in
-    last_written (digits c.before.before.before.before) (none_left (left_as (codes-end (row c.before) l.i (omega arith)) l.invariant.1))
+returns c = let row : List ℕ = (entry (space c.before)).args.row.now in
+    let some : Left c.args.out.now c.args.at (ascii " " ++ codes (map permission c.args.row.now)) c.args.out.now c.args.at (ascii " " ++ map digit c.args.row.now) = left_as (ap (λ (t : Text). ascii " " ++ t) (codes-some c.args.row.now c.requires.all c.if-row-eq0.false)) (all_left c.requires.room) in
+    let digits : Left c.args.out.now c.args.at (ascii " " ++ codes (map permission c.args.row.now)) c.put_byte-p.new.out c.put_byte-p.result (map digit c.args.row.now) = less-left (ascii " ") _ (some) c.put_byte-p.ensures in
+    let l = c.loop-i in
+    last_written (digits) (none_left (left_as (codes-end (row) l.i (omega arith)) l.invariant.1))

@@ -9,14 +9,9 @@ use Rattle.tables.specs.Decoding.{protector}
 use Rattle.report.proofs.Names.{no-rest}
 use Rattle.report.proofs.Writes.{room_as, written_as}
 use Rattle.report.proofs.nodes.put_protector.Goals as goal
-use Rattle.report.proofs.nodes.put_protector.Goals.{In_default}
 
 abbrev text : Protected → Text
 text p = ascii " " ++ protector_name p
-
--- behind the other arms
-is-no : (c : In_default) → protector c.args.mark ≡ No
-is-no c = let none = c.in_default.in_default-own.rest in no-rest _ none.0.1 none.1
 
 pub put_bytes-requires : goal.put_bytes-requires
 unfolding protector_name
@@ -28,7 +23,8 @@ put_bytes-requires-in-2 c = room_as (ap (λ (n : ℕ). text (protector n)) c.in-
 
 pub put_bytes-requires-in_default : goal.put_bytes-requires-in_default
 unfolding protector_name
-put_bytes-requires-in_default c = room_as (ap text (is-no c.before.before.before)) c.requires
+put_bytes-requires-in_default c = let is-no : protector c.args.mark ≡ No = let none = c.in_default.in_default-own.rest in no-rest _ none.0.1 none.1 in
+    room_as (ap text (is-no)) c.requires
 
 pub returns-in-1 : goal.returns-in-1
 unfolding protector_name
@@ -40,4 +36,5 @@ returns-in-2 c = written_as (ap (λ (n : ℕ). text (protector n)) (sym c.in-2.i
 
 pub returns-in_default : goal.returns-in_default
 unfolding protector_name
-returns-in_default c = written_as (ap text (sym (is-no c.before.before.before.before.before.before))) c.put_bytes-in_default.ensures
+returns-in_default c = let is-no : protector c.args.mark ≡ No = let none = c.in_default.in_default-own.rest in no-rest _ none.0.1 none.1 in
+    written_as (ap text (sym (is-no))) c.put_bytes-in_default.ensures

@@ -8,24 +8,24 @@ use Rattle.tree.specs.Table.{Holds}
 use Rattle.tree.specs.Requests.{Checked}
 use Rattle.tree.proofs.Visits.{visit-accepted, visit-refused}
 use Rattle.tree.proofs.accesses.access.Goals as goal
-use Rattle.tree.proofs.accesses.access.Goals.{After-check_access}
-
--- what the check tells by its answer
-told : (c : After-check_access) {answer : Answer} → c.check_access.result ≡ answer → (nodes : List Node) → let a = c.args in Holds nodes a.width a.parents.now a.codes.now
-    → Checked (access_visit (access_kind a.kind) a.node a.from a.len) nodes answer
-told c e nodes holds = let a = c.args in subst (Checked (access_visit (access_kind a.kind) a.node a.from a.len) nodes) e (c.check_access.ensures nodes holds)
 
 pub returns-in-Stays : goal.returns-in-Stays
-returns-in-Stays c = λ nodes holds.
-    let t = told c.before c.in-Stays.is nodes holds in
+returns-in-Stays c = let told : (answer : Answer) → c.check_access.result ≡ answer → (nodes : List Node) → let a = c.args in Holds nodes a.width a.parents.now a.codes.now
+    → Checked (access_visit (access_kind a.kind) a.node a.from a.len) nodes answer = λ answer e nodes holds. let a = c.args in subst (Checked (access_visit (access_kind a.kind) a.node a.from a.len) nodes) e (c.check_access.ensures nodes holds) in
+    λ nodes holds.
+    let t = told _ c.in-Stays.is nodes holds in
     visit-accepted _ nodes 0 _ (sym t.0) refl (holds.table.rows ∙ t.1)
 
 pub returns-in-Changes : goal.returns-in-Changes
-returns-in-Changes c = λ nodes holds.
-    let t = told c.before.before.before.before.before c.in-Changes.is nodes holds in
+returns-in-Changes c = let told : (answer : Answer) → c.check_access.result ≡ answer → (nodes : List Node) → let a = c.args in Holds nodes a.width a.parents.now a.codes.now
+    → Checked (access_visit (access_kind a.kind) a.node a.from a.len) nodes answer = λ answer e nodes holds. let a = c.args in subst (Checked (access_visit (access_kind a.kind) a.node a.from a.len) nodes) e (c.check_access.ensures nodes holds) in
+    λ nodes holds.
+    let t = told _ c.in-Changes.is nodes holds in
     visit-accepted _ nodes 0 _ (sym t) refl (c.apply_access.ensures nodes holds)
 
 pub returns-in-Refused : goal.returns-in-Refused
-returns-in-Refused c = λ nodes holds.
-    let t = told c.before c.in-Refused.is nodes holds in
+returns-in-Refused c = let told : (answer : Answer) → c.check_access.result ≡ answer → (nodes : List Node) → let a = c.args in Holds nodes a.width a.parents.now a.codes.now
+    → Checked (access_visit (access_kind a.kind) a.node a.from a.len) nodes answer = λ answer e nodes holds. let a = c.args in subst (Checked (access_visit (access_kind a.kind) a.node a.from a.len) nodes) e (c.check_access.ensures nodes holds) in
+    λ nodes holds.
+    let t = told _ c.in-Refused.is nodes holds in
     visit-refused _ nodes c.in-Refused.n _ t.0 t.1 holds.table.rows

@@ -14,11 +14,6 @@ use Rattle.definition.proofs.Visits.{visited-length}
 use Rattle.tree.proofs.Held.{node-fits, held-count, marks-count}
 use Rattle.tree.proofs.Strong.{strong-prevents, other-prevents-not}
 use Rattle.tree.proofs.deallocation.strong_protector_in.Goals as goal
-use Rattle.tree.proofs.deallocation.strong_protector_in.Goals.{Then-protectors-n-eq2}
-
--- the node's row ends within the table
-ends : (c : Then-protectors-n-eq2) → let a = (entry (turn c)).args in c.loop-n.n * a.width + a.width ≤ length a.codes.now
-ends c = let s = entry (turn c) in node-fits s.pre.0.1.holds c.loop-n.n (omega arith)
 
 pub loop-n-init : goal.loop-n-init
 loop-n-init c = (omega arith, λ node marks nodes held k h. absurd (omega arith))
@@ -27,13 +22,16 @@ pub bounds-protectors-n : goal.bounds-protectors-n
 bounds-protectors-n c = omega (arith, held-count c.requires.some.1.holds, marks-count c.requires.some.0 c.args.protectors.now c.requires.some.1.marked)
 
 pub overflow_mul-start : goal.overflow_mul-start
-overflow_mul-start c = omega (arith, ends c)
+overflow_mul-start c = let ends : let a = (entry (turn c)).args in c.loop-n.n * a.width + a.width ≤ length a.codes.now = let s = entry (turn c) in node-fits s.pre.0.1.holds c.loop-n.n (omega arith) in
+    omega (arith, ends)
 
 pub overflow_add-end : goal.overflow_add-end
-overflow_add-end c = omega (arith, ends c)
+overflow_add-end c = let ends : let a = (entry (turn c)).args in c.loop-n.n * a.width + a.width ≤ length a.codes.now = let s = entry (turn c) in node-fits s.pre.0.1.holds c.loop-n.n (omega arith) in
+    omega (arith, ends)
 
 pub slice_bounds-row_prevents_after_write-end : goal.slice_bounds-row_prevents_after_write-end
-slice_bounds-row_prevents_after_write-end c = ends c
+slice_bounds-row_prevents_after_write-end c = let ends : let a = (entry (turn c)).args in c.loop-n.n * a.width + a.width ≤ length a.codes.now = let s = entry (turn c) in node-fits s.pre.0.1.holds c.loop-n.n (omega arith) in
+    ends
 
 pub returns-then-row_prevents_after_write : goal.returns-then-row_prevents_after_write
 returns-then-row_prevents_after_write c = let width = c.args.width in

@@ -10,11 +10,8 @@ pub slice_bounds-make_plan-end-2 : goal.slice_bounds-make_plan-end-2
 slice_bounds-make_plan-end-2 c = sym (length-take-le (4 * length c.args.parents.now) c.args.scratch.now c.requires.zeros.1)
 
 pub make_plan-requires : goal.make_plan-requires
-make_plan-requires c = let tree = c.requires.some.0.1.holds in
-    let size = 4 * length c.args.parents.now in (
-      (tree.earlier, c.requires.some.1),
-      (record { size = length-take-le size c.args.scratch.now c.requires.zeros.1; few = tree.few }, zeros-taken c.args.scratch.now size c.requires.zeros.0),
-    )
+make_plan-requires c = let tree = c.requires.some.1.holds in
+    let size = 4 * length c.args.parents.now in record { parents = (tree.earlier, c.requires.node_in_bounds); roomy = (record { size = length-take-le size c.args.scratch.now c.requires.zeros.1; few = tree.few }, zeros-taken c.args.scratch.now size c.requires.zeros.0) }
 
 pub slice_bounds-strong_protector_in-end-2 : goal.slice_bounds-strong_protector_in-end-2
 slice_bounds-strong_protector_in-end-2 c = let call = c.make_plan in
@@ -25,8 +22,7 @@ slice_bounds-strong_protector_in-end-2 c = let call = c.make_plan in
 pub strong_protector_in-requires : goal.strong_protector_in-requires
 strong_protector_in-requires c = let call = c.make_plan in
     let size = 4 * length c.args.parents.now in
-    let long = call.auto.1.0 ∙ length-take-le size c.args.scratch.now c.requires.zeros.1 in
-    (c.requires.some.0, (planned-lent _ c.args.parents.now call.new.1.0 (drop size c.args.scratch.now) size long call.ensures).room)
+    let long = call.auto.1.0 ∙ length-take-le size c.args.scratch.now c.requires.zeros.1 in record { some = c.requires.some; roomy = (planned-lent _ c.args.parents.now call.new.1.0 (drop size c.args.scratch.now) size long call.ensures).room }
 
 pub returns : goal.returns
 returns c = let call = c.make_plan in

@@ -15,28 +15,17 @@ use Rattle.tree.proofs.Held.{node-fits}
 use Rattle.tree.proofs.Visits.{held-ready}
 use Rattle.tree.proofs.Ends.{end-told, end-ready, end_after, end_stays, end_refused, end-accepted}
 use Rattle.tree.proofs.protector.end_protector.Goals as goal
-use Rattle.tree.proofs.protector.end_protector.Goals.{After-check_lent}
-
--- the node's row ends within the table
-ends : (c : After-check_lent) → let a = (entry (settled-before-check c)).args in a.node * a.width + a.width ≤ length a.codes.now
-ends c = let s = entry (settled-before-check c) in node-fits s.pre.0.1 s.args.node s.pre.1.0
-
--- what the check tells by its answer
-told : (c : After-check_lent) {answer : Answer} → c.check_lent.result ≡ answer → (nodes : List Node) → let a = (entry (settled-before-check c)).args in Holds nodes a.width a.parents.now a.codes.now
-    → Told (release_visit_refusal Live a.node nodes) (rows_of nodes) (rows_of (visited (release_visit a.node nodes) nodes)) answer
-told c e nodes held =
-    let a = c.args in
-    subst (Told (release_visit_refusal Live a.node nodes) (rows_of nodes) (rows_of (visited (release_visit a.node nodes) nodes))) e
-    (end-told nodes a.width a.parents.now a.codes.now a.lent.now held a.node c.requires.node_in_bounds.0 c.requires.node_in_bounds.1 c.requires.node_in_bounds.2 c.settled-v.result c.settled-v.ensures c.check_lent.result c.check_lent.ensures)
 
 pub check_lent-requires : goal.check_lent-requires
 check_lent-requires c = (same-ready _ _ _ _ _ c.settled-v.ensures (held-ready _ c.requires.some.0 _ _ c.requires.some.1 c.requires.node_in_bounds.0 (omega arith)), omega (arith, same-spared _ _ _ c.settled-v.ensures, c.requires.node_in_bounds.1))
 
 pub unprotect_node-requires : goal.unprotect_node-requires
-unprotect_node-requires c = ends c.before.before
+unprotect_node-requires c = let ends : let a = (entry (settled-before-check c.before.before)).args in a.node * a.width + a.width ≤ length a.codes.now = let s = entry (settled-before-check c.before.before) in node-fits s.pre.0.1 s.args.node s.pre.1.0 in
+    ends
 
 pub unprotect_node-requires-in-Changes : goal.unprotect_node-requires-in-Changes
-unprotect_node-requires-in-Changes c = ends c.before.before
+unprotect_node-requires-in-Changes c = let ends : let a = (entry (settled-before-check c.before.before)).args in a.node * a.width + a.width ≤ length a.codes.now = let s = entry (settled-before-check c.before.before) in node-fits s.pre.0.1 s.args.node s.pre.1.0 in
+    ends
 
 pub apply-requires : goal.apply-requires
 apply-requires c = let v = settled-before-check (check-before-unprotect-node2 c.before.before.before) in
@@ -47,20 +36,32 @@ apply-requires c = let v = settled-before-check (check-before-unprotect-node2 c.
     )
 
 pub returns-in-Stays : goal.returns-in-Stays
-returns-in-Stays c = λ nodes held.
+returns-in-Stays c = let told : (answer : Answer) → c.check_lent.result ≡ answer → (nodes : List Node) → let a = (entry (settled-before-check c.before.before.before.before.before)).args in Holds nodes a.width a.parents.now a.codes.now
+    → Told (release_visit_refusal Live a.node nodes) (rows_of nodes) (rows_of (visited (release_visit a.node nodes) nodes)) answer = λ answer e nodes held. let a = c.args in
+    subst (Told (release_visit_refusal Live a.node nodes) (rows_of nodes) (rows_of (visited (release_visit a.node nodes) nodes))) e
+    (end-told nodes a.width a.parents.now a.codes.now a.lent.now held a.node c.requires.node_in_bounds.0 c.requires.node_in_bounds.1 c.requires.node_in_bounds.2 c.settled-v.result c.settled-v.ensures c.check_lent.result c.check_lent.ensures) in
+    λ nodes held.
     let a = c.args in
-    let t = told c.before.before.before.before.before c.in-Stays.is nodes held in
+    let t = told _ c.in-Stays.is nodes held in
     end-accepted nodes a.node 0 _ (sym t.0) refl
     (end_stays nodes a.width a.parents.now a.codes.now a.lent.now held a.node c.requires.node_in_bounds.0 c.requires.node_in_bounds.1 c.requires.node_in_bounds.2 c.settled-v.result c.settled-v.ensures _ c.unprotect_node.ensures t.1)
 
 pub returns-in-Changes : goal.returns-in-Changes
-returns-in-Changes c = λ nodes held.
+returns-in-Changes c = let told : (answer : Answer) → c.check_lent.result ≡ answer → (nodes : List Node) → let a = (entry (settled-before-check c.before.before.before.before.before.before.before.before.before)).args in Holds nodes a.width a.parents.now a.codes.now
+    → Told (release_visit_refusal Live a.node nodes) (rows_of nodes) (rows_of (visited (release_visit a.node nodes) nodes)) answer = λ answer e nodes held. let a = c.args in
+    subst (Told (release_visit_refusal Live a.node nodes) (rows_of nodes) (rows_of (visited (release_visit a.node nodes) nodes))) e
+    (end-told nodes a.width a.parents.now a.codes.now a.lent.now held a.node c.requires.node_in_bounds.0 c.requires.node_in_bounds.1 c.requires.node_in_bounds.2 c.settled-v.result c.settled-v.ensures c.check_lent.result c.check_lent.ensures) in
+    λ nodes held.
     let a = c.args in
-    end-accepted nodes a.node 0 _ (sym (told c.before.before.before.before.before.before.before.before.before c.in-Changes.is nodes held)) refl
+    end-accepted nodes a.node 0 _ (sym (told _ c.in-Changes.is nodes held)) refl
     (c.apply.ensures
     ∙ end_after nodes a.width a.parents.now a.codes.now a.lent.now held a.node c.requires.node_in_bounds.0 c.requires.node_in_bounds.1 c.requires.node_in_bounds.2 c.settled-v.result c.settled-v.ensures _ c.unprotect_node-in-Changes.ensures)
 
 pub returns-in-Refused : goal.returns-in-Refused
-returns-in-Refused c = λ nodes held.
-    let t = told c.before c.in-Refused.is nodes held in
+returns-in-Refused c = let told : (answer : Answer) → c.check_lent.result ≡ answer → (nodes : List Node) → let a = (entry (settled-before-check c.before)).args in Holds nodes a.width a.parents.now a.codes.now
+    → Told (release_visit_refusal Live a.node nodes) (rows_of nodes) (rows_of (visited (release_visit a.node nodes) nodes)) answer = λ answer e nodes held. let a = c.args in
+    subst (Told (release_visit_refusal Live a.node nodes) (rows_of nodes) (rows_of (visited (release_visit a.node nodes) nodes))) e
+    (end-told nodes a.width a.parents.now a.codes.now a.lent.now held a.node c.requires.node_in_bounds.0 c.requires.node_in_bounds.1 c.requires.node_in_bounds.2 c.settled-v.result c.settled-v.ensures c.check_lent.result c.check_lent.ensures) in
+    λ nodes held.
+    let t = told _ c.in-Refused.is nodes held in
     end_refused nodes (entry (settled-before-check c.before)).args.node c.in-Refused.n _ t.0 t.1 held.table.rows

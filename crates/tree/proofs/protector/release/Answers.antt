@@ -16,69 +16,64 @@ use Rattle.tree.proofs.Releases.{root-lacks, released-marks, release-16, release
 use Rattle.tree.proofs.Ends.{ended-refused, ended-accepted}
 use native.Mathlib.Omega.{arith}
 use Rattle.tree.proofs.protector.release.Goals as goal
-use Rattle.tree.proofs.protector.release.Goals.{After-tell_accesses, Else-lacks_protector, Start}
-
--- the node is one of the table: its row ends within it, and it has a mark
-ends : (s : Start) → s.args.node * s.args.width + s.args.width ≤ length s.args.codes.now
-ends s = node-fits s.requires.some.1.holds s.args.node s.requires.node_in_bounds.0
-
-has-mark : (s : Start) → s.args.node < length s.args.protectors.now
-has-mark s = omega (arith, held-count s.requires.some.1.holds, marks-count s.requires.some.0 s.args.protectors.now s.requires.some.1.marked, s.requires.node_in_bounds.0)
-
--- the lent row tells the accesses of the node's
-row_told : (c : After-tell_accesses) → let a = c.args in c.tell_accesses.new.told ≡ map end_number (row_at a.width a.node a.codes.now) ++ drop a.width a.lent.now
-row_told c = let a = c.args in written_row end_number a.width a.node a.codes.now a.lent.now _ (ends c.before.before.before.before.before.before.before) c.tell_accesses.ensures
-
--- where 16 is not answered the node has a protector
-protected : (c : Else-lacks_protector) (nodes : List Node) → let a = (entry (tell-accesses-before-lacks-protector c.before)).args in HoldsAll nodes a.width a.parents.now a.protectors.now a.codes.now
-    → lacks_protector (node_at nodes a.node) ≡ false
-protected c nodes held = sym (c.lacks_protector.ensures nodes (held-marks held)) ∙ c.if-lacks_protector.false
 
 pub overflow_mul-start : goal.overflow_mul-start
-overflow_mul-start c = omega (arith, ends c.before.before.before.before)
+overflow_mul-start c = let ends : c.args.node * c.args.width + c.args.width ≤ length c.args.codes.now = node-fits c.requires.some.1.holds c.args.node c.requires.node_in_bounds.0 in
+    omega (arith, ends)
 
 pub overflow_add-end : goal.overflow_add-end
-overflow_add-end c = omega (arith, ends c.before.before.before.before)
+overflow_add-end c = let ends : c.args.node * c.args.width + c.args.width ≤ length c.args.codes.now = node-fits c.requires.some.1.holds c.args.node c.requires.node_in_bounds.0 in
+    omega (arith, ends)
 
 pub slice_bounds-tell_accesses-end : goal.slice_bounds-tell_accesses-end
-slice_bounds-tell_accesses-end c = ends c.before.before.before.before
+slice_bounds-tell_accesses-end c = let ends : c.args.node * c.args.width + c.args.width ≤ length c.args.codes.now = node-fits c.requires.some.1.holds c.args.node c.requires.node_in_bounds.0 in
+    ends
 
 pub lacks_protector-requires : goal.lacks_protector-requires
-lacks_protector-requires c = let held = c.requires.some in
-    ((held.0, held-marks held.1), has-mark c.before.before.before.before.before.before.before.before.before)
+lacks_protector-requires c = let has-mark : c.args.node < length c.args.protectors.now = omega (arith, held-count c.requires.some.1.holds, marks-count c.requires.some.0 c.args.protectors.now c.requires.some.1.marked, c.requires.node_in_bounds.0) in
+    let held = c.requires.some in record { some = (held.0, held-marks held.1); node_in_bounds = has-mark }
 
 pub returns-then-lacks_protector : goal.returns-then-lacks_protector
-returns-then-lacks_protector c = let n = c.args.node in (
-  row_told c.before.before.before.before,
-  λ nodes held. release-refused Live nodes n 16 _ _ (release-16 Live nodes n (sym (c.lacks_protector.ensures nodes (held-marks held)) ∙ c.if-lacks_protector.true)) (λ q. absurd (omega arith)) held.marked held.holds.table.rows,
-)
+returns-then-lacks_protector c = let ends : c.args.node * c.args.width + c.args.width ≤ length c.args.codes.now = node-fits c.requires.some.1.holds c.args.node c.requires.node_in_bounds.0 in
+    let row_told : let a = c.args in c.tell_accesses.new.told ≡ map end_number (row_at a.width a.node a.codes.now) ++ drop a.width a.lent.now = let a = c.args in written_row end_number a.width a.node a.codes.now a.lent.now _ (ends) c.tell_accesses.ensures in
+    let n = c.args.node in record { lent_after = row_told; each = λ nodes held. release-refused Live nodes n 16 _ _ (release-16 Live nodes n (sym (c.lacks_protector.ensures nodes (held-marks held)) ∙ c.if-lacks_protector.true)) (λ q. absurd (omega arith)) held.marked held.holds.table.rows }
 
 pub end_protector-refused-requires : goal.end_protector-refused-requires
-end_protector-refused-requires c = let nodes = c.requires.some.0 in
+end_protector-refused-requires c = let ends : c.args.node * c.args.width + c.args.width ≤ length c.args.codes.now = node-fits c.requires.some.1.holds c.args.node c.requires.node_in_bounds.0 in
+    let row_told : let a = c.args in c.tell_accesses.new.told ≡ map end_number (row_at a.width a.node a.codes.now) ++ drop a.width a.lent.now = let a = c.args in written_row end_number a.width a.node a.codes.now a.lent.now _ (ends) c.tell_accesses.ensures in
+    let protected : (nodes : List Node) → let a = (entry (tell-accesses-before-lacks-protector c.before.before)).args in HoldsAll nodes a.width a.parents.now a.protectors.now a.codes.now
+    → lacks_protector (node_at nodes a.node) ≡ false = λ nodes held. sym (c.lacks_protector.ensures nodes (held-marks held)) ∙ c.if-lacks_protector.false in
+    let nodes = c.requires.some.0 in
     let held = c.requires.some.1 in
-    let a = c.args in (
-      (nodes, held.holds),
-      (
+    let a = c.args in record {
+      some = (nodes, held.holds);
+      node_in_bounds = (
         c.requires.node_in_bounds.0,
-        root-lacks nodes held.root_free a.node (protected c.before nodes held),
-        lent_row end_number a.width a.node a.codes.now a.lent.now _ (ends c.before.before.before.before.before.before.before.before.before.before.before.before) (row_told c.before.before.before.before.before),
-      ),
-    )
+        root-lacks nodes held.root_free a.node (protected nodes held),
+        lent_row end_number a.width a.node a.codes.now a.lent.now _ (ends) (row_told),
+      );
+    }
 
 pub returns-then-refused-ne0 : goal.returns-then-refused-ne0
-returns-then-refused-ne0 c = let ended = c.end_protector-refused in (
-  row_told c.before.before.before.before.before.before.before.before.before,
-  λ nodes held. ended-refused nodes c.args.node ended.result _ (ended.ensures nodes held.holds) (protected c.before.before.before.before.before nodes held) _ c.if-refused-ne0.true held.marked,
-)
+returns-then-refused-ne0 c = let ends : c.args.node * c.args.width + c.args.width ≤ length c.args.codes.now = node-fits c.requires.some.1.holds c.args.node c.requires.node_in_bounds.0 in
+    let row_told : let a = c.args in c.tell_accesses.new.told ≡ map end_number (row_at a.width a.node a.codes.now) ++ drop a.width a.lent.now = let a = c.args in written_row end_number a.width a.node a.codes.now a.lent.now _ (ends) c.tell_accesses.ensures in
+    let protected : (nodes : List Node) → let a = (entry (tell-accesses-before-lacks-protector c.before.before.before.before.before.before)).args in HoldsAll nodes a.width a.parents.now a.protectors.now a.codes.now
+    → lacks_protector (node_at nodes a.node) ≡ false = λ nodes held. sym (c.lacks_protector.ensures nodes (held-marks held)) ∙ c.if-lacks_protector.false in
+    let ended = c.end_protector-refused in record { lent_after = row_told; each = λ nodes held. ended-refused nodes c.args.node ended.result _ (ended.ensures nodes held.holds) (protected nodes held) _ c.if-refused-ne0.true held.marked }
 
 pub bounds-protectors-node : goal.bounds-protectors-node
-bounds-protectors-node c = has-mark (entry (tell-accesses-before-lacks-protector c.before.before.before.before.before.before))
+bounds-protectors-node c = let has-mark : c.args.node < length c.args.protectors.now = omega (arith, held-count c.requires.some.1.holds, marks-count c.requires.some.0 c.args.protectors.now c.requires.some.1.marked, c.requires.node_in_bounds.0) in
+    has-mark (entry (tell-accesses-before-lacks-protector c.before.before.before.before.before.before))
 
 pub returns : goal.returns
-returns c = let n = c.args.node in
-    let ended = c.end_protector-refused in (
-      row_told c.before.before.before.before.before.before.before.before.before,
-      λ nodes held.
-          ended-accepted nodes n 0 _ (subst (λ (k : ℕ). Ended n nodes k ended.new.1.0) c.if-refused-ne0.false (ended.ensures nodes held.holds)) (protected c.before.before.before.before.before nodes held) _ refl
-          (ap (λ (m : List ℕ). set m n 0) held.marked ∙ released-marks nodes n),
-    )
+returns c = let ends : c.args.node * c.args.width + c.args.width ≤ length c.args.codes.now = node-fits c.requires.some.1.holds c.args.node c.requires.node_in_bounds.0 in
+    let row_told : let a = c.args in c.tell_accesses.new.told ≡ map end_number (row_at a.width a.node a.codes.now) ++ drop a.width a.lent.now = let a = c.args in written_row end_number a.width a.node a.codes.now a.lent.now _ (ends) c.tell_accesses.ensures in
+    let protected : (nodes : List Node) → let a = (entry (tell-accesses-before-lacks-protector c.before.before.before.before.before.before)).args in HoldsAll nodes a.width a.parents.now a.protectors.now a.codes.now
+    → lacks_protector (node_at nodes a.node) ≡ false = λ nodes held. sym (c.lacks_protector.ensures nodes (held-marks held)) ∙ c.if-lacks_protector.false in
+    let n = c.args.node in
+    let ended = c.end_protector-refused in record {
+      lent_after = row_told;
+      each = λ nodes held.
+          ended-accepted nodes n 0 _ (subst (λ (k : ℕ). Ended n nodes k ended.new.1.0) c.if-refused-ne0.false (ended.ensures nodes held.holds)) (protected nodes held) _ refl
+          (ap (λ (m : List ℕ). set m n 0) held.marked ∙ released-marks nodes n);
+    }

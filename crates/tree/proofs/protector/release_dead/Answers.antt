@@ -7,11 +7,6 @@ use Rattle.tree.proofs.Held.{held_fits, marks-count}
 use Rattle.tree.proofs.Releases.{unprotected-table, dead-marks, release-16, release-visits, release-accepted, release-refused}
 use native.Mathlib.Omega.{arith}
 use Rattle.tree.proofs.protector.release_dead.Goals as goal
-use Rattle.tree.proofs.protector.release_dead.Goals.{Start}
-
--- the node's row ends within the table
-ends : (s : Start) → s.args.node * s.args.width + s.args.width ≤ length s.args.codes.now
-ends s = held_fits s.requires.some.0 s.args.width s.args.codes.now s.requires.some.1.table s.args.node (omega (arith, marks-count s.requires.some.0 s.args.protectors.now s.requires.some.1.marked))
 
 pub returns-then-lacks_protector : goal.returns-then-lacks_protector
 returns-then-lacks_protector c = λ nodes held.
@@ -19,7 +14,8 @@ returns-then-lacks_protector c = λ nodes held.
     (release-16 Dead nodes c.args.node (sym (c.lacks_protector.ensures nodes held) ∙ c.if-lacks_protector.true)) (λ q. absurd (omega arith)) held.marked held.table.rows
 
 pub unprotect_node-requires : goal.unprotect_node-requires
-unprotect_node-requires c = ends c.before.before.before.before.before
+unprotect_node-requires c = let ends : c.args.node * c.args.width + c.args.width ≤ length c.args.codes.now = held_fits c.requires.some.0 c.args.width c.args.codes.now c.requires.some.1.table c.args.node (omega (arith, marks-count c.requires.some.0 c.args.protectors.now c.requires.some.1.marked)) in
+    ends
 
 pub returns : goal.returns
 returns c = let n = c.args.node in

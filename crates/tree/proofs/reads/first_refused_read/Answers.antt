@@ -14,7 +14,7 @@ pub loop-k-init : goal.loop-k-init
 loop-k-init c = (omega arith, λ nodes holds. refl)
 
 pub check_access-requires : goal.check_access-requires
-check_access-requires c = let s = entry (turn c.before) in (s.pre.0, (s.pre.1.0, omega arith))
+check_access-requires c = let s = entry (turn c.before) in record { some = s.pre.0; node_in_bounds = (s.pre.1.0, omega arith) }
 
 pub returns-in-Refused : goal.returns-in-Refused
 returns-in-Refused c = let kind = c.kind-1 in

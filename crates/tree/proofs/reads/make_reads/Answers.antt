@@ -15,12 +15,7 @@ use Rattle.visit.proofs.Places.{same-ready, same-spared, same_width}
 use Rattle.tree.proofs.Inits.{reads_none, reads-together}
 use Rattle.tree.proofs.Visits.{held-ready, means-reads, visit-accepted, visit-refused}
 use Rattle.tree.proofs.reads.make_reads.Goals as goal
-use Rattle.tree.proofs.reads.make_reads.Goals.{After-check_lent, After-settled-v}
-
--- ---- the settled visit: the tables are ready for it, and it makes the reads
-ready : (c : After-settled-v) → let a = c.args in Ready c.settled-v.result a.parents.now a.codes.now × (0 < c.settled-v.result.spared)
-ready c =
-    (same-ready _ _ _ _ _ c.settled-v.ensures (held-ready _ c.requires.some.0 _ _ c.requires.some.1 c.requires.node_in_bounds.0 c.requires.node_in_bounds.1), omega (arith, same-spared _ _ _ c.settled-v.ensures, c.requires.some.1.root))
+use Rattle.tree.proofs.reads.make_reads.Goals.{After-settled-v}
 
 module _ (c : After-settled-v) (nodes : List Node) (holds : let a = c.args in Holds nodes a.width a.parents.now a.codes.now) where
   wide : let a = c.args in Holds nodes c.settled-v.result.width a.parents.now a.codes.now
@@ -29,35 +24,39 @@ module _ (c : After-settled-v) (nodes : List Node) (holds : let a = c.args in Ho
   means : let a = c.args in Means c.settled-v.result a.inside.now a.parents.now (reads_visit a.node a.from (map permission a.inside.now))
   means = let a = c.args in means-same _ _ _ _ _ c.settled-v.ensures (means-reads a.parents.now holds.root a.width a.node a.from a.inside.now)
 
--- what the check of it tells by its answer
-told : (c : After-check_lent) {answer : Answer} → c.check_lent.result ≡ answer → (nodes : List Node) → let a = (entry (settled-before-check c)).args in Holds nodes a.width a.parents.now a.codes.now
-    → Checked (reads_visit a.node a.from (map permission a.inside.now)) nodes answer
-told c e nodes holds =
-    let a = c.args in
-    subst (Checked (reads_visit a.node a.from (map permission a.inside.now)) nodes) e (means-told _ _ _ _ (means c.before nodes holds) nodes a.codes.now (wide c.before nodes holds) c.check_lent.result c.check_lent.ensures)
-
 pub check_lent-requires : goal.check_lent-requires
-check_lent-requires c = ready c
+check_lent-requires c = let ready : let a = c.args in Ready c.settled-v.result a.parents.now a.codes.now × (0 < c.settled-v.result.spared) = (same-ready _ _ _ _ _ c.settled-v.ensures (held-ready _ c.requires.some.0 _ _ c.requires.some.1 c.requires.node_in_bounds.0 c.requires.node_in_bounds.1), omega (arith, same-spared _ _ _ c.settled-v.ensures, c.requires.some.1.root)) in
+    ready
 
 pub apply-requires : goal.apply-requires
-apply-requires c = ready c.before.before.before
+apply-requires c = let ready : let a = c.args in Ready c.settled-v.result a.parents.now a.codes.now × (0 < c.settled-v.result.spared) = (same-ready _ _ _ _ _ c.settled-v.ensures (held-ready _ c.requires.some.0 _ _ c.requires.some.1 c.requires.node_in_bounds.0 c.requires.node_in_bounds.1), omega (arith, same-spared _ _ _ c.settled-v.ensures, c.requires.some.1.root)) in
+    ready
 
 pub returns-in-Stays : goal.returns-in-Stays
-returns-in-Stays c = λ nodes holds.
+returns-in-Stays c = let told : (answer : Answer) → c.check_lent.result ≡ answer → (nodes : List Node) → let a = (entry (settled-before-check c.before)).args in Holds nodes a.width a.parents.now a.codes.now
+    → Checked (reads_visit a.node a.from (map permission a.inside.now)) nodes answer = λ answer e nodes holds. let a = c.args in
+    subst (Checked (reads_visit a.node a.from (map permission a.inside.now)) nodes) e (means-told _ _ _ _ (means c.before.before nodes holds) nodes a.codes.now (wide c.before.before nodes holds) c.check_lent.result c.check_lent.ensures) in
+    λ nodes holds.
     let a = (entry (settled-before-check c.before)).args in
-    let t = told c.before c.in-Stays.is nodes holds in
+    let t = told _ c.in-Stays.is nodes holds in
     visit-accepted _ nodes 0 _ (sym (reads_none a.node a.from a.inside.now nodes t.0)) refl (holds.table.rows ∙ t.1)
 
 pub returns-in-Changes : goal.returns-in-Changes
-returns-in-Changes c = λ nodes holds.
+returns-in-Changes c = let told : (answer : Answer) → c.check_lent.result ≡ answer → (nodes : List Node) → let a = (entry (settled-before-check c.before.before.before.before.before)).args in Holds nodes a.width a.parents.now a.codes.now
+    → Checked (reads_visit a.node a.from (map permission a.inside.now)) nodes answer = λ answer e nodes holds. let a = c.args in
+    subst (Checked (reads_visit a.node a.from (map permission a.inside.now)) nodes) e (means-told _ _ _ _ (means c.before.before.before.before.before.before nodes holds) nodes a.codes.now (wide c.before.before.before.before.before.before nodes holds) c.check_lent.result c.check_lent.ensures) in
+    λ nodes holds.
     let a = c.args in
-    visit-accepted _ nodes 0 _ (sym (reads_none a.node a.from a.inside.now nodes (told c.before.before.before.before.before c.in-Changes.is nodes holds))) refl
+    visit-accepted _ nodes 0 _ (sym (reads_none a.node a.from a.inside.now nodes (told _ c.in-Changes.is nodes holds))) refl
     (c.apply.ensures ∙ means-after _ _ _ _ (means c.before.before.before.before.before.before nodes holds) nodes a.codes.now (wide c.before.before.before.before.before.before nodes holds))
 
 pub returns-in-Refused : goal.returns-in-Refused
-returns-in-Refused c = λ nodes holds.
+returns-in-Refused c = let told : (answer : Answer) → c.check_lent.result ≡ answer → (nodes : List Node) → let a = (entry (settled-before-check c.before.before)).args in Holds nodes a.width a.parents.now a.codes.now
+    → Checked (reads_visit a.node a.from (map permission a.inside.now)) nodes answer = λ answer e nodes holds. let a = c.args in
+    subst (Checked (reads_visit a.node a.from (map permission a.inside.now)) nodes) e (means-told _ _ _ _ (means c.before.before.before nodes holds) nodes a.codes.now (wide c.before.before.before nodes holds) c.check_lent.result c.check_lent.ensures) in
+    λ nodes holds.
     let read = c.first_refused_read in
     let a = (entry (settled-before-check c.before.before.before)).args in
-    let t = told c.before.before c.in-Refused.is nodes holds in
+    let t = told _ c.in-Refused.is nodes holds in
     visit-refused _ nodes read.result _ (read.ensures nodes holds)
     (λ z. t.1 (t.0 ∙ reads-together a.node nodes a.from (map permission a.inside.now) (sym (read.ensures nodes holds) ∙ z))) holds.table.rows

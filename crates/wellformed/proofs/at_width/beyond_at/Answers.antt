@@ -10,11 +10,6 @@ use Rattle.tables.specs.Held.{Records}
 use Rattle.tables.proofs.Lookup.{record-in, same_count}
 use Rattle.wellformed.proofs.AtWidth.{read-end, read-space}
 use Rattle.wellformed.proofs.at_width.beyond_at.Goals as goal
-use Rattle.wellformed.proofs.at_width.beyond_at.Goals.{After-allocation_at-a}
-
--- it was made, in every memory that has these records
-is_made : (c : After-allocation_at-a) {m : Memory} → Records m c.args.allocs.now → c.args.i < length m
-is_made c h = omega (arith, same_count h c.requires.1.0)
 
 pub allocation_at-a-requires : goal.allocation_at-a-requires
 allocation_at-a-requires c = record-in c.requires.1.0 _ c.requires.1.1
@@ -23,6 +18,7 @@ pub overflow_add-a : goal.overflow_add-a
 overflow_add-a c = omega (arith, read-space c.requires.1.0 c.requires.1.1 c.allocation_at-a.ensures)
 
 pub returns : goal.returns
-returns c = λ m h.
+returns c = let is_made : (m : Memory) → Records m c.args.allocs.now → c.args.i < length m = λ m h. omega (arith, same_count h c.requires.1.0) in
+    λ m h.
     let w = width_of c.args.width in
-    c.is_too_high.ensures ∙ ap (is_too_high w) (read-end h (is_made c.before.before h) c.allocation_at-a.ensures)
+    c.is_too_high.ensures ∙ ap (is_too_high w) (read-end h (is_made _ h) c.allocation_at-a.ensures)

@@ -11,16 +11,6 @@ use Rattle.wellformed.specs.WellFormed.{well_formed}
 use Rattle.wellformed.specs.AtWidth.{fits_in, well_formed_at}
 use Rattle.wellformed.proofs.Sound.{sound}
 use Rattle.wellformed.proofs.at_width.well_formed_at.Goals as goal
-use Rattle.wellformed.proofs.at_width.well_formed_at.Goals.{Else-not-well_formed}
-
-abbrev given : Else-not-well_formed → Buffers
-given c = let a = c.args in buffers a.allocs.now a.parents.now a.protectors.now a.words.now a.codes.now
-
-numbered : (c : Else-not-well_formed) → c.is_width.result ≡ true
-numbered c = not-false _ c.if-not-is_width.false-raw
-
-formed : (c : Else-not-well_formed) → well_formed (given c) ≡ true
-formed c = sym c.well_formed-2.ensures.test ∙ not-false _ c.if-not-well_formed.false-raw
 
 pub returns-then-not-is_width : goal.returns-then-not-is_width
 unfolding well_formed_at
@@ -35,10 +25,15 @@ returns-then-not-well_formed c =
     )
 
 pub fits_width-requires : goal.fits_width-requires
-fits_width-requires c = (_, holds-records (sound _ (formed c.before)))
+fits_width-requires c = let given : Buffers = let a = c.args in buffers a.allocs.now a.parents.now a.protectors.now a.words.now a.codes.now in
+    let formed : well_formed (given) ≡ true = sym c.well_formed-2.ensures.test ∙ not-false _ c.if-not-well_formed.false-raw in
+    (_, holds-records (sound _ (formed)))
 
 pub returns : goal.returns
 unfolding well_formed_at
-returns c = let b = given c.before.before in
-    rw (sym c.is_width.ensures ∙ numbered c.before.before, formed c.before.before)
-    (c.fits_width.ensures _ (holds-records (sound _ (formed c.before.before))) ∙ ap (λ (w : Width). fits_in w (view b) b.words) c.width_at.ensures)
+returns c = let given : Buffers = let a = c.args in buffers a.allocs.now a.parents.now a.protectors.now a.words.now a.codes.now in
+    let numbered : c.is_width.result ≡ true = not-false _ c.if-not-is_width.false-raw in
+    let formed : well_formed (given) ≡ true = sym c.well_formed-2.ensures.test ∙ not-false _ c.if-not-well_formed.false-raw in
+    let b = given in
+    rw (sym c.is_width.ensures ∙ numbered, formed)
+    (c.fits_width.ensures _ (holds-records (sound _ (formed))) ∙ ap (λ (w : Width). fits_in w (view b) b.words) c.width_at.ensures)
