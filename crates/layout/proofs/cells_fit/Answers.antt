@@ -11,7 +11,7 @@ returns-then-start-end c = let l = c.loop-i in
     sym (fits-fails l.end a.size a.cells.now l.i c.loop-i-test.true (omega (arith, c.cell_start-start.ensures))) ∙ l.invariant.1
 
 pub overflow_add-end : goal.overflow_add-end
-overflow_add-end c = omega (arith, c.cell_start-start.ensures, c.cell_size.ensures, c.shared_slice_known-in-loop-i-1.given c.loop-i.i)
+overflow_add-end c = omega (arith, c.cell_start-start.ensures, c.cell_size.ensures, c.type_inv.cells c.loop-i.i)
 
 pub loop-i-preserved : goal.loop-i-preserved
 loop-i-preserved c = let l = c.loop-i in
