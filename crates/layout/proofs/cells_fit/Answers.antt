@@ -1,5 +1,4 @@
 -- The invariant: the answer of the cells that are left, from the end of the last one on, is the answer of all.
-use Prim.Native.Nat.{◌-◌}
 use mathlib.Core.Path.{sym, ◌∙◌}
 use native.Mathlib.Omega.{arith}
 use Rattle.layout.proofs.Cells.{fits_more, fits-fails, fits-end}

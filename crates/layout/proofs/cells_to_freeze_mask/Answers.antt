@@ -1,5 +1,4 @@
 -- The invariant: the mask is that of the cells passed. At first it is all ones; each cell is cleared.
-use Prim.Native.Nat.{◌-◌}
 use mathlib.Core.List.{map}
 use mathlib.Core.Path.{refl, ap, ◌∙◌}
 use native.Mathlib.Omega.{arith}
