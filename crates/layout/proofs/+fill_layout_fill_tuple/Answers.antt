@@ -44,6 +44,7 @@ module _ (mask after : List ℕ) (start size : ℕ) (cells : List UnsafeCell) (t
   abbrev behind_tail : List ℕ
   behind_tail = take start mask ++ (after ++ drop (length mask - start) (drop start mask))
 
+  -- what was filled into the lent part, of what lies behind the head
   lent : {wanted : Option FreezeMask} {r : Mask} → tail ≡ wanted → Fills wanted (take (length mask - start) (drop start mask)) r after → Fills tail (drop size mask) r after
   lent e f = instead e (restated (part-rest start mask ∙ ap (λ (n : ℕ). drop n mask) at_end) refl refl f)
 
