@@ -1,5 +1,4 @@
 -- The invariant: the answer of the cells that are left, from the end of the last one on, is the answer of all.
-use Prim.Native.Nat.{◌-◌}
 use mathlib.Core.Path.{sym, ◌∙◌}
 use native.Mathlib.Omega.{arith}
 use Rattle.layout.proofs.Cells.{fits_more, fits-fails, fits-end}
@@ -11,7 +10,7 @@ returns-then-start-end c = let l = c.loop-i in
     sym (fits-fails l.end a.size a.cells.now l.i c.loop-i-test.true (omega (arith, c.cell_start-start.ensures))) ∙ l.invariant.1
 
 pub overflow_add-end : goal.overflow_add-end
-overflow_add-end c = omega (arith, c.cell_start-start.ensures, c.cell_size.ensures, c.shared_slice_known-in-loop-i-1.given c.loop-i.i)
+overflow_add-end c = omega (arith, c.cell_start-start.ensures, c.cell_size.ensures, c.type_inv.cells c.loop-i.i)
 
 pub loop-i-preserved : goal.loop-i-preserved
 loop-i-preserved c = let l = c.loop-i in

@@ -1,5 +1,4 @@
 -- The invariant: the mask is that of the cells passed. At first it is all ones; each cell is cleared.
-use Prim.Native.Nat.{◌-◌}
 use mathlib.Core.List.{map}
 use mathlib.Core.Path.{refl, ap, ◌∙◌}
 use native.Mathlib.Omega.{arith}
@@ -16,7 +15,7 @@ pub loop-i-init : goal.loop-i-init
 loop-i-init c = (search rules, c.paint.ensures ∙ all_ones (length c.args.mask.now) c.args.mask.now refl)
 
 pub overflow_add-end : goal.overflow_add-end
-overflow_add-end c = omega (arith, c.cell_start-start.ensures, c.cell_size.ensures, c.shared_slice_known-in-loop-i-1.given c.loop-i.i)
+overflow_add-end c = omega (arith, c.cell_start-start.ensures, c.cell_size.ensures, c.type_inv.cells c.loop-i.i)
 
 pub loop-i-preserved : goal.loop-i-preserved
 loop-i-preserved c = let a = c.args in
@@ -24,7 +23,7 @@ loop-i-preserved c = let a = c.args in
       omega arith,
       c.paint-in-loop-i.ensures
           ∙ next-cell (length a.mask.now) a.cells.now l.i c.cell_start-start.result c.cell_size.result l.mask
-          c.loop-i-test.taken l.inv.1 c.cell_start-start.ensures c.cell_size.ensures,
+          c.loop-i-test.true l.invariant.1 c.cell_start-start.ensures c.cell_size.ensures,
     )
 
 pub shape_of-mask : goal.shape_of-mask

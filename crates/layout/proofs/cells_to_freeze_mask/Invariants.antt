@@ -1,7 +1,7 @@
 -- The invariant: the mask is that of the cells passed. At first it is all ones; each cell is cleared.
 use Prim.Native.Nat.{◌-◌, ◌≤◌}
 use mathlib.Core.List.{map}
-use mathlib.Core.Path.{◌≡◌, ap}
+use mathlib.Core.Path.{◌≡◌}
 use lib.ListN.{length, take}
 use Rattle.layout.specs.Filled.{mask_bytes}
 use Rattle.definition.specs.Layout.{unsafe_cell, is_freeze}

@@ -14,15 +14,15 @@ returns-then-head-words c = let a = c.args in
 
 pub returns-in-Sized : goal.returns-in-Sized
 returns-in-Sized c = let a = c.args in
-    instead (none_left a.head Sized (meta_of a.metadata) a.words.now c.in-Sized.is c.if-head-words.left) c.fill_sized.ensures
+    instead (none_left a.head Sized (meta_of a.metadata) a.words.now c.in-Sized.is c.if-head-words.false) c.fill_sized.ensures
 
 pub returns-in-Slice : goal.returns-in-Slice
 returns-in-Slice c = let a = c.args in
-    instead (none_left a.head Slice (meta_of a.metadata) a.words.now c.in-Slice.is c.if-head-words.left) c.fill_slice.ensures
+    instead (none_left a.head Slice (meta_of a.metadata) a.words.now c.in-Slice.is c.if-head-words.false) c.fill_slice.ensures
 
 pub returns-in-TraitObject : goal.returns-in-TraitObject
 returns-in-TraitObject c = let a = c.args in
-    instead (none_left a.head TraitObject (meta_of a.metadata) a.words.now c.in-TraitObject.is c.if-head-words.left) c.fill_trait_object.ensures
+    instead (none_left a.head TraitObject (meta_of a.metadata) a.words.now c.in-TraitObject.is c.if-head-words.false) c.fill_trait_object.ensures
 
 pub returns-in-Tuple : goal.returns-in-Tuple
 returns-in-Tuple c = let a = c.args in

@@ -14,4 +14,4 @@ pub returns-in-2 : goal.returns-in-2
 returns-in-2 c = let e : c.args.word / 2 ^ 30 ≡ 2 = c.in-2.is in rw e
 
 pub returns-in_default : goal.returns-in_default
-returns-in_default c = let e : c.args.word / 2 ^ 30 ≡ 3 = omega (arith, c.in_default.in_default-own.rest.1, c.in_default.in_default-own.rest.0.1, c.in_default.in_default-own.rest.0.0.1) in rw e
+returns-in_default c = let e : c.args.word / 2 ^ 30 ≡ 3 = omega arith in rw e

@@ -1,7 +1,6 @@
 -- The invariant: painting what is left gives what painting all gives.
-use Prim.Native.Nat.{◌-◌}
 use mathlib.Core.Path.{refl, sym, ◌∙◌}
-use lib.ListN.{length, length-set}
+use lib.ListN.{length-set}
 use Rattle.definition.proofs.Writes.{write-past}
 use Rattle.layout.proofs.Cells.{paint-here, paint-end}
 use Rattle.layout.proofs.paint.Goals as goal

@@ -1,8 +1,7 @@
 -- The invariant: every byte passed is the one that stands at its remainder in the first part.
-use Prim.Native.Nat.{◌-◌}
 use mathlib.Core.Path.{refl}
 use native.Mathlib.Omega.{arith}
-use lib.ListN.{length, length-set}
+use lib.ListN.{length-set}
 use Rattle.layout.proofs.Cells.{repeat-start, repeat-more, repeat-all}
 use Rattle.layout.proofs.repeat.Goals as goal
 
