@@ -65,7 +65,8 @@ pub fn load(entries: &[Entry]) -> [Entry; 64]
     let mut i = 0;
     while i < entries.len() {
         let e = entries[i];
-        list = with_entry(list, i, e);
+        let next = with_entry(list, i, e);
+        list = next;
         i = i + 1;
     }
     list
