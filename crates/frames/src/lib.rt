@@ -1,7 +1,7 @@
 #![tactic(auto)]
 
-// A frame's protector list in its three forms: by value, which covered code takes and returns; lent as a slice of entry structs, which
-// two walked functions read and extend; and in the buffer that holds a run's 32 frames. mem.rs: `TreeBorrowsFrameExtra`.
+// A frame's protector list in its three forms: by value; lent as a slice of entry structs, which two functions read and extend; and in
+// the buffer that holds a run's 32 frames. mem.rs: `TreeBorrowsFrameExtra`.
 // specs/List.antt says what an entry and a list are in the definition, specs/Buffer.antt what the buffer holds.
 ghost use Rattle.std.specs.Prelude.{◌+◌, ◌<◌, ◌≤◌, ◌≡◌, false, List, [], ◌∷◌, ◌++◌, length, get_or, take, set, replicate};
 ghost use Rattle.definition.specs.Frame.{Frame, is_open, empty};
