@@ -4,8 +4,8 @@ use mathlib.Core.Path.{sym, ap, ◌∙◌}
 use native.Mathlib.Omega.{arith}
 use lib.ListN.{get_or}
 use Rattle.definition.specs.Frame.Frame.{Closed}
-use Rattle.frames.proofs.FrameNumbers.{head-none, head-some, head-bound}
-use Rattle.frames.proofs.Frames.{buffer-length, frame-fits, head_read}
+use Rattle.frames.proofs.FrameNumbers.{head-none, head-some}
+use Rattle.frames.proofs.Frames.{buffer-length, head_read}
 use Rattle.frames.proofs.entry_count.Goals as goal
 
 pub bounds-frames-f : goal.bounds-frames-f
@@ -15,15 +15,6 @@ pub returns-then-head-eq0 : goal.returns-then-head-eq0
 returns-then-head-eq0 c = λ fs holds.
     head-none (get_or fs c.args.f Closed)
     (sym (head_read fs c.args.frames.now c.args.f holds c.requires.f_bound) ∙ c.if-head-eq0.true)
-
-pub overflow_cast-result : goal.overflow_cast-result
-overflow_cast-result c = let fs = c.requires.holds_frames.0 in
-    let holds = c.requires.holds_frames.1 in
-    omega (
-      arith,
-      head_read fs c.args.frames.now c.args.f holds c.requires.f_bound,
-      head-bound (get_or fs c.args.f Closed) (frame-fits fs c.args.frames.now c.args.f holds c.requires.f_bound),
-    )
 
 pub returns : goal.returns
 returns c = λ fs holds.

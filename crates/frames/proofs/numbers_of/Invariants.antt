@@ -1,13 +1,7 @@
 -- After i turns the first i numbers stand for the first i entries (FrameNumbers).
-use Prim.Native.Nat.{◌-◌, ◌≤◌}
-use mathlib.Core.Path.{◌≡◌}
-use lib.ListN.{length, take}
+use Rattle.std.proofs.Common.{◌≡◌, ◌-◌, ◌≤◌, length, take}
 use Rattle.frames.specs.List.{entries_of}
 use Rattle.frames.specs.Buffer.{entries_in}
-use Rattle.frames.proofs.entry_at.Reads as entry-at-reads
-use Rattle.frames.proofs.entry_number.Reads as entry-number-reads
-use Rattle.frames.proofs.numbers_of.Reads as reads
-use Rattle.frames.proofs.numbers_of.Lts as lts
 use Rattle.frames.proofs.numbers_of.Given as goal
 
 abbrev pub invariant-loop-i : goal.invariant-loop-i
