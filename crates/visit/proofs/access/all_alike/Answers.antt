@@ -17,7 +17,7 @@ pub loop-k-preserved : goal.loop-k-preserved
 loop-k-preserved c = (
   omega arith,
   λ i h. elim (ℕ_discrete i c.loop-k.k) [
-    | yes q ↦ ap (λ (j : ℕ). get_or c.args.lent.now j 0) q ∙ sym c.lent_at.ensures ∙ c.if-lent_at-first.false ∙ c.lent_at_lem.ensures
+    | yes q ↦ ap (λ (j : ℕ). get_or c.args.lent.now j 0) q ∙ sym c.lent_at.ensures ∙ c.if-lent_at-first.false ∙ c.lent_at-first.ensures
     | no q ↦ c.loop-k.invariant.1 i (omega arith)
   ],
 )
