@@ -53,7 +53,7 @@ loop-v-preserved-then-sibling-eq0 t c =
           let i = c.loop-v.invariant.0 ps p in (
             (at-child p i.0 child.result child.ensures c.if-child-eq0.false).1,
             changed-child (still c.loop-v.invariant.1 p) i.0 c.args.lent.now _ c.relation.ensures _ c.apply_at.ensures child.result sibling.result child.ensures sibling.ensures c.if-sibling-eq0.true c.if-child-eq0.false
-            ∙ i.1,
+                ∙ i.1,
           ),
       c.apply_at.auto.codes ∙ c.loop-v.invariant.1,
     )
@@ -66,8 +66,8 @@ apply_from-requires t c =
     let plan = c.args.plan.now in
     let below = at-child q.1 i.0 child.result child.ensures c.if-child-ne0.true in (
       subst (λ (n : ℕ). n - 4 * child.result < t) (as_long plan)
-      (subst (λ (k : ℕ). length plan - 4 * child.result < k) c.decreases
-      (fewer (length plan) c.args.first c.loop-v.m child.result i.0.later below.0 (planned-here q.1 i.0).0)),
+          (subst (λ (k : ℕ). length plan - 4 * child.result < k) c.decreases
+          (fewer (length plan) c.args.first c.loop-v.m child.result i.0.later below.0 (planned-here q.1 i.0).0)),
       (q.0, from-child q.1 i.0 child.result child.ensures c.if-child-ne0.true _ (c.apply_at.auto.codes ∙ c.loop-v.invariant.1)),
     )
 
@@ -87,7 +87,7 @@ loop-v-preserved-then-child-ne0 t c =
           let down = from-child p i.0 child.result child.ensures c.if-child-ne0.true _ (c.apply_at.auto.codes ∙ c.loop-v.invariant.1) in (
             (at-sibling p i.0 sibling.result sibling.ensures c.if-sibling-eq0.false).1,
             changed-below (still c.loop-v.invariant.1 p) i.0 c.args.lent.now _ c.relation.ensures _ c.apply_at.ensures child.result sibling.result child.ensures sibling.ensures c.if-sibling-eq0.false c.if-child-ne0.true _ (c.apply_from.ensures ps down)
-            ∙ i.1,
+                ∙ i.1,
           ),
       c.apply_from.auto.codes ∙ c.apply_at.auto.codes ∙ c.loop-v.invariant.1,
     )
@@ -107,7 +107,7 @@ loop-v-preserved t c =
           let i = c.loop-v.invariant.0 ps p in (
             (at-sibling p i.0 sibling.result sibling.ensures c.if-sibling-eq0.false).1,
             changed-leaf (still c.loop-v.invariant.1 p) i.0 c.args.lent.now _ c.relation.ensures _ c.apply_at.ensures child.result sibling.result child.ensures sibling.ensures c.if-sibling-eq0.false c.if-child-ne0.false
-            ∙ i.1,
+                ∙ i.1,
           ),
       c.apply_at.auto.codes ∙ c.loop-v.invariant.1,
     )

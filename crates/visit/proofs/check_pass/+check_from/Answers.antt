@@ -86,8 +86,8 @@ check_from-requires t c =
     let plan = c.args.plan.now in
     let below = at-child q.1 i.0 child.result child.ensures c.if-child-ne0.true in (
       subst (λ (n : ℕ). n - 4 * child.result < t) (as_long plan)
-      (subst (λ (k : ℕ). length plan - 4 * child.result < k) c.decreases
-      (fewer (length plan) c.args.first c.loop-changes.m child.result i.0.later below.0 (planned-here q.1 i.0).0)),
+          (subst (λ (k : ℕ). length plan - 4 * child.result < k) c.decreases
+          (fewer (length plan) c.args.first c.loop-changes.m child.result i.0.later below.0 (planned-here q.1 i.0).0)),
       (q.0, from-child q.1 i.0 child.result child.ensures c.if-child-ne0.true _ refl),
     )
 

@@ -1,5 +1,4 @@
 -- The invariant: what the check of the codes so far told.
-use Prim.Native.Nat.{◌-◌}
 use mathlib.Core.Path.{◌≡◌, subst⁻¹, sym, ap, ◌∙◌}
 use lib.ListN.{length, get_or}
 use Rattle.permission.specs.Codes.{node_relation}
