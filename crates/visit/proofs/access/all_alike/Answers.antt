@@ -1,5 +1,5 @@
 -- The invariant: the bytes so far have the code of the first.
-use Prim.Native.Nat.{ℕ, ◌-◌}
+use Prim.Native.Nat.{ℕ}
 use mathlib.Core.Path.{sym, ap, ◌∙◌}
 use native.Mathlib.Decide.{ℕ_discrete}
 use lib.ListN.{get_or}
@@ -17,7 +17,7 @@ pub loop-k-preserved : goal.loop-k-preserved
 loop-k-preserved c = (
   omega arith,
   λ i h. elim (ℕ_discrete i c.loop-k.k) [
-    | yes q ↦ ap (λ (j : ℕ). get_or c.args.lent.now j 0) q ∙ sym c.lent_at.ensures ∙ c.if-lent_at-first.false ∙ c.lent_at_lem.ensures
+    | yes q ↦ ap (λ (j : ℕ). get_or c.args.lent.now j 0) q ∙ sym c.lent_at.ensures ∙ c.if-lent_at-first.false ∙ c.lent_at-first.ensures
     | no q ↦ c.loop-k.invariant.1 i (omega arith)
   ],
 )

@@ -25,7 +25,7 @@ loop-m-preserved-then-m-on c = let wide = c.wide-parent in
     let link = c.link in
     let ps = c.args.parents.now in
     let m = c.loop-m.m - 1 in
-    let plan = link.new.0 in
+    let plan = link.new.plan in
     let back : c.loop-m.m ≡ m + 1 = omega arith in
     let room : Roomy ps c.loop-m.plan = record { size = c.loop-m.invariant.2 ∙ c.requires.roomy.0.size; few = c.requires.roomy.0.few } in
     let early = parent-earlier ps c.requires.parents.0 m (omega arith) in
@@ -47,7 +47,7 @@ loop-m-preserved c = let wide = c.wide-parent in
     let link = c.link in
     let ps = c.args.parents.now in
     let m = c.loop-m.m - 1 in
-    let plan = link.new.0 in
+    let plan = link.new.plan in
     let back : c.loop-m.m ≡ m + 1 = omega arith in
     let room : Roomy ps c.loop-m.plan = record { size = c.loop-m.invariant.2 ∙ c.requires.roomy.0.size; few = c.requires.roomy.0.few } in
     let early = parent-earlier ps c.requires.parents.0 m (omega arith) in

@@ -1,5 +1,5 @@
 -- The invariant: the nodes from m on are linked, and what is noted, or lies above `on`, is what lies above the accessed node.
-use Prim.Native.Nat.{◌-◌, ◌≤◌, ◌<◌}
+use Prim.Native.Nat.{◌≤◌, ◌<◌}
 use mathlib.Core.Path.{◌≡◌}
 use lib.ListN.{length}
 use Rattle.visit.proofs.Plans.{Linking, Traced}

@@ -18,6 +18,6 @@ returns c = let v = c.args.v in
     let given = c.apply_row in
     let inside : v.from + v.len ≤ length row = omega (arith, row-length v.width c.args.n codes c.requires.0, c.requires.1) in
     let changed = given.ensures ∙ ap (bytes_after v.what c.args.lent.now r) (part_bytes v.width c.args.n v.from v.len codes c.requires.0 c.requires.1) in
-    put-bytes v.width c.args.n v.from v.len codes c.requires.0 c.requires.1 given.new.0
+    put-bytes v.width c.args.n v.from v.len codes c.requires.0 c.requires.1 given.new.row
     ∙ ap (λ (cs : List ℕ). with_row_at v.width c.args.n (take v.from row ++ cs) codes)
     (ap (λ (cs : List ℕ). cs ++ drop v.len (drop v.from row)) changed ∙ sym (visited-after v c.args.lent.now r row inside))

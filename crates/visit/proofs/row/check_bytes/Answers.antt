@@ -1,7 +1,5 @@
 -- The invariant: what the check of the codes so far told.
-use Prim.Native.Nat.{◌-◌}
 use mathlib.Core.Path.{◌≡◌, subst⁻¹, sym, ap, ◌∙◌}
-use mathlib.Core.Logic.{⊎_elim}
 use lib.ListN.{length, get_or}
 use Rattle.permission.specs.Codes.{node_relation}
 use Rattle.visit.specs.Walk.{ToldBytes, accesses_at, outcome_at}
@@ -10,6 +8,7 @@ use Rattle.definition.specs.Permission.{AccessKind}
 use Rattle.visit.proofs.Rows.{planned-at, bytes-start, byte-stays, byte-becomes, byte-refused, bytes-done}
 use native.Mathlib.Omega.{arith}
 use Rattle.visit.proofs.row.check_bytes.Goals as goal
+use Rattle.visit.proofs.row.check_bytes.Goals.{in-Stays, in-Becomes}
 
 pub loop-k-init : goal.loop-k-init
 loop-k-init c = (omega arith, bytes-start (node_relation c.args.relation) (accesses_at c.args.what (length c.args.row.now) c.args.lent.now) c.args.row.now)
@@ -35,10 +34,10 @@ loop-k-preserved c = let o = c.outcome in
     let decided : o.result ≡ outcome_at (get_or xs k none) r (get_or row k 0) =
     o.ensures ∙ ap (λ (x : Option AccessKind). outcome_at x r (get_or row k 0)) (found.ensures ∙ sym (planned-at c.args.what (length row) c.args.lent.now k (omega arith))) in (
       omega arith,
-      ⊎_elim
-          (λ w. byte-stays r xs row k (omega arith) o.result decided c.loop-k.changes c.loop-k.invariant.1 _ w.1.given.1 w.2)
-          (λ w. byte-becomes r xs row k (omega arith) o.result decided c.loop-k.changes c.loop-k.invariant.1 _ _ w.1.given.1 w.2)
-          c.match-outcome.branch,
+      elim c.match-outcome.branch [
+        | in-Stays w ↦ byte-stays r xs row k (omega arith) o.result decided c.loop-k.changes c.loop-k.invariant.1 _ w.in-Stays.is w.changes-is
+        | in-Becomes w ↦ byte-becomes r xs row k (omega arith) o.result decided c.loop-k.changes c.loop-k.invariant.1 _ _ w.in-Becomes.is w.changes-is
+      ],
     )
 
 pub returns : goal.returns

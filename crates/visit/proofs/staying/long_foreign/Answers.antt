@@ -1,5 +1,4 @@
 -- The invariant: whether the codes so far stay.
-use Prim.Native.Nat.{◌-◌}
 use mathlib.Core.Path.{refl, sym, ◌∙◌}
 use mathlib.Core.List.{[]}
 use lib.ListN.{length}

@@ -1,5 +1,4 @@
 -- The invariant: whether the codes so far stay.
-use Prim.Native.Nat.{◌-◌}
 use mathlib.Core.Path.{◌≡◌, refl, sym, ap, ◌∙◌}
 use mathlib.Core.Option.{Option, none}
 use lib.ListN.{length, get_or}
