@@ -12,5 +12,5 @@ returns c = record {
   ended = λ m h.
       let k = c.end_call_refusal-refused.ensures m h in
       record { reply = c.refused_with.ensures ∙ ap (λ (n : ℕ). reply_to Nothing (refused_with n)) k.refusal; nodes = k.nodes };
-  zero = all-zero 32768 _ c.end_call_refusal-refused.new.area (c.end_call_refusal-refused.kept.1.1.1.1.0 ∙ c.requires.count_bound.1) c.fill.ensures;
+  zero = all-zero 32768 _ c.end_call_refusal-refused.new.area (c.end_call_refusal-refused.auto.area ∙ c.requires.count_bound.1) c.fill.ensures;
 }

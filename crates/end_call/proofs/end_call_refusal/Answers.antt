@@ -31,9 +31,8 @@ release_lent-requires c = let m = c.requires.holds_marked.0 in
 pub returns : goal.returns
 returns c = λ m h.
     let list = c.args.list in
-    let r = c.release_lent in
     let n : any (is_unmade m) (entries_of list) ≡ false = sym (c.any_never_made.ensures m (records-of h)) ∙ c.if-any_never_made.false in
     let same = written list c.numbers_of-numbers.result c.numbers_of-numbers.ensures in
     made-released n
-    (subst (λ (es : List Provenance). ReleasedAll m es r.result r.new.1.1.0 r.new.1.1.1.0) same
-    (r.ensures m h (subst⁻¹ (AllMade m) same (all_made m (entries_of list) n))))
+    (subst (λ (es : List Provenance). ReleasedAll m es c.release_lent.result c.release_lent.new.protectors c.release_lent.new.codes) same
+    (c.release_lent.ensures m h (subst⁻¹ (AllMade m) same (all_made m (entries_of list) n))))

@@ -17,12 +17,12 @@ save-requires-2 c = let h = c.requires.holds_marked.1.0 in
 pub put_back-requires : goal.put_back-requires
 put_back-requires c = let h = c.requires.holds_marked.1.0 in
     let t = c.requires.touched.0 in
-    (nodes-ordered h t, (omega (arith, nodes-total h t, marks-length h, c.release_until-refused.kept.1.1.0), omega (arith, nodes-total h t, c.save.kept.0)))
+    (nodes-ordered h t, (omega (arith, nodes-total h t, marks-length h, c.release_until-refused.auto.protectors), omega (arith, nodes-total h t, c.save.auto.dst)))
 
 pub put_back-requires-then-refused-ne0 : goal.put_back-requires-then-refused-ne0
 put_back-requires-then-refused-ne0 c = let h = c.requires.holds_marked.1.0 in
     let t = c.requires.touched.0 in
-    (codes-ordered h t, (omega (arith, codes-total h t, codes-length h, c.release_until-refused.kept.1.1.1.0), omega (arith, c.requires.touched.1, c.save-2.kept.0)))
+    (codes-ordered h t, (omega (arith, codes-total h t, codes-length h, c.release_until-refused.auto.codes), omega (arith, c.requires.touched.1, c.save-2.auto.dst)))
 
 pub returns-then-refused-ne0 : goal.returns-then-refused-ne0
 returns-then-refused-ne0 c = λ m h made.

@@ -66,7 +66,7 @@ used_behind-used-requires c = let known : (m : Memory) → HoldsMarked m c.args.
     let made : (m : Memory) → HoldsMarked m c.args.allocs.now c.args.parents.now c.args.protectors.now c.args.codes.now
     → c.in-Of.allocation < length m = λ m h. points-made c.args.p c.in-Of.is (known m h) in
     let located : (m : Memory) → HoldsMarked m c.args.allocs.now c.args.parents.now c.args.protectors.now c.args.codes.now
-    → Located m c.args.allocs.now (provenance_of c.args.p.provenance) c.in-Of.allocation (target-of-before-never-made (never-made-before-used-behind c)).target-of.result c.used_behind-used.result c.parts_of-t.result = λ m h. let r = (trees-of h).records in
+    → Located m c.args.allocs.now (provenance_of c.args.p.provenance) c.in-Of.allocation c.target_of-a.result c.used_behind-used.result c.parts_of-t.result = λ m h. let r = (trees-of h).records in
     let u = c.used_behind-used.ensures m r in
     record {
       made = (known m h).made;
@@ -76,8 +76,7 @@ used_behind-used-requires c = let known : (m : Memory) → HoldsMarked m c.args.
     } in
     let passed : (m : Memory) → HoldsMarked m c.args.allocs.now c.args.parents.now c.args.protectors.now c.args.codes.now → Passed m c.in-Of.allocation c.in-Of.node c.args.p.addr (length c.args.inside.now) = λ m h. (c.retag_refusal-refused.ensures.tested m _ _ (trees-of h) (located m h) c.in-Of.is).passed c.if-refused-ne0.false in
     let read : (m : Memory) → HoldsMarked m c.args.allocs.now c.args.parents.now c.args.protectors.now c.args.codes.now
-    → HoldsMarked (after_reads m c.in-Of.allocation c.in-Of.node c.args.p.addr c.args.inside.now) c.args.allocs.now c.args.parents.now c.args.protectors.now c.retag_refusal-refused.new.inside = λ m h. let of = c.provenance-1.given.0 in
-    holds_after (reads_at m of.0 of.1.0 c.args.p.addr c.args.inside.now) m of.0 (passed m h).fits.reached.made h
+    → HoldsMarked (after_reads m c.in-Of.allocation c.in-Of.node c.args.p.addr c.args.inside.now) c.args.allocs.now c.args.parents.now c.args.protectors.now c.retag_refusal-refused.new.inside = λ m h. holds_after (reads_at m c.in-Of.allocation c.in-Of.node c.args.p.addr c.args.inside.now) m c.in-Of.allocation (passed m h).fits.reached.made h
     (tested-made c.args.inside.now (c.retag_refusal-refused.ensures.tested m _ _ (trees-of h) (located m h) c.in-Of.is) c.if-refused-ne0.false) in
     let (m, h) = c.requires.holds_marked in (m, ((trees-of h).records, made m h))
 
@@ -92,7 +91,7 @@ retag_refusal-refused-requires c = let known : (m : Memory) → HoldsMarked m c.
     let made : (m : Memory) → HoldsMarked m c.args.allocs.now c.args.parents.now c.args.protectors.now c.args.codes.now
     → c.in-Of.allocation < length m = λ m h. points-made c.args.p c.in-Of.is (known m h) in
     let located : (m : Memory) → HoldsMarked m c.args.allocs.now c.args.parents.now c.args.protectors.now c.args.codes.now
-    → Located m c.args.allocs.now (provenance_of c.args.p.provenance) c.in-Of.allocation (target-of-before-never-made (never-made-before-used-behind c.before)).target-of.result c.used_behind-used.result c.parts_of-t.result = λ m h. let r = (trees-of h).records in
+    → Located m c.args.allocs.now (provenance_of c.args.p.provenance) c.in-Of.allocation c.target_of-a.result c.used_behind-used.result c.parts_of-t.result = λ m h. let r = (trees-of h).records in
     let u = c.used_behind-used.ensures m r in
     record {
       made = (known m h).made;
@@ -102,8 +101,7 @@ retag_refusal-refused-requires c = let known : (m : Memory) → HoldsMarked m c.
     } in
     let passed : (m : Memory) → HoldsMarked m c.args.allocs.now c.args.parents.now c.args.protectors.now c.args.codes.now → Passed m c.in-Of.allocation c.in-Of.node c.args.p.addr (length c.args.inside.now) = λ m h. (c.retag_refusal-refused.ensures.tested m _ _ (trees-of h) (located m h) c.in-Of.is).passed c.if-refused-ne0.false in
     let read : (m : Memory) → HoldsMarked m c.args.allocs.now c.args.parents.now c.args.protectors.now c.args.codes.now
-    → HoldsMarked (after_reads m c.in-Of.allocation c.in-Of.node c.args.p.addr c.args.inside.now) c.args.allocs.now c.args.parents.now c.args.protectors.now c.retag_refusal-refused.new.inside = λ m h. let of = c.provenance-1.given.0 in
-    holds_after (reads_at m of.0 of.1.0 c.args.p.addr c.args.inside.now) m of.0 (passed m h).fits.reached.made h
+    → HoldsMarked (after_reads m c.in-Of.allocation c.in-Of.node c.args.p.addr c.args.inside.now) c.args.allocs.now c.args.parents.now c.args.protectors.now c.retag_refusal-refused.new.inside = λ m h. holds_after (reads_at m c.in-Of.allocation c.in-Of.node c.args.p.addr c.args.inside.now) m c.in-Of.allocation (passed m h).fits.reached.made h
     (tested-made c.args.inside.now (c.retag_refusal-refused.ensures.tested m _ _ (trees-of h) (located m h) c.in-Of.is) c.if-refused-ne0.false) in
     let (m, h) = c.requires.holds_marked in
     (m, (_, (_, (trees-of h, located m h, c.in-Of.is))))
@@ -119,7 +117,7 @@ returns-then-refused-ne0 c = let known : (m : Memory) → HoldsMarked m c.args.a
     let made : (m : Memory) → HoldsMarked m c.args.allocs.now c.args.parents.now c.args.protectors.now c.args.codes.now
     → c.in-Of.allocation < length m = λ m h. points-made c.args.p c.in-Of.is (known m h) in
     let located : (m : Memory) → HoldsMarked m c.args.allocs.now c.args.parents.now c.args.protectors.now c.args.codes.now
-    → Located m c.args.allocs.now (provenance_of c.args.p.provenance) c.in-Of.allocation (target-of-before-never-made (never-made-before-used-behind c.before.before.before.before.before)).target-of.result c.used_behind-used.result c.parts_of-t.result = λ m h. let r = (trees-of h).records in
+    → Located m c.args.allocs.now (provenance_of c.args.p.provenance) c.in-Of.allocation c.target_of-a.result c.used_behind-used.result c.parts_of-t.result = λ m h. let r = (trees-of h).records in
     let u = c.used_behind-used.ensures m r in
     record {
       made = (known m h).made;
@@ -129,8 +127,7 @@ returns-then-refused-ne0 c = let known : (m : Memory) → HoldsMarked m c.args.a
     } in
     let passed : (m : Memory) → HoldsMarked m c.args.allocs.now c.args.parents.now c.args.protectors.now c.args.codes.now → Passed m c.in-Of.allocation c.in-Of.node c.args.p.addr (length c.args.inside.now) = λ m h. (c.retag_refusal-refused.ensures.tested m _ _ (trees-of h) (located m h) c.in-Of.is).passed c.if-refused-ne0.false in
     let read : (m : Memory) → HoldsMarked m c.args.allocs.now c.args.parents.now c.args.protectors.now c.args.codes.now
-    → HoldsMarked (after_reads m c.in-Of.allocation c.in-Of.node c.args.p.addr c.args.inside.now) c.args.allocs.now c.args.parents.now c.args.protectors.now c.retag_refusal-refused.new.inside = λ m h. let of = c.provenance-1.given.0 in
-    holds_after (reads_at m of.0 of.1.0 c.args.p.addr c.args.inside.now) m of.0 (passed m h).fits.reached.made h
+    → HoldsMarked (after_reads m c.in-Of.allocation c.in-Of.node c.args.p.addr c.args.inside.now) c.args.allocs.now c.args.parents.now c.args.protectors.now c.retag_refusal-refused.new.inside = λ m h. holds_after (reads_at m c.in-Of.allocation c.in-Of.node c.args.p.addr c.args.inside.now) m c.in-Of.allocation (passed m h).fits.reached.made h
     (tested-made c.args.inside.now (c.retag_refusal-refused.ensures.tested m _ _ (trees-of h) (located m h) c.in-Of.is) c.if-refused-ne0.false) in
     λ s frame mask h a.
     let l = located s.memory h in
@@ -154,7 +151,7 @@ add_child-child-requires c = let known : (m : Memory) → HoldsMarked m c.args.a
     let made : (m : Memory) → HoldsMarked m c.args.allocs.now c.args.parents.now c.args.protectors.now c.args.codes.now
     → c.in-Of.allocation < length m = λ m h. points-made c.args.p c.in-Of.is (known m h) in
     let located : (m : Memory) → HoldsMarked m c.args.allocs.now c.args.parents.now c.args.protectors.now c.args.codes.now
-    → Located m c.args.allocs.now (provenance_of c.args.p.provenance) c.in-Of.allocation (target-of-before-never-made (never-made-before-used-behind c.before.before.before.before.before.before.before.before.before)).target-of.result c.used_behind-used.result c.parts_of-t.result = λ m h. let r = (trees-of h).records in
+    → Located m c.args.allocs.now (provenance_of c.args.p.provenance) c.in-Of.allocation c.target_of-a.result c.used_behind-used.result c.parts_of-t.result = λ m h. let r = (trees-of h).records in
     let u = c.used_behind-used.ensures m r in
     record {
       made = (known m h).made;
@@ -164,8 +161,7 @@ add_child-child-requires c = let known : (m : Memory) → HoldsMarked m c.args.a
     } in
     let passed : (m : Memory) → HoldsMarked m c.args.allocs.now c.args.parents.now c.args.protectors.now c.args.codes.now → Passed m c.in-Of.allocation c.in-Of.node c.args.p.addr (length c.args.inside.now) = λ m h. (c.retag_refusal-refused.ensures.tested m _ _ (trees-of h) (located m h) c.in-Of.is).passed c.if-refused-ne0.false in
     let read : (m : Memory) → HoldsMarked m c.args.allocs.now c.args.parents.now c.args.protectors.now c.args.codes.now
-    → HoldsMarked (after_reads m c.in-Of.allocation c.in-Of.node c.args.p.addr c.args.inside.now) c.args.allocs.now c.args.parents.now c.args.protectors.now c.retag_refusal-refused.new.inside = λ m h. let of = c.provenance-1.given.0 in
-    holds_after (reads_at m of.0 of.1.0 c.args.p.addr c.args.inside.now) m of.0 (passed m h).fits.reached.made h
+    → HoldsMarked (after_reads m c.in-Of.allocation c.in-Of.node c.args.p.addr c.args.inside.now) c.args.allocs.now c.args.parents.now c.args.protectors.now c.retag_refusal-refused.new.inside = λ m h. holds_after (reads_at m c.in-Of.allocation c.in-Of.node c.args.p.addr c.args.inside.now) m c.in-Of.allocation (passed m h).fits.reached.made h
     (tested-made c.args.inside.now (c.retag_refusal-refused.ensures.tested m _ _ (trees-of h) (located m h) c.in-Of.is) c.if-refused-ne0.false) in
     let (m, h) = c.requires.holds_marked in record { located = (m, (located m h, passed m h, h.valid, read m h)); provenance_value = c.in-Of.is; inside_value = c.requires.inside_value }
 
@@ -180,7 +176,7 @@ overflow_cast-result c = let known : (m : Memory) → HoldsMarked m c.args.alloc
     let made : (m : Memory) → HoldsMarked m c.args.allocs.now c.args.parents.now c.args.protectors.now c.args.codes.now
     → c.in-Of.allocation < length m = λ m h. points-made c.args.p c.in-Of.is (known m h) in
     let located : (m : Memory) → HoldsMarked m c.args.allocs.now c.args.parents.now c.args.protectors.now c.args.codes.now
-    → Located m c.args.allocs.now (provenance_of c.args.p.provenance) c.in-Of.allocation (target-of-before-never-made (never-made-before-used-behind c.before.before.before.before.before.before.before.before.before.before.before.before.before.before.before.before.before.before)).target-of.result c.used_behind-used.result c.parts_of-t.result = λ m h. let r = (trees-of h).records in
+    → Located m c.args.allocs.now (provenance_of c.args.p.provenance) c.in-Of.allocation c.target_of-a.result c.used_behind-used.result c.parts_of-t.result = λ m h. let r = (trees-of h).records in
     let u = c.used_behind-used.ensures m r in
     record {
       made = (known m h).made;
@@ -190,8 +186,7 @@ overflow_cast-result c = let known : (m : Memory) → HoldsMarked m c.args.alloc
     } in
     let passed : (m : Memory) → HoldsMarked m c.args.allocs.now c.args.parents.now c.args.protectors.now c.args.codes.now → Passed m c.in-Of.allocation c.in-Of.node c.args.p.addr (length c.args.inside.now) = λ m h. (c.retag_refusal-refused.ensures.tested m _ _ (trees-of h) (located m h) c.in-Of.is).passed c.if-refused-ne0.false in
     let read : (m : Memory) → HoldsMarked m c.args.allocs.now c.args.parents.now c.args.protectors.now c.args.codes.now
-    → HoldsMarked (after_reads m c.in-Of.allocation c.in-Of.node c.args.p.addr c.args.inside.now) c.args.allocs.now c.args.parents.now c.args.protectors.now c.retag_refusal-refused.new.inside = λ m h. let of = c.provenance-1.given.0 in
-    holds_after (reads_at m of.0 of.1.0 c.args.p.addr c.args.inside.now) m of.0 (passed m h).fits.reached.made h
+    → HoldsMarked (after_reads m c.in-Of.allocation c.in-Of.node c.args.p.addr c.args.inside.now) c.args.allocs.now c.args.parents.now c.args.protectors.now c.retag_refusal-refused.new.inside = λ m h. holds_after (reads_at m c.in-Of.allocation c.in-Of.node c.args.p.addr c.args.inside.now) m c.in-Of.allocation (passed m h).fits.reached.made h
     (tested-made c.args.inside.now (c.retag_refusal-refused.ensures.tested m _ _ (trees-of h) (located m h) c.in-Of.is) c.if-refused-ne0.false) in
     let (m, h) = c.requires.holds_marked in
     let k = passed m h in
@@ -215,7 +210,7 @@ returns-else-refused-ne0 c = let known : (m : Memory) → HoldsMarked m c.args.a
     let made : (m : Memory) → HoldsMarked m c.args.allocs.now c.args.parents.now c.args.protectors.now c.args.codes.now
     → c.in-Of.allocation < length m = λ m h. points-made c.args.p c.in-Of.is (known m h) in
     let located : (m : Memory) → HoldsMarked m c.args.allocs.now c.args.parents.now c.args.protectors.now c.args.codes.now
-    → Located m c.args.allocs.now (provenance_of c.args.p.provenance) c.in-Of.allocation (target-of-before-never-made (never-made-before-used-behind c.before.before.before.before.before.before.before.before.before.before.before.before.before.before.before.before.before.before)).target-of.result c.used_behind-used.result c.parts_of-t.result = λ m h. let r = (trees-of h).records in
+    → Located m c.args.allocs.now (provenance_of c.args.p.provenance) c.in-Of.allocation c.target_of-a.result c.used_behind-used.result c.parts_of-t.result = λ m h. let r = (trees-of h).records in
     let u = c.used_behind-used.ensures m r in
     record {
       made = (known m h).made;
@@ -225,8 +220,7 @@ returns-else-refused-ne0 c = let known : (m : Memory) → HoldsMarked m c.args.a
     } in
     let passed : (m : Memory) → HoldsMarked m c.args.allocs.now c.args.parents.now c.args.protectors.now c.args.codes.now → Passed m c.in-Of.allocation c.in-Of.node c.args.p.addr (length c.args.inside.now) = λ m h. (c.retag_refusal-refused.ensures.tested m _ _ (trees-of h) (located m h) c.in-Of.is).passed c.if-refused-ne0.false in
     let read : (m : Memory) → HoldsMarked m c.args.allocs.now c.args.parents.now c.args.protectors.now c.args.codes.now
-    → HoldsMarked (after_reads m c.in-Of.allocation c.in-Of.node c.args.p.addr c.args.inside.now) c.args.allocs.now c.args.parents.now c.args.protectors.now c.retag_refusal-refused.new.inside = λ m h. let of = c.provenance-1.given.0 in
-    holds_after (reads_at m of.0 of.1.0 c.args.p.addr c.args.inside.now) m of.0 (passed m h).fits.reached.made h
+    → HoldsMarked (after_reads m c.in-Of.allocation c.in-Of.node c.args.p.addr c.args.inside.now) c.args.allocs.now c.args.parents.now c.args.protectors.now c.retag_refusal-refused.new.inside = λ m h. holds_after (reads_at m c.in-Of.allocation c.in-Of.node c.args.p.addr c.args.inside.now) m c.in-Of.allocation (passed m h).fits.reached.made h
     (tested-made c.args.inside.now (c.retag_refusal-refused.ensures.tested m _ _ (trees-of h) (located m h) c.in-Of.is) c.if-refused-ne0.false) in
     λ s frame mask h a.
     let m = s.memory in

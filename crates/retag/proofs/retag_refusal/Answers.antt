@@ -65,13 +65,13 @@ returns c = let tested : let a = c.args in (m : Memory) (A : List ℕ) (n : ℕ)
     → c.place_in-from.result ≡ place_in (allocation_at m n).address a.p.addr (length a.inside.now) = λ m A n h l of. let a = c.args in
     c.place_in-from.ensures
     ∙ ap (λ (k : ℕ). place_in k a.p.addr (length a.inside.now)) (read-address h.records (tests-passed m A n h l of).fits.reached.made (own a.p h.records l of)) in
-    let reads = c.make_reads in record {
+    record {
       value = λ s frame mask A n h l of a.
           let at = place s.memory A n h l of in
-          (reads.ensures s.memory n (tree-at h l.part) (fits-at (tests-passed s.memory A n h l of) at).reached).refusal
+          (c.make_reads.ensures s.memory n (tree-at h l.part) (fits-at (tests-passed s.memory A n h l of) at).reached).refusal
           ∙ refused-by-reads c.args.settings mask frame c.args.entries s a c.args.p of h.records.valid (sym (tested s.memory A n h l of) ∙ c.if-refused-ne0.false) at;
       tested = λ m A n h l of.
           let at = place m A n h l of in
           let fits = tests-passed m A n h l of in
-          tested-read c.args.inside.now fits at (reads.ensures m n (tree-at h l.part) (fits-at fits at).reached);
+          tested-read c.args.inside.now fits at (c.make_reads.ensures m n (tree-at h l.part) (fits-at fits at).reached);
     }

@@ -10,7 +10,7 @@ clear_memory-requires c = let lent : Buffers = buffers c.args.allocs.now c.args.
 
 pub clear-requires : goal.clear-requires
 clear-requires c = let lent : Buffers = buffers c.args.allocs.now c.args.parents.now c.args.protectors.now c.args.words.now c.args.codes.now in
-    let s = entry (emptied c).before in of-frames (lent s) s.args.frames.now s.pre
+    of-frames (lent) c.args.frames.now c.requires
 
 pub returns : goal.returns
-returns c = empty-held (emptied (closed c).before).clear-memory.ensures c.clear.ensures
+returns c = empty-held c.clear_memory.ensures c.clear.ensures

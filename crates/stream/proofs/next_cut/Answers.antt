@@ -10,13 +10,9 @@ pub returns-then-bytes-lt16 : goal.returns-then-bytes-lt16
 returns-then-bytes-lt16 c = record { size = size-short c.args.bytes.now (omega arith); fields = λ h. absurd (omega arith) }
 
 pub returns-then-n-gt4096 : goal.returns-then-n-gt4096
-returns-then-n-gt4096 c = let n = c.following_length-n in
-    let q = c.head_of-fields in
-    let bytes = c.args.bytes.now in
-    record { size = size-many bytes n.result (n.ensures.0 (drop 4 (words_of bytes)) ∙ head-follows q.result bytes q.ensures) (omega arith); fields = λ h. q.ensures }
+returns-then-n-gt4096 c = let bytes = c.args.bytes.now in
+    record { size = size-many bytes c.following_length-n.result (c.following_length-n.ensures.0 (drop 4 (words_of bytes)) ∙ head-follows c.head_of-fields.result bytes c.head_of-fields.ensures) (omega arith); fields = λ h. c.head_of-fields.ensures }
 
 pub returns : goal.returns
-returns c = let n = c.following_length-n in
-    let q = c.head_of-fields in
-    let bytes = c.args.bytes.now in
-    record { size = size_few bytes n.result (n.ensures.0 (drop 4 (words_of bytes)) ∙ head-follows q.result bytes q.ensures) (omega arith); fields = λ h. q.ensures }
+returns c = let bytes = c.args.bytes.now in
+    record { size = size_few bytes c.following_length-n.result (c.following_length-n.ensures.0 (drop 4 (words_of bytes)) ∙ head-follows c.head_of-fields.result bytes c.head_of-fields.ensures) (omega arith); fields = λ h. c.head_of-fields.ensures }

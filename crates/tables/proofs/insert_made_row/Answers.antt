@@ -14,7 +14,7 @@ pub returns : goal.returns
 returns c = let a = c.args in
     let C = a.c.now in
     let D = c.shift_right.new.c in
-    let k : length D ≡ length C = c.shift_right.kept.0 in
+    let k : length D ≡ length C = c.shift_right.auto.c in
     let row : List ℕ = write_at a.from a.inside.now (replicate a.width a.outside) in
     let long : length row ≡ a.width = write-length a.from a.inside.now (replicate a.width a.outside) ∙ length-replicate a.width a.outside in
     let h : a.p + a.width ≤ length C = omega arith in

@@ -14,16 +14,23 @@ write-wide : (from : ℕ) (inside : List ℕ) (width outside : ℕ) → length (
 write-wide from inside width outside = write-length from inside (replicate width outside) ∙ length-replicate width outside
 
 pub insert_one_in_used-requires : goal.insert_one_in_used-requires
-insert_one_in_used-requires c = let (ok, at) = c.requires.node_fits.1.1 in parents-moved _ ok at.behind at.used
+insert_one_in_used-requires c =
+    let (ok, at) = c.requires.node_fits.1.1 in
+    let k = parents-moved _ ok at.behind at.used in
+    record { zeros_from = k.0; p_le_used = k.1 }
 
 pub insert_row_in_used-requires : goal.insert_row_in_used-requires
-insert_row_in_used-requires c = let (ok, at) = c.requires.node_fits.1.1 in protectors-moved _ ok at.behind at.used
+insert_row_in_used-requires c =
+    let (ok, at) = c.requires.node_fits.1.1 in
+    let k = protectors-moved _ ok at.behind at.used in
+    record { zeros_from = k.0; p_le_used = k.1 }
 
 pub insert_made_row_in_used-requires : goal.insert_made_row_in_used-requires
-insert_made_row_in_used-requires c = let s = entry-before-one (one-before-row c.before.before.before) in
-    let (ok, at) = s.pre.0.1.1 in
+insert_made_row_in_used-requires c =
+    let (ok, at) = c.requires.node_fits.1.1 in
     let k = codes-moved _ ok at.behind at.used in
-    let long = write-wide s.args.from s.args.inside.now s.args.width s.args.outside in record { zeros_from = k.0; p_le_used = (k.1.0, omega (arith, k.1.1, long)); inside_bound = s.pre.1 }
+    let long = write-wide c.args.from c.args.inside.now c.args.width c.args.outside in
+    record { zeros_from = k.0; p_le_used = (k.1.0, omega (arith, k.1.1, long)); inside_bound = c.requires.inside_bound }
 
 pub bounds-allocs-p : goal.bounds-allocs-p
 bounds-allocs-p c = count-in _ c.requires.node_fits.1.1.0

@@ -16,7 +16,7 @@ returns c = let a = c.args in
     let R = a.row.now in
     let p = a.p in
     let D = c.shift_right.new.c in
-    let k : length D ≡ length C = c.shift_right.kept.0 in
+    let k : length D ≡ length C = c.shift_right.auto.c in
     let h : p + length R ≤ length C = omega arith in
     let h2 : p + length R ≤ length D = omega arith in
     ap (λ (l : List ℕ). put_mid p (length D - p) D l) c.copy_row.ensures

@@ -21,7 +21,7 @@ returns c = let a = c.args in
     let e = a.from + length I in
     let behind = replicate (length row - e) a.outside in
     let D1 = c.fill.new.d in
-    let k1 : length D1 ≡ length row = c.fill.kept.0 in
+    let k1 : length D1 ≡ length row = c.fill.auto.d in
     let D2 = put_mid a.from (length D1 - a.from) D1 c.copy_row.new.dst in
     let written : D2 ≡ write_at a.from I D1 = put-write D1 I a.from (omega arith) c.copy_row.ensures in
     let k2 : length D2 ≡ length row = ap length written ∙ write-length a.from I D1 ∙ k1 in

@@ -13,8 +13,6 @@ overflow_cast-loaded c = omega (arith, ap length c.loaded_words-loaded.ensures.l
 pub returns : goal.returns
 returns c = let a = c.args in
     let words = a.words.now in
-    let loaded = c.loaded_words-loaded in
-    let head = c.heading_of-head in
     λ text before h.
-    rw (answer-behind text (answer_of a.answer words) loaded.result.now head.result loaded.ensures.loaded (head.ensures words)) at
-    (c.put_each.ensures (text ++ head.result) before (c.put_each-behind_head.ensures text before h))
+    rw (answer-behind text (answer_of a.answer words) c.loaded_words-loaded.result.now c.heading_of-head.result c.loaded_words-loaded.ensures.loaded (c.heading_of-head.ensures words)) at
+    (c.put_each.ensures (text ++ c.heading_of-head.result) before (c.put_each-behind_head.ensures text before h))

@@ -44,7 +44,7 @@ slice_bounds-any_bad_word-end c = sym (length-take-le _ _ c.if-size-words.false)
 pub returns-then-any_bad_word : goal.returns-then-any_bad_word
 unfolding bad_allocation
 returns-then-any_bad_word c = let good : let A = c.args.allocs.now in bad_record (get_or A 0 0) (get_or A 1 0) (get_or A 2 0) (get_or A 3 0) (get_or A 4 0) (get_or A 5 0) ≡ false = sym c.bad_record.ensures ∙ c.if-bad_record.false in
-    let others : let a = (entry (announced c.before.before)).args in
+    let others : let a = c.args in
     let A = a.allocs.now in
     bad_allocation A a.parents.now a.protectors.now a.words.now a.codes.now
     ≡ any bad_word (take (get_or A 4 0) a.words.now)
@@ -57,7 +57,7 @@ bad_nodes-requires c = record { parents = c.if-count-parents.false; protectors =
 pub returns : goal.returns
 unfolding bad_allocation
 returns c = let good : let A = c.args.allocs.now in bad_record (get_or A 0 0) (get_or A 1 0) (get_or A 2 0) (get_or A 3 0) (get_or A 4 0) (get_or A 5 0) ≡ false = sym c.bad_record.ensures ∙ c.if-bad_record.false in
-    let others : let a = (entry (announced c.before.before.before)).args in
+    let others : let a = c.args in
     let A = a.allocs.now in
     bad_allocation A a.parents.now a.protectors.now a.words.now a.codes.now
     ≡ any bad_word (take (get_or A 4 0) a.words.now)

@@ -20,12 +20,12 @@ returns-then-any_nonzero_u8 c = sym (rw (sym c.any_nonzero_u64.ensures ∙ c.if-
 
 pub returns-then-any_nonzero_u32 : goal.returns-then-any_nonzero_u32
 unfolding bad_rest
-returns-then-any_nonzero_u32 c = let others : let a = (entry (first c.before.before)).args in
+returns-then-any_nonzero_u32 c = let others : let a = c.args in
     bad_rest a.allocs.now a.parents.now a.protectors.now a.words.now a.codes.now ≡ any nonzero a.words.now || any nonzero a.codes.now = rw (sym c.any_nonzero_u64.ensures ∙ c.if-any_nonzero_u64.false, sym c.any_nonzero_u16.ensures ∙ c.if-any_nonzero_u16.false, sym c.any_nonzero_u8.ensures ∙ c.if-any_nonzero_u8.false) in
     sym (others ∙ rw (sym c.any_nonzero_u32.ensures ∙ c.if-any_nonzero_u32.true))
 
 pub returns : goal.returns
 unfolding bad_rest
-returns c = let others : let a = (entry (first c.before.before.before)).args in
+returns c = let others : let a = c.args in
     bad_rest a.allocs.now a.parents.now a.protectors.now a.words.now a.codes.now ≡ any nonzero a.words.now || any nonzero a.codes.now = rw (sym c.any_nonzero_u64.ensures ∙ c.if-any_nonzero_u64.false, sym c.any_nonzero_u16.ensures ∙ c.if-any_nonzero_u16.false, sym c.any_nonzero_u8.ensures ∙ c.if-any_nonzero_u8.false) in
     c.any_nonzero_u8-2.ensures ∙ sym (others ∙ rw (sym c.any_nonzero_u32.ensures ∙ c.if-any_nonzero_u32.false))

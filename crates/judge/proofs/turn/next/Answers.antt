@@ -26,7 +26,7 @@ answer_bytes-answered-requires c = let ends : let a = c.args in c.request_end-en
     }
 
 pub overflow_add-result : goal.overflow_add-result
-overflow_add-result c = omega (arith, (entry (cut c.before.before.before.before.before.before.before.before.before.before.before.before.before.before.before.before.before.before.before.before.before.before.before.before).before).requires.1.0.1.1.1)
+overflow_add-result c = omega (arith, c.requires.line_room_in_bounds.1.1.1)
 
 pub returns : goal.returns
 returns c = let ends : let a = c.args in c.request_end-end.result ≡ request_end a.run.now a.p.from = let from = c.args.p.from in

@@ -14,8 +14,7 @@ returns-then-bytes-lt16 c = let bytes = c.args.bytes.now in
     λ r h. turned-short h (words_of bytes) (few_words bytes c.if-bytes-lt16.true) refl
 
 pub slice_bounds-turn_decoded-end : goal.slice_bounds-turn_decoded-end
-slice_bounds-turn_decoded-end c = let read = c.read_words-n in
-    omega (arith, read.ensures.count, ap length read.ensures.words, length-take read.result read.new.1.0)
+slice_bounds-turn_decoded-end c = omega (arith, c.read_words-n.ensures.count, ap length c.read_words-n.ensures.words, length-take c.read_words-n.result c.read_words-n.new.words)
 
 pub slice_bounds-turn_decoded-end-2 : goal.slice_bounds-turn_decoded-end-2
 slice_bounds-turn_decoded-end-2 c = let k = c.read_words-n.ensures in

@@ -25,30 +25,27 @@ pub next-p-requires : goal.next-p-requires
 next-p-requires c = let going : let l = c.loop-from in let run = c.args.run.now in
     (l.p.refused ≡ false) × ((l.p.from < length run) × (l.p.at + line_room ≤ length l.out)) = let l = c.loop-from in goes l.p (length c.args.run.now) (length l.out) (sym c.goes_on.ensures ∙ c.loop-from-test.true) in
     let l = c.loop-from in
-    let a = entry (tested c).before.before.before in
     let h = l.inv.0.performing in
     let g = going in
-    let part = subst (λ (bytes : List ℕ). CutOf bytes c.next_cut-cut.result) (take_all (length a.args.run.now - l.p.from) (drop l.p.from a.args.run.now) (omega (arith, length-drop l.p.from a.args.run.now))) c.next_cut-cut.ensures in record { holds_run = (h.state, h.holds); line_room_in_bounds = (g.1.1, (l.inv.1.1.1.1.1.1.1.0 ∙ a.pre.1, (g.1.0, omega (arith, h.counted, g.1.0, a.good)))); cut_of = part }
+    let part = subst (λ (bytes : List ℕ). CutOf bytes c.next_cut-cut.result) (take_all (length c.args.run.now - l.p.from) (drop l.p.from c.args.run.now) (omega (arith, length-drop l.p.from c.args.run.now))) c.next_cut-cut.ensures in record { holds_run = (h.state, h.holds); line_room_in_bounds = (g.1.1, (l.inv.1.1.1.1.1.1.1.0 ∙ c.requires.request_len, (g.1.0, omega (arith, h.counted, g.1.0, c.good)))); cut_of = part }
 
 pub loop-from-smaller : goal.loop-from-smaller
 loop-from-smaller c = let going : let l = c.loop-from in let run = c.args.run.now in
     (l.p.refused ≡ false) × ((l.p.from < length run) × (l.p.at + line_room ≤ length l.out)) = let l = c.loop-from in goes l.p (length c.args.run.now) (length l.out) (sym c.goes_on.ensures ∙ c.loop-from-test.true) in
-    let one_more : let l = c.loop-from in let k = c.next-p in
-    Taken l.inv.0.performing.state (entry (head c.before.before.before.before.before.before.before.before.before.before.before.before.before.before.before.before).before).args.run.now l.p l.out k.result k.new.1.1.1.1.1.1.1.1.0 (buffers k.new.0 k.new.1.0 k.new.1.1.0 k.new.1.1.1.0 k.new.1.1.1.1.0) k.new.1.1.1.1.1.0 = let h = c.loop-from.invariant.0.performing in c.next-p.ensures h.state h.holds in
+    let one_more : let l = c.loop-from in Taken l.inv.0.performing.state c.args.run.now l.p l.out c.next-p.result c.next-p.new.out (buffers c.next-p.new.allocs c.next-p.new.parents c.next-p.new.protectors c.next-p.new.words c.next-p.new.codes) c.next-p.new.frames = let h = c.loop-from.invariant.0.performing in c.next-p.ensures h.state h.holds in
     let l = c.loop-from in
-    let run = (entry (head c.before.before.before.before.before.before.before.before.before.before.before.before.before.before.before.before).before).args.run.now in
+    let run = c.args.run.now in
     let g = going in
     omega (arith, (one_more).from, end-ahead run l.p.from g.1.0, end-within run l.p.from l.inv.0.performing.within, g.1.0)
 
 pub loop-from-preserved : goal.loop-from-preserved
 loop-from-preserved c = let going : let l = c.loop-from in let run = c.args.run.now in
     (l.p.refused ≡ false) × ((l.p.from < length run) × (l.p.at + line_room ≤ length l.out)) = let l = c.loop-from in goes l.p (length c.args.run.now) (length l.out) (sym c.goes_on.ensures ∙ c.loop-from-test.true) in
-    let one_more : let l = c.loop-from in let k = c.next-p in
-    Taken l.inv.0.performing.state (entry (head c.before.before.before.before.before.before.before.before.before.before.before.before.before.before.before.before).before).args.run.now l.p l.out k.result k.new.1.1.1.1.1.1.1.1.0 (buffers k.new.0 k.new.1.0 k.new.1.1.0 k.new.1.1.1.0 k.new.1.1.1.1.0) k.new.1.1.1.1.1.0 = let h = c.loop-from.invariant.0.performing in c.next-p.ensures h.state h.holds in
+    let one_more : let l = c.loop-from in Taken l.inv.0.performing.state c.args.run.now l.p l.out c.next-p.result c.next-p.new.out (buffers c.next-p.new.allocs c.next-p.new.parents c.next-p.new.protectors c.next-p.new.words c.next-p.new.codes) c.next-p.new.frames = let h = c.loop-from.invariant.0.performing in c.next-p.ensures h.state h.holds in
     let i = c.loop-from.inv in
     let g = going in
     let k = one_more in
-    let e = c.next-p.kept in
+    let e = c.next-p.auto in
     (record { performing = performing-next i.0.performing g.0 g.1.0 (advanced k); fits = k.turned.line.written.fits }, (e.0 ∙ i.1.0, (e.1.0 ∙ i.1.1.0, (e.1.1.0 ∙ i.1.1.1.0, (e.1.1.1.0 ∙ i.1.1.1.1.0, (e.1.1.1.1.0 ∙ i.1.1.1.1.1.0, (e.1.1.1.1.1.0 ∙ i.1.1.1.1.1.1.0, (e.1.1.1.1.1.1.1.0 ∙ i.1.1.1.1.1.1.1.0, e.1.1.1.1.1.1.1.1.0 ∙ i.1.1.1.1.1.1.1.1))))))))
 
 pub shape_of-allocs : goal.shape_of-allocs

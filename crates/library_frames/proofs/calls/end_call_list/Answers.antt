@@ -23,9 +23,7 @@ end_call_held-requires c = let memory : Buffers = buffers c.args.allocs.now c.ar
 pub returns : goal.returns
 returns c = let memory : Buffers = buffers c.args.allocs.now c.args.parents.now c.args.protectors.now c.args.words.now c.args.codes.now in
     let fine : is_lent_with_area c.args.width c.args.len c.args.count c.args.area.now (memory) ≡ true = sym c.is_lent_with_area.ensures ∙ not-false _ c.if-not-is_lent_with_area.false-raw in
-    let lent = passed (ended c) in
-    let s = entry lent.before in
-    let b = memory s in
-    let t = s.args in
+    let b = memory in
+    let t = c.args in
     let left = c.end_call_held.ensures in
-    ended-lent t.width t.len t.count t.area.now b (fine lent) (left.0 (view b) (holds-marked (memory-lent t.width t.len t.count t.area.now b (fine lent)))) left.1
+    ended-lent t.width t.len t.count t.area.now b (fine) (left.0 (view b) (holds-marked (memory-lent t.width t.len t.count t.area.now b (fine)))) left.1

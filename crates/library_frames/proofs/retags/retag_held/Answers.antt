@@ -12,7 +12,7 @@ use Rattle.library_frames.proofs.Masks.{blank, blank-length, performed-mask, per
 use Rattle.library_frames.proofs.retags.retag_held.Goals as goal
 
 pub retag_without_node-requires : goal.retag_without_node-requires
-retag_without_node-requires c = let held = c.requires in (held.0, records-of held.1)
+retag_without_node-requires c = (c.requires.0, records-of c.requires.1)
 
 pub returns-then-adds_no_node : goal.returns-then-adds_no_node
 returns-then-adds_no_node c = let t = c.args in
@@ -21,13 +21,13 @@ returns-then-adds_no_node c = let t = c.args in
     held.trees
 
 pub reborrow-requires : goal.reborrow-requires
-reborrow-requires c = let has-mask : let layout = (asked (filled c)).args.layout.now in HasMask layout blank (afterwards layout blank) c.in-Of.len = answers_of (asked (filled c)).args.layout.now blank blank-length _ (sym c.in-Of.is ∙ c.freeze_mask-found.ensures.0) in
-    let mask = found (settings c) in record { holds_marked = (asked (filled mask)).requires; len_in_bounds = omega (arith, (has-mask mask).bound, (filled mask).freeze-mask.kept.1.0, blank-length) }
+reborrow-requires c = let has-mask : let layout = c.args.layout.now in HasMask layout blank (afterwards layout blank) c.in-Of.len = answers_of c.args.layout.now blank blank-length _ (sym c.in-Of.is ∙ c.freeze_mask-found.ensures.0) in
+    record { holds_marked = c.requires; len_in_bounds = omega (arith, (has-mask).bound, c.freeze_mask-found.auto.mask, blank-length) }
 
 pub returns-in-Of : goal.returns-in-Of
 returns-in-Of c = let adds : adds_no_node (fields_of c.args.settings) ≡ false = sym c.adds_no_node.ensures ∙ c.if-adds_no_node.false in
-    let has-mask : let layout = (asked (filled c)).args.layout.now in HasMask layout blank (afterwards layout blank) c.in-Of.len = answers_of (asked (filled c)).args.layout.now blank blank-length _ (sym c.in-Of.is ∙ c.freeze_mask-found.ensures.0) in
-    let t = (asked (filled c)).args in
+    let has-mask : let layout = c.args.layout.now in HasMask layout blank (afterwards layout blank) c.in-Of.len = answers_of c.args.layout.now blank blank-length _ (sym c.in-Of.is ∙ c.freeze_mask-found.ensures.0) in
+    let t = c.args in
     λ s held count.
     performed-node t.settings (thin_pointer_of t.p) t.layout.now s (adds)
     (performed-mask t.settings (thin_pointer_of t.p) t.layout.now s c.reborrow_settings-w.result c.reborrow_settings-w.ensures blank _ (has-mask) _ c.freeze_mask-found.ensures.1

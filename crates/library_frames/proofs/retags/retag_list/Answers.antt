@@ -29,9 +29,7 @@ retag_held-answer-requires c = let memory : Buffers = buffers c.args.allocs.now 
 pub with_entry-requires : goal.with_entry-requires
 with_entry-requires c = let memory : Buffers = buffers c.args.allocs.now c.args.parents.now c.args.protectors.now c.args.words.now c.args.codes.now in
     let fine : is_lent c.args.width c.args.len c.args.count (memory) ≡ true = sym c.is_lent.ensures ∙ not-false _ c.if-not-is_lent.false-raw in
-    let passed = (good (made c)).before.before in
-    let s = entry passed.before in
-    lent-count s.args.width s.args.len s.args.count (memory s) (fine passed)
+    lent-count c.args.width c.args.len c.args.count (memory) (fine)
 
 pub returns : goal.returns
 returns c = let memory : Buffers = buffers c.args.allocs.now c.args.parents.now c.args.protectors.now c.args.words.now c.args.codes.now in

@@ -24,8 +24,7 @@ pointer_refusal-refused-requires c = record { size_bound = target-space c.requir
 pub returns-then-refused-ne0 : goal.returns-then-refused-ne0
 returns-then-refused-ne0 c = record {
   accessed = (λ m bytes h.
-      let refused = c.pointer_refusal-refused in
-      unvisited-accessed _ h refused.result (refused.ensures m _ h.records c.target_of-a.ensures) (λ z. absurd (c.if-refused-ne0.true z)));
+      unvisited-accessed _ h c.pointer_refusal-refused.result (c.pointer_refusal-refused.ensures m _ h.records c.target_of-a.ensures) (λ z. absurd (c.if-refused-ne0.true z)));
   start_value = (λ m h z. absurd (c.if-refused-ne0.true z));
 }
 
@@ -35,10 +34,9 @@ returns-then-len-eq0 c = record { accessed = (λ m bytes h. unvisited-accessed _
 pub overflow_sub-start : goal.overflow_sub-start
 overflow_sub-start c = let passed : (m : Memory) → HoldsTrees m c.args.allocs.now c.args.parents.now c.args.codes.now
     → Checked m (thin_pointer_of c.args.p) c.args.len = λ m h. let a = c.args in
-    let refused = c.pointer_refusal-refused in
-    checked (thin_pointer_of a.p) a.len a.exponent m refused.result (refused.ensures m _ h.records c.target_of-a.ensures) c.if-refused-ne0.false in
+    checked (thin_pointer_of a.p) a.len a.exponent m c.pointer_refusal-refused.result (c.pointer_refusal-refused.ensures m _ h.records c.target_of-a.ensures) c.if-refused-ne0.false in
     let reach : (m : Memory) → HoldsTrees m c.args.allocs.now c.args.parents.now c.args.codes.now
-    → let of = c.provenance-1.given.0 in Reached m of.0 of.1.0 c.args.p.addr c.args.len = λ m h. reached-through c.args.p c.in-Of.is c.if-len-eq0.false (passed m h) in
+    → Reached m c.in-Of.allocation c.in-Of.node c.args.p.addr c.args.len = λ m h. reached-through c.args.p c.in-Of.is c.if-len-eq0.false (passed m h) in
     let own : (m : Memory) → HoldsTrees m c.args.allocs.now c.args.parents.now c.args.codes.now
     → c.target_of-a.result ≡ record_at c.args.allocs.now c.in-Of.allocation = λ m h. points-read c.args.p c.in-Of.is (record { records = h.records; made = (passed m h).made }) c.target_of-a.ensures in
     let (m, h) = c.requires.holds_trees in
@@ -48,8 +46,7 @@ overflow_sub-start c = let passed : (m : Memory) → HoldsTrees m c.args.allocs.
 pub overflow_add-start : goal.overflow_add-start
 overflow_add-start c = let passed : (m : Memory) → HoldsTrees m c.args.allocs.now c.args.parents.now c.args.codes.now
     → Checked m (thin_pointer_of c.args.p) c.args.len = λ m h. let a = c.args in
-    let refused = c.pointer_refusal-refused in
-    checked (thin_pointer_of a.p) a.len a.exponent m refused.result (refused.ensures m _ h.records c.target_of-a.ensures) c.if-refused-ne0.false in
+    checked (thin_pointer_of a.p) a.len a.exponent m c.pointer_refusal-refused.result (c.pointer_refusal-refused.ensures m _ h.records c.target_of-a.ensures) c.if-refused-ne0.false in
     let own : (m : Memory) → HoldsTrees m c.args.allocs.now c.args.parents.now c.args.codes.now
     → c.target_of-a.result ≡ record_at c.args.allocs.now c.in-Of.allocation = λ m h. points-read c.args.p c.in-Of.is (record { records = h.records; made = (passed m h).made }) c.target_of-a.ensures in
     let (m, h) = c.requires.holds_trees in
@@ -59,10 +56,9 @@ overflow_add-start c = let passed : (m : Memory) → HoldsTrees m c.args.allocs.
 pub access_tree-refusal-requires : goal.access_tree-refusal-requires
 access_tree-refusal-requires c = let passed : (m : Memory) → HoldsTrees m c.args.allocs.now c.args.parents.now c.args.codes.now
     → Checked m (thin_pointer_of c.args.p) c.args.len = λ m h. let a = c.args in
-    let refused = c.pointer_refusal-refused in
-    checked (thin_pointer_of a.p) a.len a.exponent m refused.result (refused.ensures m _ h.records c.target_of-a.ensures) c.if-refused-ne0.false in
+    checked (thin_pointer_of a.p) a.len a.exponent m c.pointer_refusal-refused.result (c.pointer_refusal-refused.ensures m _ h.records c.target_of-a.ensures) c.if-refused-ne0.false in
     let reach : (m : Memory) → HoldsTrees m c.args.allocs.now c.args.parents.now c.args.codes.now
-    → let of = c.provenance-1.given.0 in Reached m of.0 of.1.0 c.args.p.addr c.args.len = λ m h. reached-through c.args.p c.in-Of.is c.if-len-eq0.false (passed m h) in
+    → Reached m c.in-Of.allocation c.in-Of.node c.args.p.addr c.args.len = λ m h. reached-through c.args.p c.in-Of.is c.if-len-eq0.false (passed m h) in
     let own : (m : Memory) → HoldsTrees m c.args.allocs.now c.args.parents.now c.args.codes.now
     → c.target_of-a.result ≡ record_at c.args.allocs.now c.in-Of.allocation = λ m h. points-read c.args.p c.in-Of.is (record { records = h.records; made = (passed m h).made }) c.target_of-a.ensures in
     let found : (m : Memory) → HoldsTrees m c.args.allocs.now c.args.parents.now c.args.codes.now
@@ -73,24 +69,21 @@ pub returns-in-None : goal.returns-in-None
 returns-in-None c = record {
   accessed = (λ m bytes h.
       let a = c.args in
-      let refused = c.pointer_refusal-refusal in
-      let e = refused.ensures m _ h.records c.target_of-a.ensures in
-      unvisited-accessed _ h refused.result e
-      (λ z. none-empty (checked (thin_pointer_of a.p) a.len a.exponent m refused.result e z) (ap provenance_of c.in-None.is)));
+      let e = c.pointer_refusal-refusal.ensures m _ h.records c.target_of-a.ensures in
+      unvisited-accessed _ h c.pointer_refusal-refusal.result e
+      (λ z. none-empty (checked (thin_pointer_of a.p) a.len a.exponent m c.pointer_refusal-refusal.result e z) (ap provenance_of c.in-None.is)));
   start_value = (λ m h z.
       let a = c.args in
-      let refused = c.pointer_refusal-refusal in
-      let e = refused.ensures m _ h.records c.target_of-a.ensures in
-      sym (start_none _ _ m (none-empty (checked (thin_pointer_of a.p) a.len a.exponent m refused.result e z) (ap provenance_of c.in-None.is))));
+      let e = c.pointer_refusal-refusal.ensures m _ h.records c.target_of-a.ensures in
+      sym (start_none _ _ m (none-empty (checked (thin_pointer_of a.p) a.len a.exponent m c.pointer_refusal-refusal.result e z) (ap provenance_of c.in-None.is))));
 }
 
 pub returns-else-len-eq0 : goal.returns-else-len-eq0
 returns-else-len-eq0 c = let passed : (m : Memory) → HoldsTrees m c.args.allocs.now c.args.parents.now c.args.codes.now
     → Checked m (thin_pointer_of c.args.p) c.args.len = λ m h. let a = c.args in
-    let refused = c.pointer_refusal-refused in
-    checked (thin_pointer_of a.p) a.len a.exponent m refused.result (refused.ensures m _ h.records c.target_of-a.ensures) c.if-refused-ne0.false in
+    checked (thin_pointer_of a.p) a.len a.exponent m c.pointer_refusal-refused.result (c.pointer_refusal-refused.ensures m _ h.records c.target_of-a.ensures) c.if-refused-ne0.false in
     let reach : (m : Memory) → HoldsTrees m c.args.allocs.now c.args.parents.now c.args.codes.now
-    → let of = c.provenance-1.given.0 in Reached m of.0 of.1.0 c.args.p.addr c.args.len = λ m h. reached-through c.args.p c.in-Of.is c.if-len-eq0.false (passed m h) in
+    → Reached m c.in-Of.allocation c.in-Of.node c.args.p.addr c.args.len = λ m h. reached-through c.args.p c.in-Of.is c.if-len-eq0.false (passed m h) in
     let own : (m : Memory) → HoldsTrees m c.args.allocs.now c.args.parents.now c.args.codes.now
     → c.target_of-a.result ≡ record_at c.args.allocs.now c.in-Of.allocation = λ m h. points-read c.args.p c.in-Of.is (record { records = h.records; made = (passed m h).made }) c.target_of-a.ensures in
     let found : (m : Memory) → HoldsTrees m c.args.allocs.now c.args.parents.now c.args.codes.now
@@ -98,8 +91,7 @@ returns-else-len-eq0 c = let passed : (m : Memory) → HoldsTrees m c.args.alloc
     record {
       accessed = (λ m bytes h.
           let a = c.args in
-          let refused = c.pointer_refusal-refused in
-          accessed-through a.p c.in-Of.is c.if-len-eq0.false (access_kind a.kind) a.exponent bytes h refused.result (refused.ensures m _ h.records c.target_of-a.ensures) c.if-refused-ne0.false
+          accessed-through a.p c.in-Of.is c.if-len-eq0.false (access_kind a.kind) a.exponent bytes h c.pointer_refusal-refused.result (c.pointer_refusal-refused.ensures m _ h.records c.target_of-a.ensures) c.if-refused-ne0.false
           (c.access_tree-refusal.ensures m _ (found m h) (reach m h)));
       start_value = (λ m h z.
           start-through c.args.p c.in-Of.is c.if-len-eq0.false h.records (passed m h) (own m h));

@@ -6,5 +6,4 @@ use Rattle.memory.proofs.access.load.Goals as goal
 pub returns : goal.returns
 returns c = λ m h.
     let a = c.args in
-    let done = c.access-done in
-    c.loaded.ensures (thin_pointer_of a.p) a.exponent m _ (record { valid = h.records.valid; accessed = done.ensures.0 m [] h; at = done.ensures.1 m h })
+    c.loaded.ensures (thin_pointer_of a.p) a.exponent m _ (record { valid = h.records.valid; accessed = c.access-done.ensures.accessed m [] h; at = c.access-done.ensures.start_value m h })

@@ -17,10 +17,9 @@ stored-requires c = let many : ℕ = c.length_of-many.result in
     let made : (m : Memory) (bytes : List ℕ) {k : AccessKind} {n : ℕ} → c.args.kind ≡ k → many ≡ n
     → HoldsWords m c.args.allocs.now c.args.parents.now c.args.words.now c.args.codes.now
     → Made (access_of (access_kind k) (thin_pointer_of c.args.p) n c.args.exponent bytes) m c.access-done.result.refusal c.access-done.result.start c.access-done.new.codes = λ m bytes e l h. let a = c.args in
-    let done = c.access-done in
-    subst (λ (k : AccessKind). Made (access_of (access_kind k) (thin_pointer_of a.p) n a.exponent bytes) m done.result.refusal done.result.start done.new.1.1.0) e
-    (subst (λ (n : ℕ). Made (access_of (access_kind a.kind) (thin_pointer_of a.p) n a.exponent bytes) m done.result.refusal done.result.start done.new.1.1.0) l
-    (record { valid = h.trees.records.valid; accessed = done.ensures.0 m bytes h.trees; at = done.ensures.1 m h.trees })) in
+    subst (λ (k : AccessKind). Made (access_of (access_kind k) (thin_pointer_of a.p) n a.exponent bytes) m c.access-done.result.refusal c.access-done.result.start c.access-done.new.codes) e
+    (subst (λ (n : ℕ). Made (access_of (access_kind a.kind) (thin_pointer_of a.p) n a.exponent bytes) m c.access-done.result.refusal c.access-done.result.start c.access-done.new.codes) l
+    (record { valid = h.trees.records.valid; accessed = c.access-done.ensures.accessed m bytes h.trees; at = c.access-done.ensures.start_value m h.trees })) in
     let (m, h) = c.requires.holds_words in
     let writes = c.in-Write.is in
     (thin_pointer_of c.args.p, (c.args.exponent, (m, (_, (made m c.args.bytes.now writes (c.length_of-many.ensures.1 writes) h, h.words)))))
@@ -30,10 +29,9 @@ returns-in-Read c = let many : ℕ = c.length_of-many.result in
     let made : (m : Memory) (bytes : List ℕ) {k : AccessKind} {n : ℕ} → c.args.kind ≡ k → many ≡ n
     → HoldsWords m c.args.allocs.now c.args.parents.now c.args.words.now c.args.codes.now
     → Made (access_of (access_kind k) (thin_pointer_of c.args.p) n c.args.exponent bytes) m c.access-done.result.refusal c.access-done.result.start c.access-done.new.codes = λ m bytes e l h. let a = c.args in
-    let done = c.access-done in
-    subst (λ (k : AccessKind). Made (access_of (access_kind k) (thin_pointer_of a.p) n a.exponent bytes) m done.result.refusal done.result.start done.new.1.1.0) e
-    (subst (λ (n : ℕ). Made (access_of (access_kind a.kind) (thin_pointer_of a.p) n a.exponent bytes) m done.result.refusal done.result.start done.new.1.1.0) l
-    (record { valid = h.trees.records.valid; accessed = done.ensures.0 m bytes h.trees; at = done.ensures.1 m h.trees })) in
+    subst (λ (k : AccessKind). Made (access_of (access_kind k) (thin_pointer_of a.p) n a.exponent bytes) m c.access-done.result.refusal c.access-done.result.start c.access-done.new.codes) e
+    (subst (λ (n : ℕ). Made (access_of (access_kind a.kind) (thin_pointer_of a.p) n a.exponent bytes) m c.access-done.result.refusal c.access-done.result.start c.access-done.new.codes) l
+    (record { valid = h.trees.records.valid; accessed = c.access-done.ensures.accessed m bytes h.trees; at = c.access-done.ensures.start_value m h.trees })) in
     let a = c.args in
     let reads = c.in-Read.is in
     let asked = c.length_of-many.ensures.0 reads in record {
@@ -50,9 +48,8 @@ returns-in-Write c = let many : ℕ = c.length_of-many.result in
     let made : (m : Memory) (bytes : List ℕ) {k : AccessKind} {n : ℕ} → c.args.kind ≡ k → many ≡ n
     → HoldsWords m c.args.allocs.now c.args.parents.now c.args.words.now c.args.codes.now
     → Made (access_of (access_kind k) (thin_pointer_of c.args.p) n c.args.exponent bytes) m c.access-done.result.refusal c.access-done.result.start c.access-done.new.codes = λ m bytes e l h. let a = c.args in
-    let done = c.access-done in
-    subst (λ (k : AccessKind). Made (access_of (access_kind k) (thin_pointer_of a.p) n a.exponent bytes) m done.result.refusal done.result.start done.new.1.1.0) e
-    (subst (λ (n : ℕ). Made (access_of (access_kind a.kind) (thin_pointer_of a.p) n a.exponent bytes) m done.result.refusal done.result.start done.new.1.1.0) l
-    (record { valid = h.trees.records.valid; accessed = done.ensures.0 m bytes h.trees; at = done.ensures.1 m h.trees })) in
+    subst (λ (k : AccessKind). Made (access_of (access_kind k) (thin_pointer_of a.p) n a.exponent bytes) m c.access-done.result.refusal c.access-done.result.start c.access-done.new.codes) e
+    (subst (λ (n : ℕ). Made (access_of (access_kind a.kind) (thin_pointer_of a.p) n a.exponent bytes) m c.access-done.result.refusal c.access-done.result.start c.access-done.new.codes) l
+    (record { valid = h.trees.records.valid; accessed = c.access-done.ensures.accessed m bytes h.trees; at = c.access-done.ensures.start_value m h.trees })) in
     let a = c.args in
     let writes = c.in-Write.is in record { loaded = λ m e h. not-both e writes; stored = λ m e h. c.stored.ensures (thin_pointer_of a.p) a.exponent m _ (made m a.bytes.now writes (c.length_of-many.ensures.1 writes) h) h.words }

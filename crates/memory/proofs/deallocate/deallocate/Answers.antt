@@ -14,19 +14,19 @@ pub target_of-a-requires : goal.target_of-a-requires
 target_of-a-requires c = allocs-length (records-of c.requires.1)
 
 pub returns-then-refused-ne0 : goal.returns-then-refused-ne0
-returns-then-refused-ne0 c = let tested : (m : Memory) → let a = (entry-before-of (of-before-tested c.before)).args in HoldsMarked m a.allocs.now a.parents.now a.protectors.now a.codes.now
-    → let of = c.provenance-1.given.0 in c.deallocate_refusal-refused.result ≡ refusal_through (record { allocation = of.0; node = of.1.0 }) a.p.addr a.kind a.len a.exponent m = λ m h. c.deallocate_refusal-refused.ensures m _ (records-of h) c.target_of-a.ensures in
+returns-then-refused-ne0 c = let tested : (m : Memory) → let a = c.args in HoldsMarked m a.allocs.now a.parents.now a.protectors.now a.codes.now
+    → c.deallocate_refusal-refused.result ≡ refusal_through (record { allocation = c.in-Of.allocation; node = c.in-Of.node }) a.p.addr a.kind a.len a.exponent m = λ m h. c.deallocate_refusal-refused.ensures m _ (records-of h) c.target_of-a.ensures in
     let node : (m : Memory) → let a = c.args in HoldsMarked m a.allocs.now a.parents.now a.protectors.now a.codes.now
-    → let of = c.provenance-1.given.0 in NodeIn m of.0 of.1.0 = λ m h. let a = c.args in
+    → NodeIn m c.in-Of.allocation c.in-Of.node = λ m h. let a = c.args in
     node_made _ a.p.addr a.kind a.len a.exponent m c.deallocate_refusal-refused.result (tested m h) c.if-refused-ne0.false in
     λ m k h e.
     refused-through c.args.p c.in-Of.is k e h c.deallocate_refusal-refused.result (tested m h) c.if-refused-ne0.true
 
 pub write_all-prevented-requires : goal.write_all-prevented-requires
-write_all-prevented-requires c = let tested : (m : Memory) → let a = (entry-before-of (of-before-tested c.before.before)).args in HoldsMarked m a.allocs.now a.parents.now a.protectors.now a.codes.now
-    → let of = c.provenance-1.given.0 in c.deallocate_refusal-refused.result ≡ refusal_through (record { allocation = of.0; node = of.1.0 }) a.p.addr a.kind a.len a.exponent m = λ m h. c.deallocate_refusal-refused.ensures m _ (records-of h) c.target_of-a.ensures in
+write_all-prevented-requires c = let tested : (m : Memory) → let a = c.args in HoldsMarked m a.allocs.now a.parents.now a.protectors.now a.codes.now
+    → c.deallocate_refusal-refused.result ≡ refusal_through (record { allocation = c.in-Of.allocation; node = c.in-Of.node }) a.p.addr a.kind a.len a.exponent m = λ m h. c.deallocate_refusal-refused.ensures m _ (records-of h) c.target_of-a.ensures in
     let node : (m : Memory) → let a = c.args in HoldsMarked m a.allocs.now a.parents.now a.protectors.now a.codes.now
-    → let of = c.provenance-1.given.0 in NodeIn m of.0 of.1.0 = λ m h. let a = c.args in
+    → NodeIn m c.in-Of.allocation c.in-Of.node = λ m h. let a = c.args in
     node_made _ a.p.addr a.kind a.len a.exponent m c.deallocate_refusal-refused.result (tested m h) c.if-refused-ne0.false in
     let found : (m : Memory) → let a = c.args in HoldsMarked m a.allocs.now a.parents.now a.protectors.now a.codes.now
     → FoundMarked m c.in-Of.allocation c.target_of-a.result a.parents.now a.protectors.now a.codes.now = λ m h. record {
@@ -37,10 +37,10 @@ write_all-prevented-requires c = let tested : (m : Memory) → let a = (entry-be
     let (m, h) = c.requires in (m, (_, (found m h, node m h)))
 
 pub returns-then-prevented-ne0 : goal.returns-then-prevented-ne0
-returns-then-prevented-ne0 c = let tested : (m : Memory) → let a = (entry-before-of (of-before-tested c.before.before.before.before.before.before)).args in HoldsMarked m a.allocs.now a.parents.now a.protectors.now a.codes.now
-    → let of = c.provenance-1.given.0 in c.deallocate_refusal-refused.result ≡ refusal_through (record { allocation = of.0; node = of.1.0 }) a.p.addr a.kind a.len a.exponent m = λ m h. c.deallocate_refusal-refused.ensures m _ (records-of h) c.target_of-a.ensures in
+returns-then-prevented-ne0 c = let tested : (m : Memory) → let a = c.args in HoldsMarked m a.allocs.now a.parents.now a.protectors.now a.codes.now
+    → c.deallocate_refusal-refused.result ≡ refusal_through (record { allocation = c.in-Of.allocation; node = c.in-Of.node }) a.p.addr a.kind a.len a.exponent m = λ m h. c.deallocate_refusal-refused.ensures m _ (records-of h) c.target_of-a.ensures in
     let node : (m : Memory) → let a = c.args in HoldsMarked m a.allocs.now a.parents.now a.protectors.now a.codes.now
-    → let of = c.provenance-1.given.0 in NodeIn m of.0 of.1.0 = λ m h. let a = c.args in
+    → NodeIn m c.in-Of.allocation c.in-Of.node = λ m h. let a = c.args in
     node_made _ a.p.addr a.kind a.len a.exponent m c.deallocate_refusal-refused.result (tested m h) c.if-refused-ne0.false in
     let found : (m : Memory) → let a = c.args in HoldsMarked m a.allocs.now a.parents.now a.protectors.now a.codes.now
     → FoundMarked m c.in-Of.allocation c.target_of-a.result a.parents.now a.protectors.now a.codes.now = λ m h. record {
@@ -52,10 +52,10 @@ returns-then-prevented-ne0 c = let tested : (m : Memory) → let a = (entry-befo
     prevented-through c.args.p c.in-Of.is k e h c.deallocate_refusal-refused.result (tested m h) c.if-refused-ne0.false (c.write_all-prevented.ensures m _ (found m h) (node m h)) c.if-prevented-ne0.true
 
 pub bounds-allocs-state : goal.bounds-allocs-state
-bounds-allocs-state c = let tested : (m : Memory) → let a = (entry-before-of (of-before-tested c.before.before.before.before.before.before)).args in HoldsMarked m a.allocs.now a.parents.now a.protectors.now a.codes.now
-    → let of = c.provenance-1.given.0 in c.deallocate_refusal-refused.result ≡ refusal_through (record { allocation = of.0; node = of.1.0 }) a.p.addr a.kind a.len a.exponent m = λ m h. c.deallocate_refusal-refused.ensures m _ (records-of h) c.target_of-a.ensures in
+bounds-allocs-state c = let tested : (m : Memory) → let a = c.args in HoldsMarked m a.allocs.now a.parents.now a.protectors.now a.codes.now
+    → c.deallocate_refusal-refused.result ≡ refusal_through (record { allocation = c.in-Of.allocation; node = c.in-Of.node }) a.p.addr a.kind a.len a.exponent m = λ m h. c.deallocate_refusal-refused.ensures m _ (records-of h) c.target_of-a.ensures in
     let node : (m : Memory) → let a = c.args in HoldsMarked m a.allocs.now a.parents.now a.protectors.now a.codes.now
-    → let of = c.provenance-1.given.0 in NodeIn m of.0 of.1.0 = λ m h. let a = c.args in
+    → NodeIn m c.in-Of.allocation c.in-Of.node = λ m h. let a = c.args in
     node_made _ a.p.addr a.kind a.len a.exponent m c.deallocate_refusal-refused.result (tested m h) c.if-refused-ne0.false in
     let (m, h) = c.requires in
     omega (arith, record-in (records-of h) _ (node m h).made)
@@ -64,10 +64,10 @@ pub returns-in-None : goal.returns-in-None
 returns-in-None c = λ m k h e. let a = c.args in missing-through a.p c.in-None.is k a.len a.exponent h
 
 pub returns-else-prevented-ne0 : goal.returns-else-prevented-ne0
-returns-else-prevented-ne0 c = let tested : (m : Memory) → let a = (entry-before-of (of-before-tested c.before.before.before.before.before.before)).args in HoldsMarked m a.allocs.now a.parents.now a.protectors.now a.codes.now
-    → let of = c.provenance-1.given.0 in c.deallocate_refusal-refused.result ≡ refusal_through (record { allocation = of.0; node = of.1.0 }) a.p.addr a.kind a.len a.exponent m = λ m h. c.deallocate_refusal-refused.ensures m _ (records-of h) c.target_of-a.ensures in
+returns-else-prevented-ne0 c = let tested : (m : Memory) → let a = c.args in HoldsMarked m a.allocs.now a.parents.now a.protectors.now a.codes.now
+    → c.deallocate_refusal-refused.result ≡ refusal_through (record { allocation = c.in-Of.allocation; node = c.in-Of.node }) a.p.addr a.kind a.len a.exponent m = λ m h. c.deallocate_refusal-refused.ensures m _ (records-of h) c.target_of-a.ensures in
     let node : (m : Memory) → let a = c.args in HoldsMarked m a.allocs.now a.parents.now a.protectors.now a.codes.now
-    → let of = c.provenance-1.given.0 in NodeIn m of.0 of.1.0 = λ m h. let a = c.args in
+    → NodeIn m c.in-Of.allocation c.in-Of.node = λ m h. let a = c.args in
     node_made _ a.p.addr a.kind a.len a.exponent m c.deallocate_refusal-refused.result (tested m h) c.if-refused-ne0.false in
     let found : (m : Memory) → let a = c.args in HoldsMarked m a.allocs.now a.parents.now a.protectors.now a.codes.now
     → FoundMarked m c.in-Of.allocation c.target_of-a.result a.parents.now a.protectors.now a.codes.now = λ m h. record {

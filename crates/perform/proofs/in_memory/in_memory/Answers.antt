@@ -33,10 +33,10 @@ pub leak_check-requires : goal.leak_check-requires
 leak_check-requires c = (c.requires.0.memory, holds-records c.requires.1.holds)
 
 pub returns-in-Allocate : goal.returns-in-Allocate
-returns-in-Allocate c = λ s h. allocate-left h c.in-Allocate.is c.wide-extra.ensures c.wide-len.ensures c.wide-exponent.ensures (width_of (entry-before-wide (wide-before-allocate c.before.before.before.before)).args.width) (c.allocate.ensures s.memory _ (can h c.in-Allocate.is c.wide-extra.ensures c.wide-len.ensures c.wide-exponent.ensures))
+returns-in-Allocate c = λ s h. allocate-left h c.in-Allocate.is c.wide-extra.ensures c.wide-len.ensures c.wide-exponent.ensures (width_of c.args.width) (c.allocate.ensures s.memory _ (can h c.in-Allocate.is c.wide-extra.ensures c.wide-len.ensures c.wide-exponent.ensures))
 
 pub returns-in-Deallocate : goal.returns-in-Deallocate
-returns-in-Deallocate c = λ s h. deallocate-left h c.in-Deallocate.is c.pointer-p.ensures c.wide-extra.ensures c.wide-len.ensures c.wide-exponent.ensures (width_of (entry-before-wide (wide-before-deallocate c.before.before.before.before)).args.width) (c.deallocate.ensures s.memory _ (holds-marked h.holds) (deallocate-kind h c.in-Deallocate.is c.pointer-p.ensures c.wide-extra.ensures c.wide-len.ensures c.wide-exponent.ensures))
+returns-in-Deallocate c = λ s h. deallocate-left h c.in-Deallocate.is c.pointer-p.ensures c.wide-extra.ensures c.wide-len.ensures c.wide-exponent.ensures (width_of c.args.width) (c.deallocate.ensures s.memory _ (holds-marked h.holds) (deallocate-kind h c.in-Deallocate.is c.pointer-p.ensures c.wide-extra.ensures c.wide-len.ensures c.wide-exponent.ensures))
 
 pub returns-in-Load : goal.returns-in-Load
 returns-in-Load c = λ s h.

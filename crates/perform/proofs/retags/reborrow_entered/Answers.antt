@@ -23,7 +23,7 @@ enter-requires c = let h = c.requires.holds_trees_and_frames.1 in let f = c.fram
 
 pub returns : goal.returns
 returns c = λ s ws h. let f = c.frame_number-f.result in let inside : f < 32 = omega (arith, c.frame_number-f.ensures) in
-    let mask = mask_of (take c.args.len c.args.mask.now) in let w = c.settings-w in let k = c.reborrow-answer.ensures.retagged s f (trees-held h) (c.entry_count-count.ensures s.frames (frames-held h)) in
+    let mask = mask_of (take c.args.len c.args.mask.now) in let k = c.reborrow-answer.ensures.retagged s f (trees-held h) (c.entry_count-count.ensures s.frames (frames-held h)) in
     subst (λ (o : definition.Answer × State). LeftTrees o c.reborrow-answer.result c.reborrow-answer.new.allocs c.reborrow-answer.new.parents c.reborrow-answer.new.protectors c.reborrow-answer.new.codes c.enter.new.frames)
-    (λ i. retag (w.ensures mask ws i) (c.frame_number-f.ensures i) (c.pointer-p.ensures i) s)
-    (left-entered h w.result mask f inside _ k (c.enter.ensures s.frames (frames-held h)))
+    (λ i. retag (c.settings-w.ensures mask ws i) (c.frame_number-f.ensures i) (c.pointer-p.ensures i) s)
+    (left-entered h c.settings-w.result mask f inside _ k (c.enter.ensures s.frames (frames-held h)))

@@ -30,8 +30,8 @@ node_lines-requires c = let nodes : Text = let a = c.args in node_lines a.a 0 (n
     let parts : Rest c.args.out.now c.args.at (record_line c.args.a c.args.x ++ (words_line c.args.a c.args.words.now ++ nodes)) = let a = c.args in
     left_as (allocation-parts a.a a.x a.words.now a.parents.now a.protectors.now a.codes.now c.requires.words_len) (all_left c.requires.room) in
     let behind-record : Rest c.record_line-p.new.out c.record_line-p.result (words_line c.args.a c.args.words.now ++ nodes) = less-left (record_line c.args.a c.args.x) _ (parts) c.record_line-p.ensures in
-    let behind-words : let s = entry (recorded c.before.before.before).before in Rest s c.words_line-q.new.out c.words_line-q.result (nodes s) = let s = entry (recorded c.before.before.before).before in less-left (words_line s.args.a s.args.words.now) _ (behind-record) c.words_line-q.ensures in
-    record { nodes = (entry (recorded c.before.before.before).before).requires.1.0; room = (behind-words).room }
+    let behind-words : Rest c.words_line-q.new.out c.words_line-q.result (nodes) = less-left (words_line c.args.a c.args.words.now) _ (behind-record) c.words_line-q.ensures in
+    record { nodes = c.requires.nodes; room = (behind-words).room }
 
 pub returns : goal.returns
 returns c = let nodes : Text = let a = c.args in node_lines a.a 0 (nodes_in (length a.parents.now) (length a.words.now) a.parents.now a.protectors.now a.codes.now) in
@@ -39,5 +39,5 @@ returns c = let nodes : Text = let a = c.args in node_lines a.a 0 (nodes_in (len
     let parts : Rest c.args.out.now c.args.at (record_line c.args.a c.args.x ++ (words_line c.args.a c.args.words.now ++ nodes)) = let a = c.args in
     left_as (allocation-parts a.a a.x a.words.now a.parents.now a.protectors.now a.codes.now c.requires.words_len) (all_left c.requires.room) in
     let behind-record : Rest c.record_line-p.new.out c.record_line-p.result (words_line c.args.a c.args.words.now ++ nodes) = less-left (record_line c.args.a c.args.x) _ (parts) c.record_line-p.ensures in
-    let behind-words : let s = entry (recorded c.before.before.before.before.before.before).before in Rest s c.words_line-q.new.out c.words_line-q.result (nodes s) = let s = entry (recorded c.before.before.before.before.before.before).before in less-left (words_line s.args.a s.args.words.now) _ (behind-record) c.words_line-q.ensures in
+    let behind-words : Rest c.words_line-q.new.out c.words_line-q.result (nodes) = less-left (words_line c.args.a c.args.words.now) _ (behind-record) c.words_line-q.ensures in
     last_written (behind-words) c.node_lines.ensures

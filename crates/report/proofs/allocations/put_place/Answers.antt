@@ -17,19 +17,19 @@ put_number-q-requires c = let Fields : List ℕ → ℕ → List Text → Type 0
 pub put_number-r-requires : goal.put_number-r-requires
 put_number-r-requires c = let Fields : List ℕ → ℕ → List Text → Type 0 = λ out p fs. Left c.args.out.now c.args.at (ended (decimal c.args.address ∷ decimal c.args.size ∷ decimal c.args.exponent ∷ [])) out p (ended fs) in
     let behind-address : Fields c.put_number-p.new.out c.put_number-p.result (decimal c.args.size ∷ decimal c.args.exponent ∷ []) = field-left _ (all_left c.requires) c.put_number-p.ensures in
-    let behind-size : let s = entry (address c.before.before.before) in Fields s c.put_number-q.new.out c.put_number-q.result (decimal s.args.exponent ∷ []) = field-left _ (behind-address) c.put_number-q.ensures in
+    let behind-size : Fields c.put_number-q.new.out c.put_number-q.result (decimal c.args.exponent ∷ []) = field-left _ (behind-address) c.put_number-q.ensures in
     field_room _ (behind-size)
 
 pub put_byte-requires : goal.put_byte-requires
 put_byte-requires c = let Fields : List ℕ → ℕ → List Text → Type 0 = λ out p fs. Left c.args.out.now c.args.at (ended (decimal c.args.address ∷ decimal c.args.size ∷ decimal c.args.exponent ∷ [])) out p (ended fs) in
     let behind-address : Fields c.put_number-p.new.out c.put_number-p.result (decimal c.args.size ∷ decimal c.args.exponent ∷ []) = field-left _ (all_left c.requires) c.put_number-p.ensures in
-    let behind-size : let s = entry (address c.before.before.before.before.before.before.before) in Fields s c.put_number-q.new.out c.put_number-q.result (decimal s.args.exponent ∷ []) = field-left _ (behind-address) c.put_number-q.ensures in
-    let behind-exponent : Fields (entry (address c.before.before.before.before.before.before.before)) c.put_number-r.new.out c.put_number-r.result [] = field-left _ (behind-size) c.put_number-r.ensures in
+    let behind-size : Fields c.put_number-q.new.out c.put_number-q.result (decimal c.args.exponent ∷ []) = field-left _ (behind-address) c.put_number-q.ensures in
+    let behind-exponent : Fields c.put_number-r.new.out c.put_number-r.result [] = field-left _ (behind-size) c.put_number-r.ensures in
     (end-left (behind-exponent)).room
 
 pub returns : goal.returns
 returns c = let Fields : List ℕ → ℕ → List Text → Type 0 = λ out p fs. Left c.args.out.now c.args.at (ended (decimal c.args.address ∷ decimal c.args.size ∷ decimal c.args.exponent ∷ [])) out p (ended fs) in
     let behind-address : Fields c.put_number-p.new.out c.put_number-p.result (decimal c.args.size ∷ decimal c.args.exponent ∷ []) = field-left _ (all_left c.requires) c.put_number-p.ensures in
-    let behind-size : let s = entry (address c.before.before.before.before.before.before.before.before.before.before) in Fields s c.put_number-q.new.out c.put_number-q.result (decimal s.args.exponent ∷ []) = field-left _ (behind-address) c.put_number-q.ensures in
-    let behind-exponent : Fields (entry (address c.before.before.before.before.before.before.before.before.before.before)) c.put_number-r.new.out c.put_number-r.result [] = field-left _ (behind-size) c.put_number-r.ensures in
+    let behind-size : Fields c.put_number-q.new.out c.put_number-q.result (decimal c.args.exponent ∷ []) = field-left _ (behind-address) c.put_number-q.ensures in
+    let behind-exponent : Fields c.put_number-r.new.out c.put_number-r.result [] = field-left _ (behind-size) c.put_number-r.ensures in
     last_written (end-left (behind-exponent)) c.put_byte.ensures

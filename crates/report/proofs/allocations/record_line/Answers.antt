@@ -25,7 +25,7 @@ put_liveness-r-requires c = let place : List Text = let x = c.args.x in decimal 
     let lives : Text = liveness_name (liveness c.args.x.state) in
     let Fields : List ℕ → ℕ → List Text → Type 0 = λ out p fs. Left c.args.out.now c.args.at (record_line c.args.a c.args.x) out p (ended fs) in
     let behind-letter : Fields c.put_byte-p.new.out c.put_byte-p.result (decimal c.args.a ∷ lives ∷ named ∷ place) = less-left (ascii "a") _ (all_left c.requires) c.put_byte-p.ensures in
-    let behind-number : let s = entry (letter c.before.before.before) in Fields s c.put_number-q.new.out c.put_number-q.result (lives s ∷ named s ∷ place s) = field-left _ (behind-letter) c.put_number-q.ensures in
+    let behind-number : Fields c.put_number-q.new.out c.put_number-q.result (lives ∷ named ∷ place) = field-left _ (behind-letter) c.put_number-q.ensures in
     field_room _ (behind-number)
 
 pub put_kind-s-requires : goal.put_kind-s-requires
@@ -34,8 +34,8 @@ put_kind-s-requires c = let place : List Text = let x = c.args.x in decimal x.ad
     let lives : Text = liveness_name (liveness c.args.x.state) in
     let Fields : List ℕ → ℕ → List Text → Type 0 = λ out p fs. Left c.args.out.now c.args.at (record_line c.args.a c.args.x) out p (ended fs) in
     let behind-letter : Fields c.put_byte-p.new.out c.put_byte-p.result (decimal c.args.a ∷ lives ∷ named ∷ place) = less-left (ascii "a") _ (all_left c.requires) c.put_byte-p.ensures in
-    let behind-number : let s = entry (letter c.before.before.before.before.before.before.before) in Fields s c.put_number-q.new.out c.put_number-q.result (lives s ∷ named s ∷ place s) = field-left _ (behind-letter) c.put_number-q.ensures in
-    let behind-state : let s = entry (letter c.before.before.before.before.before.before.before) in Fields s c.put_liveness-r.new.out c.put_liveness-r.result (named s ∷ place s) = field-left _ (behind-number) c.put_liveness-r.ensures in
+    let behind-number : Fields c.put_number-q.new.out c.put_number-q.result (lives ∷ named ∷ place) = field-left _ (behind-letter) c.put_number-q.ensures in
+    let behind-state : Fields c.put_liveness-r.new.out c.put_liveness-r.result (named ∷ place) = field-left _ (behind-number) c.put_liveness-r.ensures in
     field_room _ (behind-state)
 
 pub put_place-requires : goal.put_place-requires
@@ -44,9 +44,9 @@ put_place-requires c = let place : List Text = let x = c.args.x in decimal x.add
     let lives : Text = liveness_name (liveness c.args.x.state) in
     let Fields : List ℕ → ℕ → List Text → Type 0 = λ out p fs. Left c.args.out.now c.args.at (record_line c.args.a c.args.x) out p (ended fs) in
     let behind-letter : Fields c.put_byte-p.new.out c.put_byte-p.result (decimal c.args.a ∷ lives ∷ named ∷ place) = less-left (ascii "a") _ (all_left c.requires) c.put_byte-p.ensures in
-    let behind-number : let s = entry (letter c.before.before.before.before.before.before.before.before.before.before.before) in Fields s c.put_number-q.new.out c.put_number-q.result (lives s ∷ named s ∷ place s) = field-left _ (behind-letter) c.put_number-q.ensures in
-    let behind-state : let s = entry (letter c.before.before.before.before.before.before.before.before.before.before.before) in Fields s c.put_liveness-r.new.out c.put_liveness-r.result (named s ∷ place s) = field-left _ (behind-number) c.put_liveness-r.ensures in
-    let behind-kind : let s = entry (letter (number (state c.before.before.before))) in Fields s c.put_kind-s.new.out c.put_kind-s.result (place s) = field-left _ (behind-state) c.put_kind-s.ensures in
+    let behind-number : Fields c.put_number-q.new.out c.put_number-q.result (lives ∷ named ∷ place) = field-left _ (behind-letter) c.put_number-q.ensures in
+    let behind-state : Fields c.put_liveness-r.new.out c.put_liveness-r.result (named ∷ place) = field-left _ (behind-number) c.put_liveness-r.ensures in
+    let behind-kind : Fields c.put_kind-s.new.out c.put_kind-s.result (place) = field-left _ (behind-state) c.put_kind-s.ensures in
     (behind-kind).room
 
 pub returns : goal.returns
@@ -55,7 +55,7 @@ returns c = let place : List Text = let x = c.args.x in decimal x.address ∷ de
     let lives : Text = liveness_name (liveness c.args.x.state) in
     let Fields : List ℕ → ℕ → List Text → Type 0 = λ out p fs. Left c.args.out.now c.args.at (record_line c.args.a c.args.x) out p (ended fs) in
     let behind-letter : Fields c.put_byte-p.new.out c.put_byte-p.result (decimal c.args.a ∷ lives ∷ named ∷ place) = less-left (ascii "a") _ (all_left c.requires) c.put_byte-p.ensures in
-    let behind-number : let s = entry (letter c.before.before.before.before.before.before.before.before.before.before.before.before.before.before) in Fields s c.put_number-q.new.out c.put_number-q.result (lives s ∷ named s ∷ place s) = field-left _ (behind-letter) c.put_number-q.ensures in
-    let behind-state : let s = entry (letter c.before.before.before.before.before.before.before.before.before.before.before.before.before.before) in Fields s c.put_liveness-r.new.out c.put_liveness-r.result (named s ∷ place s) = field-left _ (behind-number) c.put_liveness-r.ensures in
-    let behind-kind : let s = entry (letter (number (state c.before.before.before.before.before.before))) in Fields s c.put_kind-s.new.out c.put_kind-s.result (place s) = field-left _ (behind-state) c.put_kind-s.ensures in
+    let behind-number : Fields c.put_number-q.new.out c.put_number-q.result (lives ∷ named ∷ place) = field-left _ (behind-letter) c.put_number-q.ensures in
+    let behind-state : Fields c.put_liveness-r.new.out c.put_liveness-r.result (named ∷ place) = field-left _ (behind-number) c.put_liveness-r.ensures in
+    let behind-kind : Fields c.put_kind-s.new.out c.put_kind-s.result (place) = field-left _ (behind-state) c.put_kind-s.ensures in
     last_written (behind-kind) c.put_place.ensures

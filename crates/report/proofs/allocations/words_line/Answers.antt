@@ -18,11 +18,11 @@ put_number-q-requires c = let Fields : List ℕ → ℕ → List Text → Type 0
 pub put_words-requires : goal.put_words-requires
 put_words-requires c = let Fields : List ℕ → ℕ → List Text → Type 0 = λ out p fs. Left c.args.out.now c.args.at (words_line c.args.a c.args.words.now) out p (ended fs) in
     let behind-letter : Fields c.put_byte-p.new.out c.put_byte-p.result (decimal c.args.a ∷ words c.args.words.now) = less-left (ascii "d") _ (all_left c.requires) c.put_byte-p.ensures in
-    let behind-number : let s = entry (letter c.before.before.before) in Fields s c.put_number-q.new.out c.put_number-q.result (words s.args.words.now) = field-left _ (behind-letter) c.put_number-q.ensures in
+    let behind-number : Fields c.put_number-q.new.out c.put_number-q.result (words c.args.words.now) = field-left _ (behind-letter) c.put_number-q.ensures in
     (behind-number).room
 
 pub returns : goal.returns
 returns c = let Fields : List ℕ → ℕ → List Text → Type 0 = λ out p fs. Left c.args.out.now c.args.at (words_line c.args.a c.args.words.now) out p (ended fs) in
     let behind-letter : Fields c.put_byte-p.new.out c.put_byte-p.result (decimal c.args.a ∷ words c.args.words.now) = less-left (ascii "d") _ (all_left c.requires) c.put_byte-p.ensures in
-    let behind-number : let s = entry (letter c.before.before.before.before.before.before) in Fields s c.put_number-q.new.out c.put_number-q.result (words s.args.words.now) = field-left _ (behind-letter) c.put_number-q.ensures in
+    let behind-number : Fields c.put_number-q.new.out c.put_number-q.result (words c.args.words.now) = field-left _ (behind-letter) c.put_number-q.ensures in
     last_written (behind-number) c.put_words.ensures

@@ -18,8 +18,8 @@ put_number-q-requires c = let index-end : c.put_decimal-p.result ≤ c.args.at +
 
 pub put_given-requires : goal.put_given-requires
 put_given-requires c = let index-end : c.put_decimal-p.result ≤ c.args.at + 20 = omega (arith, decimal-length c.args.index (omega arith), c.put_decimal-p.ensures.place) in
-    let refusal-end : c.put_number-q.result ≤ (entry (indexed c.before.before.before)).args.at + 41 = omega (arith, decimal-length (refused (indexed c.before.before.before)).refusal.result (omega arith), index-end, c.put_number-q.ensures.place) in
-    omega (arith, refusal-end, c.put_number-q.auto.out, c.put_decimal-p.auto.out, (entry (indexed c.before.before.before)).requires)
+    let refusal-end : c.put_number-q.result ≤ c.args.at + 41 = omega (arith, decimal-length c.refusal-refusal.result (omega arith), index-end, c.put_number-q.ensures.place) in
+    omega (arith, refusal-end, c.put_number-q.auto.out, c.put_decimal-p.auto.out, c.requires)
 
 pub returns : goal.returns
 unfolding answer_line ended

@@ -26,7 +26,7 @@ put_decimal-r-requires c = let pointer : Provenance = record { allocation = c.ar
     let Rest : List ℕ → ℕ → Text → Type 0 = λ out p rest. Left c.args.out.now c.args.at (ended (pointed (pointer) ∷ [])) out p rest in
     let parts : Rest c.args.out.now c.args.at ((ascii " " ++ decimal c.args.allocation) ++ (ascii "." ++ (decimal c.args.node ++ ascii "\n"))) = left_as (pointed-parts (pointer)) (all_left (record { fits = omega (arith, pointed-length (pointer) (omega arith) (omega arith), c.requires) })) in
     let behind-allocation : Rest c.put_number-p.new.out c.put_number-p.result (ascii "." ++ (decimal c.args.node ++ ascii "\n")) = less-left _ _ (parts) c.put_number-p.ensures in
-    let behind-dot : let s = entry (allocation c.before.before.before) in Rest s c.put_byte-q.new.out c.put_byte-q.result (decimal s.args.node ++ ascii "\n") = less-left (ascii ".") _ (behind-allocation) c.put_byte-q.ensures in
+    let behind-dot : Rest c.put_byte-q.new.out c.put_byte-q.result (decimal c.args.node ++ ascii "\n") = less-left (ascii ".") _ (behind-allocation) c.put_byte-q.ensures in
     room_next _ _ (behind-dot)
 
 pub put_byte-requires : goal.put_byte-requires
@@ -34,8 +34,8 @@ put_byte-requires c = let pointer : Provenance = record { allocation = c.args.al
     let Rest : List ℕ → ℕ → Text → Type 0 = λ out p rest. Left c.args.out.now c.args.at (ended (pointed (pointer) ∷ [])) out p rest in
     let parts : Rest c.args.out.now c.args.at ((ascii " " ++ decimal c.args.allocation) ++ (ascii "." ++ (decimal c.args.node ++ ascii "\n"))) = left_as (pointed-parts (pointer)) (all_left (record { fits = omega (arith, pointed-length (pointer) (omega arith) (omega arith), c.requires) })) in
     let behind-allocation : Rest c.put_number-p.new.out c.put_number-p.result (ascii "." ++ (decimal c.args.node ++ ascii "\n")) = less-left _ _ (parts) c.put_number-p.ensures in
-    let behind-dot : let s = entry (allocation c.before.before.before.before.before.before.before) in Rest s c.put_byte-q.new.out c.put_byte-q.result (decimal s.args.node ++ ascii "\n") = less-left (ascii ".") _ (behind-allocation) c.put_byte-q.ensures in
-    let behind-node : Rest (entry (allocation c.before.before.before.before.before.before.before)) c.put_decimal-r.new.out c.put_decimal-r.result (ascii "\n") = less-left _ _ (behind-dot) c.put_decimal-r.ensures in
+    let behind-dot : Rest c.put_byte-q.new.out c.put_byte-q.result (decimal c.args.node ++ ascii "\n") = less-left (ascii ".") _ (behind-allocation) c.put_byte-q.ensures in
+    let behind-node : Rest c.put_decimal-r.new.out c.put_decimal-r.result (ascii "\n") = less-left _ _ (behind-dot) c.put_decimal-r.ensures in
     (behind-node).room
 
 pub returns : goal.returns
@@ -43,6 +43,6 @@ returns c = let pointer : Provenance = record { allocation = c.args.allocation; 
     let Rest : List ℕ → ℕ → Text → Type 0 = λ out p rest. Left c.args.out.now c.args.at (ended (pointed (pointer) ∷ [])) out p rest in
     let parts : Rest c.args.out.now c.args.at ((ascii " " ++ decimal c.args.allocation) ++ (ascii "." ++ (decimal c.args.node ++ ascii "\n"))) = left_as (pointed-parts (pointer)) (all_left (record { fits = omega (arith, pointed-length (pointer) (omega arith) (omega arith), c.requires) })) in
     let behind-allocation : Rest c.put_number-p.new.out c.put_number-p.result (ascii "." ++ (decimal c.args.node ++ ascii "\n")) = less-left _ _ (parts) c.put_number-p.ensures in
-    let behind-dot : let s = entry (allocation c.before.before.before.before.before.before.before.before.before.before) in Rest s c.put_byte-q.new.out c.put_byte-q.result (decimal s.args.node ++ ascii "\n") = less-left (ascii ".") _ (behind-allocation) c.put_byte-q.ensures in
-    let behind-node : Rest (entry (allocation c.before.before.before.before.before.before.before.before.before.before)) c.put_decimal-r.new.out c.put_decimal-r.result (ascii "\n") = less-left _ _ (behind-dot) c.put_decimal-r.ensures in
+    let behind-dot : Rest c.put_byte-q.new.out c.put_byte-q.result (decimal c.args.node ++ ascii "\n") = less-left (ascii ".") _ (behind-allocation) c.put_byte-q.ensures in
+    let behind-node : Rest c.put_decimal-r.new.out c.put_decimal-r.result (ascii "\n") = less-left _ _ (behind-dot) c.put_decimal-r.ensures in
     last-inside (behind-node) c.put_byte.ensures

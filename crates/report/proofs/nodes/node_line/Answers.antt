@@ -25,7 +25,7 @@ unfolding node_line
 put_number-r-requires c = let others : List Text = parent_name c.args.node c.args.parent ∷ protector_name (protector c.args.mark) ∷ codes (map permission c.args.row.now) ∷ [] in
     let Fields : List ℕ → ℕ → List Text → Type 0 = λ out p fs. Left c.args.out.now c.args.at (node_line c.args.a c.args.node (node_of c.args.parent c.args.mark c.args.row.now)) out p (ended fs) in
     let behind-letter : Fields c.put_byte-p.new.out c.put_byte-p.result (decimal c.args.a ∷ decimal c.args.node ∷ others) = less-left (ascii "n") _ (all_left c.requires.room) c.put_byte-p.ensures in
-    let behind-allocation : let s = entry (letter c.before.before.before) in Fields s c.put_number-q.new.out c.put_number-q.result (decimal s.args.node ∷ others s) = field-left _ (behind-letter) c.put_number-q.ensures in
+    let behind-allocation : Fields c.put_number-q.new.out c.put_number-q.result (decimal c.args.node ∷ others) = field-left _ (behind-letter) c.put_number-q.ensures in
     field_room _ (behind-allocation)
 
 pub put_node-requires : goal.put_node-requires
@@ -33,15 +33,15 @@ unfolding node_line
 put_node-requires c = let others : List Text = parent_name c.args.node c.args.parent ∷ protector_name (protector c.args.mark) ∷ codes (map permission c.args.row.now) ∷ [] in
     let Fields : List ℕ → ℕ → List Text → Type 0 = λ out p fs. Left c.args.out.now c.args.at (node_line c.args.a c.args.node (node_of c.args.parent c.args.mark c.args.row.now)) out p (ended fs) in
     let behind-letter : Fields c.put_byte-p.new.out c.put_byte-p.result (decimal c.args.a ∷ decimal c.args.node ∷ others) = less-left (ascii "n") _ (all_left c.requires.room) c.put_byte-p.ensures in
-    let behind-allocation : let s = entry (letter c.before.before.before.before.before.before.before) in Fields s c.put_number-q.new.out c.put_number-q.result (decimal s.args.node ∷ others s) = field-left _ (behind-letter) c.put_number-q.ensures in
-    let behind-number : let s = entry (letter c.before.before.before.before.before.before.before) in Fields s c.put_number-r.new.out c.put_number-r.result (others s) = field-left _ (behind-allocation) c.put_number-r.ensures in
-    record { all = (entry (letter c.before.before.before.before.before.before.before)).requires.0; room = (behind-number).room }
+    let behind-allocation : Fields c.put_number-q.new.out c.put_number-q.result (decimal c.args.node ∷ others) = field-left _ (behind-letter) c.put_number-q.ensures in
+    let behind-number : Fields c.put_number-r.new.out c.put_number-r.result (others) = field-left _ (behind-allocation) c.put_number-r.ensures in
+    record { all = c.requires.all; room = (behind-number).room }
 
 pub returns : goal.returns
 unfolding node_line
 returns c = let others : List Text = parent_name c.args.node c.args.parent ∷ protector_name (protector c.args.mark) ∷ codes (map permission c.args.row.now) ∷ [] in
     let Fields : List ℕ → ℕ → List Text → Type 0 = λ out p fs. Left c.args.out.now c.args.at (node_line c.args.a c.args.node (node_of c.args.parent c.args.mark c.args.row.now)) out p (ended fs) in
     let behind-letter : Fields c.put_byte-p.new.out c.put_byte-p.result (decimal c.args.a ∷ decimal c.args.node ∷ others) = less-left (ascii "n") _ (all_left c.requires.room) c.put_byte-p.ensures in
-    let behind-allocation : let s = entry (letter c.before.before.before.before.before.before.before.before.before.before) in Fields s c.put_number-q.new.out c.put_number-q.result (decimal s.args.node ∷ others s) = field-left _ (behind-letter) c.put_number-q.ensures in
-    let behind-number : let s = entry (letter c.before.before.before.before.before.before.before.before.before.before) in Fields s c.put_number-r.new.out c.put_number-r.result (others s) = field-left _ (behind-allocation) c.put_number-r.ensures in
+    let behind-allocation : Fields c.put_number-q.new.out c.put_number-q.result (decimal c.args.node ∷ others) = field-left _ (behind-letter) c.put_number-q.ensures in
+    let behind-number : Fields c.put_number-r.new.out c.put_number-r.result (others) = field-left _ (behind-allocation) c.put_number-r.ensures in
     last_written (behind-number) c.put_node.ensures

@@ -29,26 +29,26 @@ loop-i-init c = let some : Left c.args.out.now c.args.at (ascii " " ++ codes (ma
     (omega arith, all_left (digits).room)
 
 pub digit_of-requires : goal.digit_of-requires
-digit_of-requires c = let row : List ℕ = (entry (space c.before.before.before)).args.row.now in
-    omega (arith, all-at (λ (n : ℕ). n < 15) (row) c.loop-i.i 0 (entry (space c.before.before.before)).pre.0 c.loop-i-test.true)
+digit_of-requires c = let row : List ℕ = c.args.row.now in
+    omega (arith, all-at (λ (n : ℕ). n < 15) (row) c.loop-i.i 0 c.requires.all c.loop-i-test.true)
 
 pub put_byte-p-requires-in-loop-i : goal.put_byte-p-requires-in-loop-i
-put_byte-p-requires-in-loop-i c = let row : List ℕ = (entry (space c.before.before.before.before)).args.row.now in
-    let next : let put = c.put_byte-p in let l = c.loop-i in
-    Left put.last.0 put.result (map digit (row)) l.out l.p ((digit (get_or (row) l.i 0) ∷ []) ++ map digit (drop (l.i + 1) (row))) = let l = c.loop-i in left_as (codes-next (row) l.i c.loop-i-test.true) l.invariant.1 in
+put_byte-p-requires-in-loop-i c = let row : List ℕ = c.args.row.now in
+    let next : let l = c.loop-i in
+    Left c.put_byte-p.new.out c.put_byte-p.result (map digit (row)) l.out l.p ((digit (get_or (row) l.i 0) ∷ []) ++ map digit (drop (l.i + 1) (row))) = let l = c.loop-i in left_as (codes-next (row) l.i c.loop-i-test.true) l.invariant.1 in
     byte-room (room_next _ _ (next))
 
 pub loop-i-preserved : goal.loop-i-preserved
-loop-i-preserved c = let row : List ℕ = (entry (space c.before.before.before.before.before.before.before)).args.row.now in
-    let next : let put = c.put_byte-p in let l = c.loop-i in
-    Left put.last.0 put.result (map digit (row)) l.out l.p ((digit (get_or (row) l.i 0) ∷ []) ++ map digit (drop (l.i + 1) (row))) = let l = c.loop-i in left_as (codes-next (row) l.i c.loop-i-test.true) l.invariant.1 in
+loop-i-preserved c = let row : List ℕ = c.args.row.now in
+    let next : let l = c.loop-i in
+    Left c.put_byte-p.new.out c.put_byte-p.result (map digit (row)) l.out l.p ((digit (get_or (row) l.i 0) ∷ []) ++ map digit (drop (l.i + 1) (row))) = let l = c.loop-i in left_as (codes-next (row) l.i c.loop-i-test.true) l.invariant.1 in
     (omega arith, less-left _ _ (next) (byte-as c.digit_of.ensures c.put_byte-p-in-loop-i.ensures))
 
 pub shape_of-out : goal.shape_of-out
-shape_of-out c = c.loop-i.invariant.1.kept ∙ c.put_byte-p.kept.0
+shape_of-out c = c.loop-i.invariant.1.kept ∙ c.put_byte-p.auto.out
 
 pub returns : goal.returns
-returns c = let row : List ℕ = (entry (space c.before)).args.row.now in
+returns c = let row : List ℕ = c.args.row.now in
     let some : Left c.args.out.now c.args.at (ascii " " ++ codes (map permission c.args.row.now)) c.args.out.now c.args.at (ascii " " ++ map digit c.args.row.now) = left_as (ap (λ (t : Text). ascii " " ++ t) (codes-some c.args.row.now c.requires.all c.if-row-eq0.false)) (all_left c.requires.room) in
     let digits : Left c.args.out.now c.args.at (ascii " " ++ codes (map permission c.args.row.now)) c.put_byte-p.new.out c.put_byte-p.result (map digit c.args.row.now) = less-left (ascii " ") _ (some) c.put_byte-p.ensures in
     let l = c.loop-i in

@@ -23,16 +23,16 @@ put_codes-r-requires c = let marked : Text = protector_name (protector c.args.ma
     let coded : Text = codes (map permission c.args.row.now) in
     let Fields : List ℕ → ℕ → List Text → Type 0 = λ out p fs. Left c.args.out.now c.args.at (ended (parent_name c.args.node c.args.parent ∷ marked ∷ coded ∷ [])) out p (ended fs) in
     let behind-parent : Fields c.put_parent-p.new.out c.put_parent-p.result (marked ∷ coded ∷ []) = field-left _ (all_left c.requires.room) c.put_parent-p.ensures in
-    let behind-mark : let s = entry (parent c.before.before.before) in Fields s c.put_protector-q.new.out c.put_protector-q.result (coded s ∷ []) = field-left _ (behind-parent) c.put_protector-q.ensures in
-    record { all = (entry (parent c.before.before.before)).requires.0; room = field_room _ (behind-mark) }
+    let behind-mark : Fields c.put_protector-q.new.out c.put_protector-q.result (coded ∷ []) = field-left _ (behind-parent) c.put_protector-q.ensures in
+    record { all = c.requires.all; room = field_room _ (behind-mark) }
 
 pub put_byte-requires : goal.put_byte-requires
 put_byte-requires c = let marked : Text = protector_name (protector c.args.mark) in
     let coded : Text = codes (map permission c.args.row.now) in
     let Fields : List ℕ → ℕ → List Text → Type 0 = λ out p fs. Left c.args.out.now c.args.at (ended (parent_name c.args.node c.args.parent ∷ marked ∷ coded ∷ [])) out p (ended fs) in
     let behind-parent : Fields c.put_parent-p.new.out c.put_parent-p.result (marked ∷ coded ∷ []) = field-left _ (all_left c.requires.room) c.put_parent-p.ensures in
-    let behind-mark : let s = entry (parent c.before.before.before.before.before.before.before) in Fields s c.put_protector-q.new.out c.put_protector-q.result (coded s ∷ []) = field-left _ (behind-parent) c.put_protector-q.ensures in
-    let behind_codes : Fields (entry (parent c.before.before.before.before.before.before.before)) c.put_codes-r.new.out c.put_codes-r.result [] = field-left _ (behind-mark) c.put_codes-r.ensures in
+    let behind-mark : Fields c.put_protector-q.new.out c.put_protector-q.result (coded ∷ []) = field-left _ (behind-parent) c.put_protector-q.ensures in
+    let behind_codes : Fields c.put_codes-r.new.out c.put_codes-r.result [] = field-left _ (behind-mark) c.put_codes-r.ensures in
     (end-left (behind_codes)).room
 
 pub returns : goal.returns
@@ -40,6 +40,6 @@ returns c = let marked : Text = protector_name (protector c.args.mark) in
     let coded : Text = codes (map permission c.args.row.now) in
     let Fields : List ℕ → ℕ → List Text → Type 0 = λ out p fs. Left c.args.out.now c.args.at (ended (parent_name c.args.node c.args.parent ∷ marked ∷ coded ∷ [])) out p (ended fs) in
     let behind-parent : Fields c.put_parent-p.new.out c.put_parent-p.result (marked ∷ coded ∷ []) = field-left _ (all_left c.requires.room) c.put_parent-p.ensures in
-    let behind-mark : let s = entry (parent c.before.before.before.before.before.before.before.before.before.before) in Fields s c.put_protector-q.new.out c.put_protector-q.result (coded s ∷ []) = field-left _ (behind-parent) c.put_protector-q.ensures in
-    let behind_codes : Fields (entry (parent c.before.before.before.before.before.before.before.before.before.before)) c.put_codes-r.new.out c.put_codes-r.result [] = field-left _ (behind-mark) c.put_codes-r.ensures in
+    let behind-mark : Fields c.put_protector-q.new.out c.put_protector-q.result (coded ∷ []) = field-left _ (behind-parent) c.put_protector-q.ensures in
+    let behind_codes : Fields c.put_codes-r.new.out c.put_codes-r.result [] = field-left _ (behind-mark) c.put_codes-r.ensures in
     last_written (end-left (behind_codes)) c.put_byte.ensures

@@ -15,21 +15,18 @@ pub overflow_cast-end : goal.overflow_cast-end
 overflow_cast-end c = omega (arith, c.shared_slice_known-in-loop-i-1.given c.loop-i.i)
 
 pub turn-p-requires : goal.turn-p-requires
-turn-p-requires c = let g = (round (request c)).before.loop.inv.1 in
+turn-p-requires c = let g = c.loop-i.inv.1 in
     (g.state, g.holds)
 
 pub overflow_add-i : goal.overflow_add-i
-overflow_add-i c = record { fits = omega (arith, (mul-end (round (request c.before.before.before.before.before.before.before.before.before.before.before.before.before.before.before))).fits) }
+overflow_add-i c = record { fits = omega (arith, (mul-end c.before.before.before.before.before.before.before.before.before.before.before.before.before.before.before.before.before.before.before.before.before.before.before.before).fits) }
 
 pub loop-i-preserved : goal.loop-i-preserved
-loop-i-preserved c = let asked = request (turn c).before in
-    let this = round asked in
-    let s = entry this.before.before in
-    let g = this.before.loop.inv.1 in (
-      search rules,
-      going_on s.args.requests.now s.args.ends.now s.args.answers.now this.before.loop.from this.loop-test.taken g refl asked.part.ensures
-          (c.turn-p.ensures g.state g.holds),
-    )
+loop-i-preserved c = let g = c.loop-i.inv.1 in (
+  search rules,
+  going_on c.args.requests.now c.args.ends.now c.args.answers.now c.loop-i.from c.loop-i-test.true g refl c.part-request.ensures
+      (c.turn-p.ensures g.state g.holds),
+)
 
 pub shape_of-allocs : goal.shape_of-allocs
 shape_of-allocs c = let first : tie.Start invariant-loop decreases-loop = c.before.before.before.before.before.before.before.before.before.before.before.before in

@@ -11,5 +11,4 @@ pub clear-requires : goal.clear-requires
 clear-requires c = sym c.have_lengths.ensures ∙ not-false _ c.if-not-have_lengths.false-raw
 
 pub returns : goal.returns
-returns c = let lengths = measured (cleared c.before.before.before.before.before.before.before.before.before.before.before.before.before.before.before.before).before in
-    list-ran (sym lengths.before.have-lengths.ensures ∙ not-false _ lengths.if1.left) c.run_cleared-p.ensures
+returns c = list-ran (sym c.have_lengths.ensures ∙ not-false _ c.if-not-have_lengths.false) c.run_cleared-p.ensures

@@ -4,8 +4,7 @@ use native.Mathlib.Omega.{arith}
 use Rattle.run.proofs.list.turn.Goals as goal
 
 pub put_answer-written-requires : goal.put_answer-written-requires
-put_answer-written-requires c = let s = entry (stepped c) in
-    omega (arith, few_words (c.turn-outcome.ensures s.pre.0 s.pre.1))
+put_answer-written-requires c = omega (arith, few_words (c.turn-outcome.ensures c.requires.0 c.requires.1))
 
 pub returns : goal.returns
 returns c = λ s h. turned (c.turn-outcome.ensures s h) c.put_answer-written.ensures

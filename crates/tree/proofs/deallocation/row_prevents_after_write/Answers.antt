@@ -3,7 +3,6 @@ use Prim.Native.Nat.{◌-◌}
 use mathlib.Core.Option.{some}
 use mathlib.Core.Path.{refl, sym, ◌∙◌}
 use native.Mathlib.Omega.{arith}
-use borrow.Author.Rules.{rules}
 use Rattle.definition.specs.Permission.AccessKind.{Write}
 use Rattle.definition.specs.Notation.{any}
 use Rattle.definition.proofs.Any.{any_here, any-later, any-end}
@@ -12,10 +11,6 @@ use Rattle.tree.proofs.deallocation.row_prevents_after_write.Goals as goal
 
 pub loop-i-init : goal.loop-i-init
 loop-i-init c = (omega arith, refl)
-
-shared-slice-read-code-prevents-after-write :
-    tie.Need-shared-slice-read-code-prevents-after-write invariant-loop decreases-loop
-shared-slice-read-code-prevents-after-write c = search rules
 
 pub returns-then-code_prevents_after_write : goal.returns-then-code_prevents_after_write
 returns-then-code_prevents_after_write c = let l = c.loop-i in

@@ -22,15 +22,15 @@ pub bounds-protectors-n : goal.bounds-protectors-n
 bounds-protectors-n c = omega (arith, held-count c.requires.some.1.holds, marks-count c.requires.some.0 c.args.protectors.now c.requires.some.1.marked)
 
 pub overflow_mul-start : goal.overflow_mul-start
-overflow_mul-start c = let ends : let a = (entry (turn c)).args in c.loop-n.n * a.width + a.width ≤ length a.codes.now = let s = entry (turn c) in node-fits s.pre.0.1.holds c.loop-n.n (omega arith) in
+overflow_mul-start c = let ends : let a = c.args in c.loop-n.n * a.width + a.width ≤ length a.codes.now = node-fits c.requires.some.1.holds c.loop-n.n (omega arith) in
     omega (arith, ends)
 
 pub overflow_add-end : goal.overflow_add-end
-overflow_add-end c = let ends : let a = (entry (turn c)).args in c.loop-n.n * a.width + a.width ≤ length a.codes.now = let s = entry (turn c) in node-fits s.pre.0.1.holds c.loop-n.n (omega arith) in
+overflow_add-end c = let ends : let a = c.args in c.loop-n.n * a.width + a.width ≤ length a.codes.now = node-fits c.requires.some.1.holds c.loop-n.n (omega arith) in
     omega (arith, ends)
 
 pub slice_bounds-row_prevents_after_write-end : goal.slice_bounds-row_prevents_after_write-end
-slice_bounds-row_prevents_after_write-end c = let ends : let a = (entry (turn c)).args in c.loop-n.n * a.width + a.width ≤ length a.codes.now = let s = entry (turn c) in node-fits s.pre.0.1.holds c.loop-n.n (omega arith) in
+slice_bounds-row_prevents_after_write-end c = let ends : let a = c.args in c.loop-n.n * a.width + a.width ≤ length a.codes.now = node-fits c.requires.some.1.holds c.loop-n.n (omega arith) in
     ends
 
 pub returns-then-row_prevents_after_write : goal.returns-then-row_prevents_after_write

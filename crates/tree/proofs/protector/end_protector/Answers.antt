@@ -20,23 +20,21 @@ pub check_lent-requires : goal.check_lent-requires
 check_lent-requires c = (same-ready _ _ _ _ _ c.settled-v.ensures (held-ready _ c.requires.some.0 _ _ c.requires.some.1 c.requires.node_in_bounds.0 (omega arith)), omega (arith, same-spared _ _ _ c.settled-v.ensures, c.requires.node_in_bounds.1))
 
 pub unprotect_node-requires : goal.unprotect_node-requires
-unprotect_node-requires c = let ends : let a = (entry (settled-before-check c.before.before)).args in a.node * a.width + a.width ≤ length a.codes.now = let s = entry (settled-before-check c.before.before) in node-fits s.pre.0.1 s.args.node s.pre.1.0 in
+unprotect_node-requires c = let ends : let a = c.args in a.node * a.width + a.width ≤ length a.codes.now = node-fits c.requires.some.1 c.args.node c.requires.node_in_bounds.0 in
     ends
 
 pub unprotect_node-requires-in-Changes : goal.unprotect_node-requires-in-Changes
-unprotect_node-requires-in-Changes c = let ends : let a = (entry (settled-before-check c.before.before)).args in a.node * a.width + a.width ≤ length a.codes.now = let s = entry (settled-before-check c.before.before) in node-fits s.pre.0.1 s.args.node s.pre.1.0 in
+unprotect_node-requires-in-Changes c = let ends : let a = c.args in a.node * a.width + a.width ≤ length a.codes.now = node-fits c.requires.some.1 c.args.node c.requires.node_in_bounds.0 in
     ends
 
 pub apply-requires : goal.apply-requires
-apply-requires c = let v = settled-before-check (check-before-unprotect-node2 c.before.before.before) in
-    let s = entry v in
-    let a = s.args in (
-      end-ready s.pre.0.0 a.width a.parents.now a.codes.now a.lent.now s.pre.0.1 a.node s.pre.1.0 s.pre.1.1 s.pre.1.2 v.settled.result v.settled.ensures _ c.unprotect_node-in-Changes.ensures,
-      omega (arith, same-spared _ _ _ v.settled.ensures, s.pre.1.1),
-    )
+apply-requires c = let a = c.args in (
+  end-ready c.requires.some.0 a.width a.parents.now a.codes.now a.lent.now c.requires.some.1 a.node c.requires.node_in_bounds.0 c.requires.node_in_bounds.1 c.requires.node_in_bounds.2 c.settled-v.result c.settled-v.ensures _ c.unprotect_node-in-Changes.ensures,
+  omega (arith, same-spared _ _ _ c.settled-v.ensures, c.requires.node_in_bounds.1),
+)
 
 pub returns-in-Stays : goal.returns-in-Stays
-returns-in-Stays c = let told : (answer : Answer) → c.check_lent.result ≡ answer → (nodes : List Node) → let a = (entry (settled-before-check c.before.before.before.before.before)).args in Holds nodes a.width a.parents.now a.codes.now
+returns-in-Stays c = let told : (answer : Answer) → c.check_lent.result ≡ answer → (nodes : List Node) → let a = c.args in Holds nodes a.width a.parents.now a.codes.now
     → Told (release_visit_refusal Live a.node nodes) (rows_of nodes) (rows_of (visited (release_visit a.node nodes) nodes)) answer = λ answer e nodes held. let a = c.args in
     subst (Told (release_visit_refusal Live a.node nodes) (rows_of nodes) (rows_of (visited (release_visit a.node nodes) nodes))) e
     (end-told nodes a.width a.parents.now a.codes.now a.lent.now held a.node c.requires.node_in_bounds.0 c.requires.node_in_bounds.1 c.requires.node_in_bounds.2 c.settled-v.result c.settled-v.ensures c.check_lent.result c.check_lent.ensures) in
@@ -47,7 +45,7 @@ returns-in-Stays c = let told : (answer : Answer) → c.check_lent.result ≡ an
     (end_stays nodes a.width a.parents.now a.codes.now a.lent.now held a.node c.requires.node_in_bounds.0 c.requires.node_in_bounds.1 c.requires.node_in_bounds.2 c.settled-v.result c.settled-v.ensures _ c.unprotect_node.ensures t.1)
 
 pub returns-in-Changes : goal.returns-in-Changes
-returns-in-Changes c = let told : (answer : Answer) → c.check_lent.result ≡ answer → (nodes : List Node) → let a = (entry (settled-before-check c.before.before.before.before.before.before.before.before.before)).args in Holds nodes a.width a.parents.now a.codes.now
+returns-in-Changes c = let told : (answer : Answer) → c.check_lent.result ≡ answer → (nodes : List Node) → let a = c.args in Holds nodes a.width a.parents.now a.codes.now
     → Told (release_visit_refusal Live a.node nodes) (rows_of nodes) (rows_of (visited (release_visit a.node nodes) nodes)) answer = λ answer e nodes held. let a = c.args in
     subst (Told (release_visit_refusal Live a.node nodes) (rows_of nodes) (rows_of (visited (release_visit a.node nodes) nodes))) e
     (end-told nodes a.width a.parents.now a.codes.now a.lent.now held a.node c.requires.node_in_bounds.0 c.requires.node_in_bounds.1 c.requires.node_in_bounds.2 c.settled-v.result c.settled-v.ensures c.check_lent.result c.check_lent.ensures) in
@@ -58,10 +56,10 @@ returns-in-Changes c = let told : (answer : Answer) → c.check_lent.result ≡ 
     ∙ end_after nodes a.width a.parents.now a.codes.now a.lent.now held a.node c.requires.node_in_bounds.0 c.requires.node_in_bounds.1 c.requires.node_in_bounds.2 c.settled-v.result c.settled-v.ensures _ c.unprotect_node-in-Changes.ensures)
 
 pub returns-in-Refused : goal.returns-in-Refused
-returns-in-Refused c = let told : (answer : Answer) → c.check_lent.result ≡ answer → (nodes : List Node) → let a = (entry (settled-before-check c.before)).args in Holds nodes a.width a.parents.now a.codes.now
+returns-in-Refused c = let told : (answer : Answer) → c.check_lent.result ≡ answer → (nodes : List Node) → let a = c.args in Holds nodes a.width a.parents.now a.codes.now
     → Told (release_visit_refusal Live a.node nodes) (rows_of nodes) (rows_of (visited (release_visit a.node nodes) nodes)) answer = λ answer e nodes held. let a = c.args in
     subst (Told (release_visit_refusal Live a.node nodes) (rows_of nodes) (rows_of (visited (release_visit a.node nodes) nodes))) e
     (end-told nodes a.width a.parents.now a.codes.now a.lent.now held a.node c.requires.node_in_bounds.0 c.requires.node_in_bounds.1 c.requires.node_in_bounds.2 c.settled-v.result c.settled-v.ensures c.check_lent.result c.check_lent.ensures) in
     λ nodes held.
     let t = told _ c.in-Refused.is nodes held in
-    end_refused nodes (entry (settled-before-check c.before)).args.node c.in-Refused.n _ t.0 t.1 held.table.rows
+    end_refused nodes c.args.node c.in-Refused.n _ t.0 t.1 held.table.rows

@@ -41,7 +41,7 @@ returns-then-lacks_protector c = let ends : c.args.node * c.args.width + c.args.
 pub end_protector-refused-requires : goal.end_protector-refused-requires
 end_protector-refused-requires c = let ends : c.args.node * c.args.width + c.args.width ≤ length c.args.codes.now = node-fits c.requires.some.1.holds c.args.node c.requires.node_in_bounds.0 in
     let row_told : let a = c.args in c.tell_accesses.new.told ≡ map end_number (row_at a.width a.node a.codes.now) ++ drop a.width a.lent.now = let a = c.args in written_row end_number a.width a.node a.codes.now a.lent.now _ (ends) c.tell_accesses.ensures in
-    let protected : (nodes : List Node) → let a = (entry (tell-accesses-before-lacks-protector c.before.before)).args in HoldsAll nodes a.width a.parents.now a.protectors.now a.codes.now
+    let protected : (nodes : List Node) → let a = c.args in HoldsAll nodes a.width a.parents.now a.protectors.now a.codes.now
     → lacks_protector (node_at nodes a.node) ≡ false = λ nodes held. sym (c.lacks_protector.ensures nodes (held-marks held)) ∙ c.if-lacks_protector.false in
     let nodes = c.requires.some.0 in
     let held = c.requires.some.1 in
@@ -57,23 +57,22 @@ end_protector-refused-requires c = let ends : c.args.node * c.args.width + c.arg
 pub returns-then-refused-ne0 : goal.returns-then-refused-ne0
 returns-then-refused-ne0 c = let ends : c.args.node * c.args.width + c.args.width ≤ length c.args.codes.now = node-fits c.requires.some.1.holds c.args.node c.requires.node_in_bounds.0 in
     let row_told : let a = c.args in c.tell_accesses.new.told ≡ map end_number (row_at a.width a.node a.codes.now) ++ drop a.width a.lent.now = let a = c.args in written_row end_number a.width a.node a.codes.now a.lent.now _ (ends) c.tell_accesses.ensures in
-    let protected : (nodes : List Node) → let a = (entry (tell-accesses-before-lacks-protector c.before.before.before.before.before.before)).args in HoldsAll nodes a.width a.parents.now a.protectors.now a.codes.now
+    let protected : (nodes : List Node) → let a = c.args in HoldsAll nodes a.width a.parents.now a.protectors.now a.codes.now
     → lacks_protector (node_at nodes a.node) ≡ false = λ nodes held. sym (c.lacks_protector.ensures nodes (held-marks held)) ∙ c.if-lacks_protector.false in
-    let ended = c.end_protector-refused in record { lent_after = row_told; each = λ nodes held. ended-refused nodes c.args.node ended.result _ (ended.ensures nodes held.holds) (protected nodes held) _ c.if-refused-ne0.true held.marked }
+    record { lent_after = row_told; each = λ nodes held. ended-refused nodes c.args.node c.end_protector-refused.result _ (c.end_protector-refused.ensures nodes held.holds) (protected nodes held) _ c.if-refused-ne0.true held.marked }
 
 pub bounds-protectors-node : goal.bounds-protectors-node
 bounds-protectors-node c = let has-mark : c.args.node < length c.args.protectors.now = omega (arith, held-count c.requires.some.1.holds, marks-count c.requires.some.0 c.args.protectors.now c.requires.some.1.marked, c.requires.node_in_bounds.0) in
-    has-mark (entry (tell-accesses-before-lacks-protector c.before.before.before.before.before.before))
+    has-mark
 
 pub returns : goal.returns
 returns c = let ends : c.args.node * c.args.width + c.args.width ≤ length c.args.codes.now = node-fits c.requires.some.1.holds c.args.node c.requires.node_in_bounds.0 in
     let row_told : let a = c.args in c.tell_accesses.new.told ≡ map end_number (row_at a.width a.node a.codes.now) ++ drop a.width a.lent.now = let a = c.args in written_row end_number a.width a.node a.codes.now a.lent.now _ (ends) c.tell_accesses.ensures in
-    let protected : (nodes : List Node) → let a = (entry (tell-accesses-before-lacks-protector c.before.before.before.before.before.before)).args in HoldsAll nodes a.width a.parents.now a.protectors.now a.codes.now
+    let protected : (nodes : List Node) → let a = c.args in HoldsAll nodes a.width a.parents.now a.protectors.now a.codes.now
     → lacks_protector (node_at nodes a.node) ≡ false = λ nodes held. sym (c.lacks_protector.ensures nodes (held-marks held)) ∙ c.if-lacks_protector.false in
-    let n = c.args.node in
-    let ended = c.end_protector-refused in record {
+    let n = c.args.node in record {
       lent_after = row_told;
       each = λ nodes held.
-          ended-accepted nodes n 0 _ (subst (λ (k : ℕ). Ended n nodes k ended.new.1.0) c.if-refused-ne0.false (ended.ensures nodes held.holds)) (protected nodes held) _ refl
+          ended-accepted nodes n 0 _ (subst (λ (k : ℕ). Ended n nodes k c.end_protector-refused.new.codes) c.if-refused-ne0.false (c.end_protector-refused.ensures nodes held.holds)) (protected nodes held) _ refl
           (ap (λ (m : List ℕ). set m n 0) held.marked ∙ released-marks nodes n);
     }

@@ -14,24 +14,23 @@ pub loop-k-init : goal.loop-k-init
 loop-k-init c = (omega arith, λ nodes holds. refl)
 
 pub check_access-requires : goal.check_access-requires
-check_access-requires c = let s = entry (turn c.before) in record { some = s.pre.0; node_in_bounds = (s.pre.1.0, omega arith) }
+check_access-requires c = record { some = c.requires.some; node_in_bounds = (c.requires.node_in_bounds.0, omega arith) }
 
 pub returns-in-Refused : goal.returns-in-Refused
-returns-in-Refused c = let kind = c.kind-1 in
-    let l = c.loop-k in
-    let a = (entry (turn c.before.before.before)).args in
+returns-in-Refused c = let l = c.loop-k in
+    let a = c.args in
     let node = a.node in
     let from = a.from in
     let inside = a.inside.now in
     λ nodes holds.
-    let t = subst (Checked (access_visit (access_kind kind.given.0.0) node (from + l.k) 1) nodes) c.in-Refused.is (c.check_access.ensures nodes holds) in
-    reads-refused node from inside nodes l.k (omega arith) _ c.init_access.ensures (access_kind kind.given.0.0) c.in-Refused.n (ap maybe_access kind.given.1) t.0 t.1
+    let t = subst (Checked (access_visit (access_kind c.in-Access.kind) node (from + l.k) 1) nodes) c.in-Refused.is (c.check_access.ensures nodes holds) in
+    reads-refused node from inside nodes l.k (omega arith) _ c.init_access.ensures (access_kind c.in-Access.kind) c.in-Refused.n (ap maybe_access c.in-Access.is) t.0 t.1
     ∙ l.inv.1 nodes holds
     ∙ reads_all node from inside nodes
 
 pub loop-k-preserved : goal.loop-k-preserved
 loop-k-preserved c = let l = c.loop-k in
-    let a = (entry (turn c.before)).args in
+    let a = c.args in
     let node = a.node in
     let from = a.from in
     let inside = a.inside.now in (

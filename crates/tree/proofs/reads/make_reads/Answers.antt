@@ -33,16 +33,16 @@ apply-requires c = let ready : let a = c.args in Ready c.settled-v.result a.pare
     ready
 
 pub returns-in-Stays : goal.returns-in-Stays
-returns-in-Stays c = let told : (answer : Answer) → c.check_lent.result ≡ answer → (nodes : List Node) → let a = (entry (settled-before-check c.before)).args in Holds nodes a.width a.parents.now a.codes.now
+returns-in-Stays c = let told : (answer : Answer) → c.check_lent.result ≡ answer → (nodes : List Node) → let a = c.args in Holds nodes a.width a.parents.now a.codes.now
     → Checked (reads_visit a.node a.from (map permission a.inside.now)) nodes answer = λ answer e nodes holds. let a = c.args in
     subst (Checked (reads_visit a.node a.from (map permission a.inside.now)) nodes) e (means-told _ _ _ _ (means c.before.before nodes holds) nodes a.codes.now (wide c.before.before nodes holds) c.check_lent.result c.check_lent.ensures) in
     λ nodes holds.
-    let a = (entry (settled-before-check c.before)).args in
+    let a = c.args in
     let t = told _ c.in-Stays.is nodes holds in
     visit-accepted _ nodes 0 _ (sym (reads_none a.node a.from a.inside.now nodes t.0)) refl (holds.table.rows ∙ t.1)
 
 pub returns-in-Changes : goal.returns-in-Changes
-returns-in-Changes c = let told : (answer : Answer) → c.check_lent.result ≡ answer → (nodes : List Node) → let a = (entry (settled-before-check c.before.before.before.before.before)).args in Holds nodes a.width a.parents.now a.codes.now
+returns-in-Changes c = let told : (answer : Answer) → c.check_lent.result ≡ answer → (nodes : List Node) → let a = c.args in Holds nodes a.width a.parents.now a.codes.now
     → Checked (reads_visit a.node a.from (map permission a.inside.now)) nodes answer = λ answer e nodes holds. let a = c.args in
     subst (Checked (reads_visit a.node a.from (map permission a.inside.now)) nodes) e (means-told _ _ _ _ (means c.before.before.before.before.before.before nodes holds) nodes a.codes.now (wide c.before.before.before.before.before.before nodes holds) c.check_lent.result c.check_lent.ensures) in
     λ nodes holds.
@@ -51,12 +51,11 @@ returns-in-Changes c = let told : (answer : Answer) → c.check_lent.result ≡ 
     (c.apply.ensures ∙ means-after _ _ _ _ (means c.before.before.before.before.before.before nodes holds) nodes a.codes.now (wide c.before.before.before.before.before.before nodes holds))
 
 pub returns-in-Refused : goal.returns-in-Refused
-returns-in-Refused c = let told : (answer : Answer) → c.check_lent.result ≡ answer → (nodes : List Node) → let a = (entry (settled-before-check c.before.before)).args in Holds nodes a.width a.parents.now a.codes.now
+returns-in-Refused c = let told : (answer : Answer) → c.check_lent.result ≡ answer → (nodes : List Node) → let a = c.args in Holds nodes a.width a.parents.now a.codes.now
     → Checked (reads_visit a.node a.from (map permission a.inside.now)) nodes answer = λ answer e nodes holds. let a = c.args in
     subst (Checked (reads_visit a.node a.from (map permission a.inside.now)) nodes) e (means-told _ _ _ _ (means c.before.before.before nodes holds) nodes a.codes.now (wide c.before.before.before nodes holds) c.check_lent.result c.check_lent.ensures) in
     λ nodes holds.
-    let read = c.first_refused_read in
-    let a = (entry (settled-before-check c.before.before.before)).args in
+    let a = c.args in
     let t = told _ c.in-Refused.is nodes holds in
-    visit-refused _ nodes read.result _ (read.ensures nodes holds)
-    (λ z. t.1 (t.0 ∙ reads-together a.node nodes a.from (map permission a.inside.now) (sym (read.ensures nodes holds) ∙ z))) holds.table.rows
+    visit-refused _ nodes c.first_refused_read.result _ (c.first_refused_read.ensures nodes holds)
+    (λ z. t.1 (t.0 ∙ reads-together a.node nodes a.from (map permission a.inside.now) (sym (c.first_refused_read.ensures nodes holds) ∙ z))) holds.table.rows
