@@ -1,11 +1,10 @@
--- What a walk over a lent slice of entries needs: an entry's machine value, and the turns of `load`.
-use Prim.Native.Nat.{ℕ, zero, suc, ◌+◌, ◌*◌, ◌<◌, ◌^◌}
-use mathlib.Core.Path.{◌≡◌, refl, sym, ap, subst, ◌∙◌}
+-- What a walk over entries needs: an entry's machine value and the places of a list by value. And the turns of `load`.
+use Prim.Native.Nat.{ℕ, zero, suc, ◌+◌, ◌<◌}
+use mathlib.Core.Path.{◌≡◌, refl, sym, ap, subst}
 use mathlib.Core.List.{List, [], ◌∷◌}
 use native.Mathlib.Nat.{not-suc-le-zero, le_of_suc-le-suc}
 use native.Mathlib.Numerals.{add-one}
-use native.Mathlib.Omega.{arith}
-use lib.ListN.{length, set, length-map}
+use lib.ListN.{length, set}
 use mir.Syntax.{w32}
 use mir.Val.{Val, vint, vstruct, vnil, vcons}
 use denote.Laws.{Is}
@@ -22,11 +21,7 @@ mach e = vstruct (vcons (vint w32 e.allocation) (vcons (vint w32 e.node) vnil))
 
 -- a list by value has 64 places
 pub list_length : (entries : Entries) (vs : List Val) → Is ES.the_row entries vs → length entries.list ≡ 64
-list_length entries vs is = sym (length-map entries.list _) ∙ (LL.owed ES.the_type ES'.the_laws entries vs is).0.1.0.1
-
--- an index of a slice that has room, times the 8 bytes of an entry, fits a usize
-pub within : (n i : ℕ) → n * 8 < 2 ^ 63 → i < n → i * 8 < 2 ^ 64
-within n i g l = omega arith
+list_length entries vs is = (LL.owed ES.the_type ES'.the_laws entries vs is).0.1.0.1
 
 -- ---- the turns of `load`: the first k of xs laid over ds, one more, and all
 abbrev pub over : ℕ → List Entry → List Entry → List Entry

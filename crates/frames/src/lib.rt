@@ -1,7 +1,7 @@
 #![tactic(auto)]
 
-// A frame's protector list in its three forms: by value, which covered code takes and returns; lent as a slice of entry structs, which
-// two walked functions read and extend; and in the buffer that holds a run's 32 frames. mem.rs: `TreeBorrowsFrameExtra`.
+// A frame's protector list in its three forms: by value; lent as a slice of entry structs, which two functions read and extend; and in
+// the buffer that holds a run's 32 frames. mem.rs: `TreeBorrowsFrameExtra`.
 // specs/List.antt says what an entry and a list are in the definition, specs/Buffer.antt what the buffer holds.
 ghost use Rattle.std.specs.Prelude.{◌+◌, ◌<◌, ◌≤◌, ◌≡◌, false, List, [], ◌∷◌, ◌++◌, length, get_or, take, set, replicate};
 ghost use Rattle.definition.specs.Frame.{Frame, is_open, empty};
@@ -65,7 +65,8 @@ pub fn load(entries: &[Entry]) -> [Entry; 64]
     let mut i = 0;
     while i < entries.len() {
         let e = entries[i];
-        list = with_entry(list, i, e);
+        let next = with_entry(list, i, e);
+        list = next;
         i = i + 1;
     }
     list

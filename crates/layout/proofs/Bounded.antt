@@ -8,13 +8,13 @@ use lib.Dec.{leb, ltb}
 use lib.ListN.{length, take, drop, length-append}
 use borrow.Author.Tests.{eq-eqb, ne_eqb}
 use Rattle.definition.specs.Notation.{if◌then◌else◌, table}
-use Rattle.definition.specs.Layout.{FreezeMask, UnsafeCell, LayoutStrategy, PointerMeta, unsafe_cell, cells_fit, is_freeze, header, mask_bound, bounded_mask, sized_mask, slice_mask, trait_object_mask, tuple_mask, if_none_left, layout_mask, header_mask, freeze_mask}
+use Rattle.definition.specs.Layout.{FreezeMask, UnsafeCell, LayoutStrategy, PointerMeta, unsafe_cell, cells_fit, is_freeze, header, mask_bound, bounded_mask, sized_mask, slice_mask, trait_object_mask, tuple_mask, if_none_left, layout_mask, header_mask, freeze_mask, pointer_meta}
 use Rattle.definition.specs.Layout.LayoutStrategy.{Sized, Slice, TraitObject, Tuple}
 use Rattle.definition.specs.Layout.PointerMeta.{NoMetadata, ElementCount, VTablePointer}
 use Rattle.definition.proofs.Lists.{table-length}
 use Rattle.layout.specs.declared.Mask.{Mask}
 use Rattle.layout.specs.declared.Mask.TheVariants.{WrongLength}
-use Rattle.layout.specs.Filled.{fitting, Fills, answered, afterwards}
+use Rattle.layout.specs.Filled.{tail_mask, fitting, Fills, answered, afterwards}
 use Rattle.layout.proofs.Words.{nested}
 
 -- a mask for which 4,096 bytes are enough
@@ -72,7 +72,7 @@ header-bounded meta tail (w ∷ ws) =
 pub mask-bounded : (ws : List ℕ) → Bounded (freeze_mask ws)
 unfolding freeze_mask
 mask-bounded [] = refl
-mask-bounded (w ∷ ws) = rw (nested 8 _ ws) (header-bounded _ _ ws)
+mask-bounded (w ∷ ws) = rw (nested 8 (pointer_meta w) ws) (header-bounded (pointer_meta w) (tail_mask 8 (pointer_meta w)) ws)
 
 -- ---- what the public function promises: of a buffer of another length, and of one of 4,096 bytes
 module _ (ws buffer : List ℕ) where

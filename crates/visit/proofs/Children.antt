@@ -1,6 +1,6 @@
 -- The nodes that a visit has left at a child m of some node: m, its descendants, and the siblings after it with theirs. A first child or a next sibling
 -- says how to go on: what is left at m is m, what is left at its first child, and what is left at its next sibling (`left_step`).
-use Prim.Native.Nat.{ℕ, zero, suc, ◌+◌, ◌-◌, ◌≤◌, ◌<◌}
+use Prim.Native.Nat.{ℕ, zero, suc, ◌+◌, ◌≤◌, ◌<◌}
 use mathlib.Core.Path.{◌≡◌, refl, sym, ap, ap₂, subst, ◌∙◌}
 use mathlib.Core.Bool.{Bool, true, false}
 use mathlib.Core.List.{List, [], ◌∷◌, ◌++◌, append-nil}

@@ -9,7 +9,7 @@ use native.Mathlib.Omega.{arith}
 use borrow.Author.Tests.{eq-eqb, ne_eqb}
 use lib.Dec.{eqb}
 use lib.ListN.{length, get_or, take, drop, set, replicate, get_or-replicate, length-replicate, length-set, length-take, get_or-eq_default}
-use lib.Seq.{get_or-set_same, get_or-set_other, get_or-take, length-take-le, take_at}
+use lib.Seq.{get_or-set_same, get_or-set_other, get_or-take, take_at}
 use Rattle.definition.specs.Notation.{if◌then◌else◌}
 use Rattle.definition.specs.Permission.NodeRelation.{Local, Foreign}
 use Rattle.definition.specs.Tree.{relation, is_above}

@@ -1,7 +1,7 @@
 -- Codes under accesses, byte by byte: what is left from a place on tells of the whole. Codes that all stay; and the visited bytes in a row.
 use Prim.Native.Nat.{ℕ, zero, suc, ◌+◌, ◌≤◌, ◌<◌}
 use mathlib.Core.Path.{◌≡◌, refl, sym, ap, ap₂, subst, ◌∙◌}
-use mathlib.Core.Bool.{Bool, true, false, not, ◌&&◌, and-true, and_assoc}
+use mathlib.Core.Bool.{Bool, true, false, ◌&&◌, and-true, and_assoc}
 use mathlib.Core.Option.{Option, none, some}
 use mathlib.Core.List.{List, [], ◌∷◌, ◌++◌, map}
 use native.Mathlib.Numerals.{add-one}
@@ -38,14 +38,6 @@ is_none (some a) = ⊥
 
 pub true-not-false : true ≡ false → ⊥
 true-not-false e = subst is_true e tt
-
-pub is-so : (b : Bool) → not b ≡ false → b ≡ true
-is-so true e = refl
-is-so false e = absurd (true-not-false e)
-
-pub is-not : (b : Bool) → not b ≡ true → b ≡ false
-is-not true e = absurd (true-not-false (sym e))
-is-not false e = refl
 
 pub or-positive : (n y : ℕ) → 0 < n → (n or y) ≡ n
 or-positive zero y h = absurd (omega arith)

@@ -1,10 +1,9 @@
 -- A visit of the descendants of n among the nodes from m on, at node m: what is left of it from m on is m with its own descendants, if it is a child
 -- of n and not spared, and what is left from m + 1 on.
 use Prim.Native.Nat.{ℕ, suc, ◌+◌, ◌≤◌, ◌<◌}
-use mathlib.Core.Path.{◌≡◌, refl, sym, ap, ◌∙◌}
+use mathlib.Core.Path.{◌≡◌, ap, ◌∙◌}
 use mathlib.Core.List.{List, [], ◌++◌}
 use native.Mathlib.Numerals.{add-one}
-use native.Mathlib.Omega.{arith}
 use lib.ListN.{length, get_or, drop, drop_of_length-le}
 use lib.Seq.{drop-cons}
 use Rattle.definition.proofs.Order.{walk, walk-child, walk-spared, walk-other}

@@ -1,0 +1,44 @@
+-- By whether a node may be added, and then by whether the layout has a mask (Masks).
+use mathlib.Core.Bool.{false}
+use mathlib.Core.Path.{◌≡◌, sym, ◌∙◌}
+use native.Mathlib.Omega.{arith}
+use Rattle.definition.specs.Request.{adds_no_node}
+use Rattle.pointer.specs.Pointer.{thin_pointer_of}
+use Rattle.layout.specs.Filled.{afterwards}
+use Rattle.layout.proofs.Answers.{HasMask, answers_of, answers-none, answers-right}
+use Rattle.parts.proofs.Lent.{records-of}
+use Rattle.library_frames.specs.Settings.{fields_of}
+use Rattle.library_frames.proofs.Masks.{blank, blank-length, performed-mask, performed-none, performed-same, performed-node}
+use Rattle.library_frames.proofs.retags.retag_held.Goals as goal
+
+pub retag_without_node-requires : goal.retag_without_node-requires
+retag_without_node-requires c = (c.requires.0, records-of c.requires.1)
+
+pub returns-then-adds_no_node : goal.returns-then-adds_no_node
+returns-then-adds_no_node c = let t = c.args in
+    λ s held count.
+    performed-same t.settings (thin_pointer_of t.p) t.layout.now s (sym c.adds_no_node.ensures ∙ c.if-adds_no_node.true) (c.retag_without_node.ensures s (records-of held))
+    held.trees
+
+pub reborrow-requires : goal.reborrow-requires
+reborrow-requires c = let has-mask : let layout = c.args.layout.now in HasMask layout blank (afterwards layout blank) c.in-Of.len = answers_of c.args.layout.now blank blank-length _ (sym c.in-Of.is ∙ c.freeze_mask-found.ensures.0) in
+    record { holds_marked = c.requires; len_in_bounds = omega (arith, (has-mask).bound, c.freeze_mask-found.auto.mask, blank-length) }
+
+pub returns-in-Of : goal.returns-in-Of
+returns-in-Of c = let adds : adds_no_node (fields_of c.args.settings) ≡ false = sym c.adds_no_node.ensures ∙ c.if-adds_no_node.false in
+    let has-mask : let layout = c.args.layout.now in HasMask layout blank (afterwards layout blank) c.in-Of.len = answers_of c.args.layout.now blank blank-length _ (sym c.in-Of.is ∙ c.freeze_mask-found.ensures.0) in
+    let t = c.args in
+    λ s held count.
+    performed-node t.settings (thin_pointer_of t.p) t.layout.now s (adds)
+    (performed-mask t.settings (thin_pointer_of t.p) t.layout.now s c.reborrow_settings-w.result c.reborrow_settings-w.ensures blank _ (has-mask) _ c.freeze_mask-found.ensures.1
+    (c.reborrow.ensures.retagged s 0 held count))
+
+pub returns-in-None : goal.returns-in-None
+returns-in-None c = let adds : adds_no_node (fields_of c.args.settings) ≡ false = sym c.adds_no_node.ensures ∙ c.if-adds_no_node.false in
+    let t = c.args in
+    λ s held count.
+    performed-node t.settings (thin_pointer_of t.p) t.layout.now s (adds)
+    (performed-none t.settings (thin_pointer_of t.p) t.layout.now s (answers-none t.layout.now blank blank-length (sym c.in-None.is ∙ c.freeze_mask-found.ensures.0)) held.trees)
+
+pub returns-in-WrongLength : goal.returns-in-WrongLength
+returns-in-WrongLength c = λ s held count. absurd (answers-right c.args.layout.now blank blank-length (sym c.in-WrongLength.is ∙ c.freeze_mask-found.ensures.0))

@@ -1,0 +1,31 @@
+-- The loop runs downwards: from i on the list is moved, before it is as it was.
+use Prim.Native.Nat.{ℕ, ◌+◌, ◌-◌}
+use mathlib.Core.List.{List, ◌++◌}
+use mathlib.Core.Path.{◌≡◌, ap, ◌∙◌}
+use native.Mathlib.Omega.{arith}
+use borrow.Author.Rules.{rules}
+use lib.ListN.{length, take, drop, set, get_or}
+use Rattle.tables.proofs.Moves.{moved, moved-start, moved-turn}
+use Rattle.tables.proofs.shift_one.Goals as goal
+
+pub loop-i-init : goal.loop-i-init
+loop-i-init c = (search rules, search rules, search rules, search rules, moved-start _ 1)
+
+pub loop-i-preserved : goal.loop-i-preserved
+loop-i-preserved c = let C = c.args.c.now in
+    let i = c.loop-i.i in
+    let e : i - 1 + 1 ≡ i = omega arith in
+    let d : c.loop-i.c ≡ moved C 1 (i - 1 + 1) = rw e c.loop-i.invariant.4 in (
+      search rules,
+      search rules,
+      search rules,
+      search rules,
+      ap (λ (l : List ℕ). set l (i - 1) (get_or l (i - 1 - 1) 0)) d ∙ moved-turn C 1 (i - 1) (omega arith) (omega arith),
+    )
+
+pub returns : goal.returns
+returns c = let C = c.args.c.now in
+    let p = c.args.p in
+    let e : c.loop-i.i ≡ p + 1 = omega arith in
+    let s : p + 1 - 1 ≡ p = omega arith in
+    c.loop-i.invariant.4 ∙ ap (λ (k : ℕ). moved C 1 k) e ∙ ap (λ (k : ℕ). take (p + 1) C ++ take (length C - (p + 1)) (drop k C)) s

@@ -1,0 +1,24 @@
+-- The invariant: whether the codes so far stay.
+use mathlib.Core.Path.{refl, sym, ◌∙◌}
+use mathlib.Core.List.{[]}
+use lib.ListN.{length}
+use Rattle.definition.specs.Permission.NodeRelation.{Foreign}
+use Rattle.visit.specs.Walk.{accesses_at}
+use Rattle.visit.specs.declared.Accesses.TheVariants.{Each}
+use Rattle.visit.proofs.Rows.{each-outcome, stay-done, stay-turn}
+use native.Mathlib.Omega.{arith}
+use Rattle.visit.proofs.staying.long_foreign.Goals as goal
+
+pub loop-k-init : goal.loop-k-init
+loop-k-init c = (omega arith, refl)
+
+pub loop-k-preserved : goal.loop-k-preserved
+loop-k-preserved c = let o = c.foreign in
+    let row = c.args.row.now in
+    let k = c.loop-k.k in
+    let decided = o.ensures ∙ each-outcome c.args.kind Foreign row k (omega arith) in
+    (omega arith, stay-turn Foreign (accesses_at (Each c.args.kind) (length row) []) row k (omega arith) c.loop-k.all c.stays-all.result o.result decided c.stays-all.ensures c.loop-k.invariant.1)
+
+pub returns : goal.returns
+returns c = let row = c.args.row.now in
+    sym (stay-done Foreign (accesses_at (Each c.args.kind) (length row) []) row c.loop-k.k c.loop-k.all (omega arith) c.loop-k.invariant.1)
