@@ -19,7 +19,7 @@ loop-left-preserved c =
     let some_left : 0 < l.left = ltb-true 0 l.left (and_left (ltb 0 l.left) r.found c.loop-left-test.true) in
     let there : r.found ≡ true = and_right (ltb 0 l.left) r.found c.loop-left-test.true in
     let judged : Agrees (run_of file r) (text_of file r) (length c.args.out.now) c.agrees-same.result =
-        subst (λ (n : ℕ). Agrees (run_of file r) (text_of file r) n c.agrees-same.result) l.auto.out c.agrees-same.ensures in
+    subst (λ (n : ℕ). Agrees (run_of file r) (text_of file r) n c.agrees-same.result) l.auto.out c.agrees-same.ensures in
     counting-next l.invariant there some_left c.agrees-same.result judged c.one_if-agree.result c.one_if-agree.ensures c.record_at-r-in-loop-left.result c.record_at-r-in-loop-left.ensures
 
 pub returns : goal.returns
