@@ -2,13 +2,14 @@
 
 // Replays a recorded sample from standard input, and prints how many runs have the text that the Rust printed. The sample is made by
 // `recorder --out FILE` of oracle/, whose README.md has its form.
-ghost use Rattle.std.specs.Prelude.{ℕ, ◌≤◌, ◌<◌, ◌^◌, ◌≡◌, true, List, length};
+ghost use Rattle.std.specs.Prelude.{ℕ, ◌≤◌, ◌<◌, ◌^◌, ◌≡◌, true, List, length, IfOk};
 ghost use Rattle.tables.specs.Held.{buffers};
 ghost use Rattle.state.specs.Lengths.{have_lengths};
 ghost use Rattle.judge.specs.Whole.{JudgedAs};
 ghost use Rattle.vectors.specs.Sample.{record_at, Agrees, one, Counted};
 
 use judge::Judged;
+use std::io::{self, Read};
 
 // Where a record's run, its text and its end are.
 #[derive(Clone, Copy)]
@@ -63,7 +64,7 @@ fn is_text(judged: Judged, out: &[u8], text: &[u8]) -> bool
     ensures { (run before : List ℕ) → JudgedAs run before judged out.now → Agrees run text.now (length before) result }
 {
     match judged {
-        Judged::Text(n) => check::same(text, &out[..n]),
+        Judged::Text(n) => text == &out[..n],
         Judged::TooLong => false,
     }
 }
@@ -134,14 +135,12 @@ fn count_agreeing(
     agree
 }
 
-fn print_count(agree: u64, total: u64) {
-    io::print_decimal(1, agree);
-    io::write_all(1, b" of ");
-    io::print_decimal(1, total);
-    io::write_all(1, b" agree\n");
+fn print_count(rt: &HostRuntime, agree: u64, total: u64) -> io::Result<()> {
+    println!(rt; "{agree} of {total} agree")
 }
 
 fn replay(
+    rt: &HostRuntime,
     allocs: &mut [u64],
     parents: &mut [u16],
     protectors: &mut [u8],
@@ -151,23 +150,38 @@ fn replay(
     file: &[u8],
     request: &mut [u32],
     out: &mut [u8],
-)
+) -> io::Result<()>
     requires frames_value { have_lengths (buffers allocs.old parents.old protectors.old words.old codes.old) frames.old ≡ true }
     requires request_len { length request.old ≡ 4100 }
 {
-    if file.len() < 12 || !check::same(&file[..8], b"TBRUNS01") {
-        io::write_all(1, b"not a sample\n");
-        return;
+    if file.len() < 12 || !file.starts_with(b"TBRUNS01") {
+        return println!(rt; "not a sample");
     }
     let total = stream::word_at(file, 8) as u64;
     let agree = count_agreeing(
         allocs, parents, protectors, words, codes, frames, file, total, request, out,
     );
-    print_count(agree, total);
+    print_count(rt, agree, total)
+}
+
+// Reads until the buffer is full or the input ends, and tells how many bytes stand at its front then.
+fn read_full(rt: &HostRuntime, file: &mut [u8]) -> io::Result<usize>
+    ensures { IfOk result (λ n. n ≤ length file.new) }
+{
+    let mut done = 0;
+    while done < file.len() {
+        let n = rt.stdin().read(&mut file[done..])?;
+        if n == 0 {
+            break;
+        }
+        done += n;
+    }
+    Ok(done)
 }
 
 // A sample is read whole. One that is longer than the buffer has records that are not found.
 fn replay_input(
+    rt: &HostRuntime,
     allocs: &mut [u64],
     parents: &mut [u16],
     protectors: &mut [u8],
@@ -177,12 +191,13 @@ fn replay_input(
     file: &mut [u8],
     request: &mut [u32],
     out: &mut [u8],
-)
+) -> io::Result<()>
     requires frames_value { have_lengths (buffers allocs.old parents.old protectors.old words.old codes.old) frames.old ≡ true }
     requires request_len { length request.old ≡ 4100 }
 {
-    let n = io::read_full(0, file);
+    let n = read_full(rt, file)?;
     replay(
+        rt,
         allocs,
         parents,
         protectors,
@@ -192,10 +207,10 @@ fn replay_input(
         &file[..n],
         request,
         out,
-    );
+    )
 }
 
-fn main() {
+fn main(rt: HostRuntime) -> io::Result<()> {
     let mut allocs = [0u64; 1152];
     let mut parents = [0u16; 1024];
     let mut protectors = [0u8; 1024];
@@ -206,6 +221,7 @@ fn main() {
     let mut request = [0u32; 4100];
     let mut out = [0u8; 0x40000];
     replay_input(
+        &rt,
         &mut allocs,
         &mut parents,
         &mut protectors,
@@ -215,5 +231,5 @@ fn main() {
         &mut file,
         &mut request,
         &mut out,
-    );
+    )
 }

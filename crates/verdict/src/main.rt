@@ -14,6 +14,8 @@ ghost use Rattle.verdict.specs.Came.{Came, TurnMade, TurnsMade, Printed};
 
 use judge::Advance;
 use pointer::width::Width;
+use std::io::{self, Read};
+use std::process::ExitCode;
 
 // The input buffer holds bytes up to `end`, of which those from `advance.from` on are not yet performed; the text up to `advance.at` is not yet written.
 #[derive(Clone, Copy)]
@@ -51,32 +53,41 @@ fn failure(p: Progress) -> Progress
     }
 }
 
-fn write_text(text: &[u8]) -> bool {
-    let is_written = io::write_all(1, text);
-    if !is_written {
-        os::fail(b"write");
+// What failed, and why, on standard error. Where that fails too, there is nobody to tell.
+fn fail(rt: &HostRuntime, what: &str, error: io::Error) {
+    let _ = eprintln!(rt; "{what}: {error}");
+}
+
+// Whether all of the text was written.
+fn write_text(rt: &HostRuntime, text: &[u8]) -> bool {
+    match rt.stdout().write_all(text) {
+        Ok(()) => true,
+        Err(error) => {
+            fail(rt, "write", error);
+            false
+        }
     }
-    is_written
 }
 
 // Whoever feeds the program has every answer before more is read.
-fn read_more(input: &mut [u8], out: &[u8], p: Progress) -> Progress
+fn read_more(rt: &HostRuntime, input: &mut [u8], out: &[u8], p: Progress) -> Progress
     requires ready { Ready p input.old × (p.advance.at ≤ length out.now) }
     requires from_in_bounds { p.end - p.advance.from < length input.old }
     ensures { ReadOn result.failed p input.old result input.new }
 {
     let advance = p.advance;
     let at = advance.at;
-    if !write_text(&out[..at]) {
+    if !write_text(rt, &out[..at]) {
         return failure(p);
     }
     let kept = stream::move_to_front(input, advance.from, p.end);
-    let got = libc::read(0, &mut input[kept..]);
-    if got < 0 {
-        os::fail(b"read");
-        return failure(p);
-    }
-    let n = io::count(got, &input[kept..]);
+    let n = match rt.stdin().read(&mut input[kept..]) {
+        Ok(n) => n,
+        Err(error) => {
+            fail(rt, "read", error);
+            return failure(p);
+        }
+    };
     let width = advance.width;
     let next = Advance {
         from: 0,
@@ -94,7 +105,7 @@ fn read_more(input: &mut [u8], out: &[u8], p: Progress) -> Progress
 }
 
 // Writes the text where there may be no room for another line and the memory.
-fn flushed(out: &[u8], p: Progress, next: Advance) -> Progress
+fn flushed(rt: &HostRuntime, out: &[u8], p: Progress, next: Advance) -> Progress
     requires { next.at ≤ length out.now }
     ensures { (result ≡ flushed_as p next result.failed) × (is_long next ≡ false → result.failed ≡ false) }
 {
@@ -107,7 +118,7 @@ fn flushed(out: &[u8], p: Progress, next: Advance) -> Progress
             failed: false,
         };
     }
-    let failed = !write_text(&out[..at]);
+    let failed = !write_text(rt, &out[..at]);
     let width = next.width;
     let advance = Advance {
         from: next.from,
@@ -126,6 +137,7 @@ fn flushed(out: &[u8], p: Progress, next: Advance) -> Progress
 
 // Reads where the next request lacks bytes, and else performs it.
 fn turn(
+    rt: &HostRuntime,
     allocs: &mut [u64],
     parents: &mut [u16],
     protectors: &mut [u8],
@@ -152,7 +164,7 @@ fn turn(
     let end = p.end;
     let cut = stream::next_cut(&input[from..end]);
     if lacks(cut.size, end - from, p.ended) {
-        return read_more(input, out, p);
+        return read_more(rt, input, out, p);
     }
     let next = judge::turn::next(
         allocs,
@@ -167,11 +179,12 @@ fn turn(
         advance,
         cut,
     );
-    flushed(out, p, next)
+    flushed(rt, out, p, next)
 }
 
 // Turn by turn. A proved loop has to end, and nothing says that the input does: so it counts down from a number that no run uses up.
 fn take_turns(
+    rt: &HostRuntime,
     allocs: &mut [u64],
     parents: &mut [u16],
     protectors: &mut [u8],
@@ -203,7 +216,7 @@ fn take_turns(
     let mut turns = u64::MAX - 1;
     while (turns > 0) & goes_on(p) {
         p = turn(
-            allocs, parents, protectors, words, codes, frames, request, input, out, p,
+            rt, allocs, parents, protectors, words, codes, frames, request, input, out, p,
         );
         turns -= 1;
     }
@@ -252,6 +265,7 @@ fn finish(
 
 // Reads the run, and writes its text but for the end that stands in front of `out` then.
 fn judge_input(
+    rt: &HostRuntime,
     allocs: &mut [u64],
     parents: &mut [u16],
     protectors: &mut [u8],
@@ -268,24 +282,25 @@ fn judge_input(
 {
     state::clear(allocs, parents, protectors, words, codes, frames);
     let p = take_turns(
-        allocs, parents, protectors, words, codes, frames, request, input, out,
+        rt, allocs, parents, protectors, words, codes, frames, request, input, out,
     );
     finish(allocs, parents, protectors, words, codes, out, p)
 }
 
-// The end of the text.
-fn write_rest(out: &[u8], p: Progress)
+// The end of the text. Tells whether all text is written.
+fn write_rest(rt: &HostRuntime, out: &[u8], p: Progress) -> bool
     requires { p.failed ≡ false → p.advance.at ≤ length out.now }
+    ensures { p.failed ≡ true → result ≡ false }
 {
     if p.failed {
-        return;
+        return false;
     }
     let advance = p.advance;
     let at = advance.at;
-    write_text(&out[..at]);
+    write_text(rt, &out[..at])
 }
 
-fn main() {
+fn main(rt: HostRuntime) -> ExitCode {
     let mut allocs = [0u64; 1152];
     let mut parents = [0u16; 1024];
     let mut protectors = [0u8; 1024];
@@ -296,6 +311,7 @@ fn main() {
     let mut input = [0u8; 65536];
     let mut out = [0u8; 0x38000];
     let p = judge_input(
+        &rt,
         &mut allocs,
         &mut parents,
         &mut protectors,
@@ -306,5 +322,9 @@ fn main() {
         &mut input,
         &mut out,
     );
-    write_rest(&out, p);
+    if write_rest(&rt, &out, p) {
+        ExitCode::SUCCESS
+    } else {
+        ExitCode::FAILURE
+    }
 }
