@@ -29,8 +29,9 @@ from differences import following, framed, parts, requests_of
 HERE = pathlib.Path(__file__).resolve().parent
 ROOT = HERE.parent
 TOOLS = HERE / "target" / "release"
-# (a crate below the repository that crates.txt does not list is refused there)
-WORK = pathlib.Path(tempfile.gettempdir()) / "definition-on-runs"
+# (not below the repository, where `rt ci` refuses a crate that crates.txt does not list)
+ROOM = tempfile.TemporaryDirectory(prefix="definition-on-runs-")
+WORK = pathlib.Path(ROOM.name)
 EACH_FILE = 50
 # The most words that may follow a request's fourth in a run.
 MOST_WORDS = 4096
@@ -374,7 +375,6 @@ def main():
     options.add_argument("--lists", type=int, default=1000, help="how many of the short ones of each sort are taken")
     chosen = options.parse_args()
 
-    shutil.rmtree(WORK, ignore_errors=True)
     shutil.copytree(ROOT / "crates/definition", WORK / "crates/definition", ignore=shutil.ignore_patterns("proofs", "must-fail", "out"))
     (WORK / "crates.txt").write_text("definition:\n")
     (WORK / "crates/definition/proofs").mkdir()
