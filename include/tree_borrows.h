@@ -1,5 +1,5 @@
 /* The Tree Borrows memory, for programs in C and C++ on x86-64: the functions of libtree_borrows.a, which
-   `rt staticlib tree_borrows` writes to target/staticlib.
+   `rt lib` in crates/tree_borrows writes to crates/tree_borrows/out.
 
    WHAT IS LENT. A memory is five buffers that the caller owns and lends for each call, and a width: how many bits
    a pointer has, 16, 32 or 64. The buffers' lengths are fixed, see below. All zeros, with a width, are the empty

@@ -6,8 +6,8 @@
 Takes the runs and calls of docs/DIFFERENCES.md, which reach each bound by itself. Draws N lists that start from an empty memory, and N that start from a memory and frames drawn by chance, which reach what no run does (an end
 call that is refused). A third of each empty the memory now and then, to any width, or start at any. It takes the first L of each that have at most B bytes, and for whatever those do not reach the list of all that does
 with the fewest bytes and codes. It asks the oracle what each comes to (its answers, and the memory, frames and width that it leaves), and states for each list that the
-definition comes to the same, as a closed equation which the checker computes. The equations stand in a copy of the crate `definition` under
-target/, which is then checked. Nothing is assumed: an equation that does not hold is an error that names it.
+definition comes to the same, as a closed equation which the checker computes. The equations stand in a copy of the crate `definition` in a
+folder outside the repository, which is then checked. Nothing is assumed: an equation that does not hold is an error that names it.
 
 It says how many lists it passed over and why (too long, or too large a memory for the checker's steps), and what the others reached: answers by kind of request, the 60 combinations of code, access and
 relation, kinds of retags and layouts, and the edges of each width. The exit status is 1 if an equation does not hold, if the Rust has no answer to a list, or if an answer,
@@ -21,6 +21,7 @@ import re
 import shutil
 import subprocess
 import sys
+import tempfile
 
 import differences
 from differences import following, framed, parts, requests_of
@@ -28,7 +29,9 @@ from differences import following, framed, parts, requests_of
 HERE = pathlib.Path(__file__).resolve().parent
 ROOT = HERE.parent
 TOOLS = HERE / "target" / "release"
-WORK = ROOT / "target" / "definition-on-runs"
+# (not below the repository, where `rt ci` refuses a crate that crates.txt does not list)
+ROOM = tempfile.TemporaryDirectory(prefix="definition-on-runs-")
+WORK = pathlib.Path(ROOM.name)
 EACH_FILE = 50
 # The most words that may follow a request's fourth in a run.
 MOST_WORDS = 4096
@@ -87,12 +90,12 @@ def answer(line):
     """A line of the output: the request's number, its refusal or 0, and what it gives."""
     _, refusal, *given = line.split(" ")
     if refusal == "25":
-        return f"leakAnswer (some {given[0]})"
+        return f"leak_answer (some {given[0]})"
     if refusal != "0" or given == ["-"]:
-        return f"refusedWith {refusal}"
+        return f"refused_with {refusal}"
     if "." in given[0]:
-        return f"givesPointer (some ({provenance(given[0])}))"
-    return f"givesWords {listed(str(int(word, 16)) for word in given)}"
+        return f"gives_pointer (some ({provenance(given[0])}))"
+    return f"gives_words {listed(str(int(word, 16)) for word in given)}"
 
 
 def state(lines):
@@ -155,7 +158,7 @@ class Case:
         requests = [[int(word, 16) for word in request.split(" ") if len(word) == 8] for request in requests_of(self.run)]
         if any(len(words) > 3 and following(words[0], words[3]) > MOST_WORDS for words in requests):
             return listed(listed(map(str, words)) for words in requests)
-        return f"(requestsOf {listed(map(str, self.run))})"
+        return f"(requests_of {listed(map(str, self.run))})"
 
     def equation(self, opened):
         start = "start" if self.start is None else f"({state(self.start)})"
@@ -191,20 +194,19 @@ def unfolded():
 
 
 def header(names):
-    extra = {"Permission": ["permission"], "Memory": ["refusedWith", "givesPointer", "givesWords", "leakAnswer"], "Frame": ["State"], "Run": ["RunState", "restRequest", "run", "start"]}
+    extra = {"Permission": ["permission"], "Memory": ["refused_with", "gives_pointer", "gives_words", "leak_answer"], "Frame": ["State"], "Run": ["RunState", "rest_request", "run", "start"]}
     lines = [
-        "use Prim.Native.Nat.{ℕ}",
-        "use mathlib.Core.Path.{_≡_, refl}",
+        "use Rattle.std.specs.Prelude.{ℕ, ◌≡◌, List, [], ◌∷◌, map}",
+        "use mathlib.Core.Path.{refl}",
         "use mathlib.Core.Option.{none, some}",
-        "use mathlib.Core.List.{List, [], _∷_, map}",
-        "use Rattle·definition·specs.specs.Width.Width.{Bits16, Bits32, Bits64}",
-        "use Rattle·definition·specs.specs.Permission.Protected.{No, Weak, Strong}",
-        "use Rattle·definition·specs.specs.Memory.Liveness.{Live, Dead}",
-        "use Rattle·definition·specs.specs.Memory.AllocationKind.{Stack, Heap, Global, Function, VTable}",
-        "use Rattle·definition·specs.specs.Frame.Frame.{Closed, Open}",
+        "use Rattle.definition.specs.Width.Width.{Bits16, Bits32, Bits64}",
+        "use Rattle.definition.specs.Permission.Protected.{No, Weak, Strong}",
+        "use Rattle.definition.specs.Memory.Liveness.{Live, Dead}",
+        "use Rattle.definition.specs.Memory.AllocationKind.{Stack, Heap, Global, Function, VTable}",
+        "use Rattle.definition.specs.Frame.Frame.{Closed, Open}",
     ]
     for module, own in names.items():
-        lines.append(f"use Rattle·definition·specs.specs.{module}.{{{', '.join(own + extra.get(module, []))}}}")
+        lines.append(f"use Rattle.definition.specs.{module}.{{{', '.join(own + extra.get(module, []))}}}")
     return "\n".join(lines) + "\n"
 
 
@@ -253,14 +255,14 @@ def claimed(call, lines):
     memory, _ = memory_and_frames(lines)
     if call[0] == "allocate":
         _, _, exponent, address, size = call
-        return f"allocateRefusal {width(lines)} {memory} {size} {exponent} {address}"
+        return f"allocate_refusal {width(lines)} {memory} {size} {exponent} {address}"
     if call[0] == "signed_dereferenceable":
         _, name, address, length = call
         pointer = f"record {{ address = {address}; provenance = some ({provenance(name)}) }}"
-        return f"dereferenceable ({pointer}) {back_and_ahead(length)} {memory} .0 .refusal"
+        return f"(dereferenceable ({pointer}) {back_and_ahead(length)} {memory}).0.refusal"
     _, address, offset, *bits = call
     at = f"Bits{bits[0]}" if bits else width(lines)
-    return f"wrappingOffset {at} (record {{ address = {address}; provenance = none }}) {back_and_ahead(offset)} .address"
+    return f"(wrapping_offset {at} (record {{ address = {address}; provenance = none }}) {back_and_ahead(offset)}).address"
 
 
 def back_and_ahead(length):
@@ -334,7 +336,7 @@ def check(cases):
         modules.append(f"Lists{first // EACH_FILE}")
         (proofs / f"{modules[-1]}.antt").write_text(equations(cases[first : first + EACH_FILE], names))
     (proofs / "Lib.antt").write_text("".join(f"mod {module}\n" for module in modules))
-    checked = subprocess.run(["rt", "dev", "definition"], cwd=WORK, stdout=subprocess.PIPE, stderr=subprocess.STDOUT, text=True)
+    checked = subprocess.run(["rt", "check"], cwd=WORK / "crates/definition", stdout=subprocess.PIPE, stderr=subprocess.STDOUT, text=True)
     errors = re.findall(r"error: `((?:list|start|page)-\w+)`(.*)", checked.stdout)
     if not errors and "logic=proved" not in checked.stdout:
         sys.exit(checked.stdout[-3000:] + "\nthe equations were not checked")
@@ -373,8 +375,7 @@ def main():
     options.add_argument("--lists", type=int, default=1000, help="how many of the short ones of each sort are taken")
     chosen = options.parse_args()
 
-    shutil.rmtree(WORK, ignore_errors=True)
-    shutil.copytree(ROOT / "crates/definition", WORK / "crates/definition", ignore=shutil.ignore_patterns("proofs", "must-fail"))
+    shutil.copytree(ROOT / "crates/definition", WORK / "crates/definition", ignore=shutil.ignore_patterns("proofs", "must-fail", "out"))
     (WORK / "crates.txt").write_text("definition:\n")
     (WORK / "crates/definition/proofs").mkdir()
 

@@ -6,7 +6,7 @@
 
 Each run stands there in a block of runs: its name, its requests, what the program answers to the last of them (`here:`) and what the
 Rust says to it (`Rust:`). Behind a `|` stand lines that the output must have: of the memory that is left, or an earlier answer. The program is
-target/bin/verdict, or VERDICT; the Rust is asked by itself (`oracle --itself`), so that its driver answers nothing first. The exit status is 1 if
+crates/verdict/out/verdict, or VERDICT; the Rust is asked by itself (`oracle --itself`), so that its driver answers nothing first. The exit status is 1 if
 something is not as the page says, or if a table and the blocks name different runs.
 
   NAME     only these
@@ -24,7 +24,7 @@ import sys
 
 HERE = pathlib.Path(__file__).resolve().parent
 PAGE = HERE.parent / "docs" / "DIFFERENCES.md"
-VERDICT = os.environ.get("VERDICT", HERE.parent / "target" / "bin" / "verdict")
+VERDICT = os.environ.get("VERDICT", HERE.parent / "crates" / "verdict" / "out" / "verdict")
 ORACLE = HERE / "target" / "release" / "oracle"
 NAME = r"[A-Z]\d+[a-z]?"
 KINDS = "allocate,deallocate,load,store,retag,new call,end call,dereferenceable,signed dereferenceable,leak check".split(",")

@@ -6,66 +6,78 @@ import pty
 import shutil
 import subprocess
 import sys
+import time
 import unittest
 
 from support import BIN, TestCase, read, run
 
 from hiedukson import progress
 
-CRATES = "verdict: core io\nother: core\ntree_borrows: core\ncore:\n"
+CRATES = "verdict: core io\nother: core\ntree_borrows staticlib: core\ncore:\n"
 # The stand-in for rt counts its calls, says what the file 'says' has, and builds the program unless that is forbidden.
 RT = """#!/bin/sh
+crate="${PWD##*/}"
 cd "$(dirname "$0")/.." || exit 9
 [ "$1" = version ] && { echo kit-0; exit 0; }
-[ "$1 $2" = "staticlib tree_borrows" ] && { echo call >>calls; mkdir -p target/staticlib; echo archive >target/staticlib/libtree_borrows.a; exit 0; }
-[ "$1 $2" = "check verdict" ] || exit 9
+mkdir -p "crates/$crate/out"
+[ "$crate $*" = "tree_borrows lib" ] && { echo call >>calls; echo archive >crates/tree_borrows/out/libtree_borrows.a; exit 0; }
+[ "$crate $*" = "verdict run" ] || exit 9
 [ -z "$(cat)" ] || exit 8
 echo call >>calls
 cat says
 sleep "$(cat pause)"
 [ ! -e broken ] || exit 1
-mkdir -p target/bin
-cp program target/bin/verdict
+cp program crates/verdict/out/verdict
 """
 PROGRAM = """#!/bin/sh
 cat >/dev/null
 printf '0 0 %s\\n' "$(cat {root}/crates/core/src/lib.rt)"
 """
+# What rt says at the end of a crate's check.
+CHECKED = "crate {}: modules loaded=2 checked=4\nlogic=proved functions=1\n"
 # A card that any program may be given.
 CARD = b"00000001 00000000 00000010 00000002\n"
 
 
 class Estimate(TestCase):
     def meter(self, *lines):
-        meter = progress.Meter({"a": 6_000, "b": 60_000, "c": 60_000}, "log", print)
+        below = {"a": ["a"], "b": ["a", "b"], "c": ["a", "c"]}
+        meter = progress.Meter({"a": 6_000, "b": 60_000, "c": 60_000}, lambda crate: below[crate], "log", print)
         for line in lines:
             meter.hear(line)
         return meter
 
+    def checked(self, crate, modules):
+        return f"crate {crate}: modules loaded=2 checked={modules}".encode(), b"axioms os: none reached", b"logic=proved functions=3"
+
     def test_before_anything_is_measured(self):
         self.assertEqual(self.meter().line(5), "proving: crate 1 of 3, 5 s so far, about 16 s more")
-        self.assertEqual(self.meter(b"rt: a proved (9 s)").line(70), "proving: crate 2 of 3, 1 min 10 s so far, longer than expected")
+        self.assertEqual(self.meter(*self.checked("a", 4)).line(70), "proving: crate 2 of 3, 1 min 10 s so far, longer than expected")
 
     def test_as_fast_as_it_goes(self):
-        meter = self.meter(b"rt: a proved (unchanged since it was last proved)", b"rt: b proved (80 s)")
+        meter = self.meter(*self.checked("a", 0), *self.checked("b", 4))
         self.assertEqual(meter.line(80), "proving: crate 3 of 3, 1 min 20 s so far, about 1 min 20 s more")
 
+    def test_of_what_is_built_nothing_is_said(self):
+        self.assertEqual(self.meter(*self.checked("b", 4)).line(80), "proving: crate 3 of 3, 1 min 20 s so far, about 1 min 20 s more")
+
     def test_other_lines_count_for_nothing(self):
-        self.assertEqual(self.meter(b"fn a: proved", b"rt: b NOT PROVED (exit 1, 3 s)").done, 0)
+        lines = b"fn a: proved", b"only=0 proved=0", b"logic=proved functions=3", b"crate b: modules loaded=2 checked=4", b"logic=not-proved"
+        self.assertEqual(self.meter(*lines).done, set())
 
 
 class Repository(TestCase):
     def setUp(self):
         super().setUp()
         self.root = self.path("repository")
-        for folder in ("crates/core/src", "crates/verdict/src", "crates/other/src", "crates/core/must-fail", "kit"):
+        for folder in ("crates/core/src", "crates/verdict/src", "crates/other/src", "crates/tree_borrows", "crates/core/must-fail", "kit"):
             os.makedirs(os.path.join(self.root, folder))
         shutil.copytree(BIN, os.path.join(self.root, "bin"), ignore=shutil.ignore_patterns("__pycache__"))
         self.put("crates.txt", CRATES)
         self.put("crates/core/src/lib.rt", "one")
         self.put("crates/verdict/src/main.rt", "main")
         self.put("crates/other/src/lib.rt", "other")
-        self.put("says", "rt: core proved (1 s)\nrt: verdict proved (2 s)\n")
+        self.put("says", CHECKED.format("core") + CHECKED.format("verdict"))
         self.put("pause", "0")
         self.put("program", PROGRAM.format(root=self.root), 0o755)
         self.put("kit/rt", RT, 0o755)
@@ -130,7 +142,7 @@ class Repository(TestCase):
 
     def test_built_again_when_the_program_is_another(self):
         self.verdict()
-        self.put("target/bin/verdict", "#!/bin/sh\ncat >/dev/null\necho 0 0 wrong\n", 0o755)
+        self.put("crates/verdict/out/verdict", "#!/bin/sh\ncat >/dev/null\necho 0 0 wrong\n", 0o755)
         self.assertEqual(self.verdict()[1], b"0 0 one\n")
         self.assertEqual(self.calls(), 2)
 
@@ -161,18 +173,18 @@ class Repository(TestCase):
     def test_without_rt(self):
         status, output, error = self.verdict(has_rt=False)
         self.assertEqual((status, output), (2, b""))
-        self.assertEqual(error, "verdict: target/bin/verdict is not built, and there is no rt to build it\n")
+        self.assertEqual(error, "verdict: crates/verdict/out/verdict is not built, and there is no rt to build it\n")
         self.verdict()
         self.assertEqual(self.verdict(has_rt=False), (0, b"0 0 one\n", ""))
         self.put("crates/core/src/lib.rt", "two")
         status, output, error = self.verdict(has_rt=False)
         self.assertEqual((status, output), (2, b""))
-        self.assertEqual(error, "verdict: target/bin/verdict is older than crates/core/src/lib.rt, and there is no rt to build it again\n")
+        self.assertEqual(error, "verdict: crates/verdict/out/verdict is older than crates/core/src/lib.rt, and there is no rt to build it again\n")
 
     def test_without_rt_a_record_counts(self):
         """A source that was only touched, and checked again, does not make the program stale where there is no rt."""
         self.verdict()
-        later = os.stat(os.path.join(self.root, "target/bin/verdict")).st_mtime + 100
+        later = os.stat(os.path.join(self.root, "crates/verdict/out/verdict")).st_mtime + 100
         os.utime(os.path.join(self.root, "crates.txt"), (later, later))
         self.assertEqual(self.verdict(has_rt=False)[0], 2)
         self.put("kit/rt", RT.replace("cp program", "cp -p program"), 0o755)
@@ -188,13 +200,13 @@ class Repository(TestCase):
         self.assertEqual((status, output), (2, b""))
         self.assertNotIn("line 24\n", error)
         self.assertIn("verdict:     line 25\n", error)
-        self.assertIn("line 39\nverdict: target/bin/verdict is not proved, rt ended with status 1; target/log/check-verdict.out has all that it said\n", error)
+        self.assertIn("line 39\nverdict: crates/verdict/out/verdict is not proved, rt ended with status 1; target/log/check-verdict.out has all that it said\n", error)
         with open(os.path.join(self.root, "target/log/check-verdict.out"), encoding="utf-8") as log:
             self.assertEqual(len(log.readlines()), 40)
 
     def test_progress(self):
         self.put("pause", "3")
-        self.put("says", "rt: core proved (1 s)\n")
+        self.put("says", CHECKED.format("core"))
         status, output, error = self.verdict()
         self.assertEqual((status, output), (0, b"0 0 one\n"))
         lines = error.splitlines()
@@ -205,7 +217,7 @@ class Repository(TestCase):
     def test_progress_on_a_terminal(self):
         """One line, written again each second and taken away at the end."""
         self.put("pause", "4")
-        self.put("says", "rt: core proved (1 s)\n")
+        self.put("says", CHECKED.format("core"))
         above, below = pty.openpty()
         command = [os.path.join(self.root, "bin/verdict"), self.write("a.hex", CARD)]
         env = {**os.environ, "PATH": f"{self.root}/kit:{os.environ['PATH']}"}
@@ -237,6 +249,21 @@ class Repository(TestCase):
         self.assertEqual(read(f"{prefix}/share/man/man1/verdict.1"), b"page")
         self.assertEqual(run([f"{prefix}/bin/verdict"], CARD, env=self.env(has_rt=False))[:2], (0, b"0 0 one\n"))
         self.assertIn(b"toolchain kit-0\n", run([f"{prefix}/bin/verdict", "--version"], env=self.env(has_rt=False))[1])
+
+    def test_taken_as_another_command_built_it(self):
+        """What stands there after a whole check is fresh, unless a source has changed since that began."""
+        began, words = time.time_ns(), "import sys; sys.path.insert(0, 'bin/lib'); from hiedukson import program; print(program.BUILT.take(int(sys.argv[1])))"
+        taken = lambda: run(["python3", "-c", words, str(began)], cwd=self.root, env=self.env())[1]
+        self.assertEqual(taken(), b"False\n")
+        os.mkdir(os.path.join(self.root, "crates/verdict/out"))
+        shutil.copy(os.path.join(self.root, "program"), os.path.join(self.root, "crates/verdict/out/verdict"))
+        self.assertEqual(taken(), b"True\n")
+        self.assertEqual(self.verdict(), (0, b"0 0 one\n", ""))
+        self.assertEqual(self.calls(), 0)
+        self.put("crates/core/src/lib.rt", "two")
+        self.assertEqual(taken(), b"False\n")
+        self.assertEqual(self.verdict(), (0, b"0 0 two\n", ""))
+        self.assertEqual(self.calls(), 1)
 
     def test_no_repository(self):
         os.unlink(os.path.join(self.root, "crates.txt"))

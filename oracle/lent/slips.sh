@@ -4,7 +4,7 @@
 set -u
 cd "$(dirname "$0")/.."
 export RUSTC_BOOTSTRAP=1
-export TREE_BORROWS_LIB="${TREE_BORROWS_LIB:-$PWD/../target/staticlib}"
+export TREE_BORROWS_LIB="${TREE_BORROWS_LIB:-$PWD/../crates/tree_borrows/out}"
 work=target/lent-slips
 rm -rf "$work/src" "$work/examples"
 mkdir -p "$work/src" "$work/examples"

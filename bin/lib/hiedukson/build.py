@@ -1,8 +1,9 @@
 """What rt builds in a repository: built when it is missing, and built again when one of its sources has changed.
 
-    Built(crate, path, words)   what the words of a command build from a crate, at a path below the root
+    Built(crate, name, words)   what the words of a command, in a crate's folder, leave under that name in its folder out
     built.path_of(say)          its path, once it is fresh; raises ProgramError where that cannot be had
     built.is_fresh              whether it is there, and built from the sources as they are
+    built.take(began)           record that it is fresh: for what another command built from sources that are older than `began`
 
 A record beside it has the path, size and time of every source from the last check, of `rt`, and of itself. Any
 difference leads to a new check, which takes a second where nothing has to be proved. Where there is no `rt`, what
@@ -20,15 +21,16 @@ CRATES = os.path.join(ROOT, "crates.txt")
 # Compiling a program takes as long as proving so many bytes of sources.
 COMPILING = 400_000
 # These folders of a crate have no part in what is built.
-APART = ("must-fail",)
+APART = ("must-fail", "out")
 
 
 class Built:
-    def __init__(self, crate, path, words):
+    def __init__(self, crate, name, words):
         self.crate = crate
         self.words = words
-        self.shown = path
-        self.path = os.path.join(ROOT, path)
+        self.folder = os.path.join(ROOT, "crates", crate)
+        self.path = os.path.join(self.folder, "out", name)
+        self.shown = os.path.relpath(self.path, ROOT)
         self.record = self.path + ".sources"
         self.lock = os.path.join(ROOT, "target", crate + ".lock")
         self.log = os.path.join(ROOT, "target", "log", f"check-{crate}.out")
@@ -52,6 +54,14 @@ class Built:
             where = error.filename or "target"
             raise ProgramError(f"{self.shown} cannot be built: {where}: {error.strerror}") from None
         return self.path
+
+    def take(self, began):
+        """Record that it is fresh, and say whether it is: it is there, and no source is newer than `began`, in nanoseconds."""
+        sources = self._sources()
+        if not os.path.exists(self.path) or any(changed > began for _, _, changed in sources):
+            return False
+        self._write_record(_toolchain() + self._recorded(sources))
+        return True
 
     def _sources(self):
         """Path, size and time of every source."""
@@ -99,7 +109,7 @@ class Built:
 
     def _check(self, say):
         weights = {crate: _weight(crate) for crate in crates_of(self.crate)}
-        status = progress.follow(self.words, ROOT, self.log, weights, say)
+        status = progress.follow(self.words, self.folder, self.log, weights, crates_of, say)
         if status != 0 or not os.path.exists(self.path):
             for line in progress.last_lines(self.log):
                 say("    " + line)
@@ -118,9 +128,10 @@ def crates_of(name):
     needs = {}
     with open(CRATES, encoding="utf-8") as lines:
         for line in lines:
+            # (words behind a crate's name, before the colon, say what it is: `staticlib`)
             crate, _, rest = line.split("#")[0].partition(":")
             if crate.strip():
-                needs[crate.strip()] = rest.split()
+                needs[crate.split()[0]] = rest.split()
     reached = []
     todo = [name]
     while todo:

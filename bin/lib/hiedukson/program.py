@@ -14,8 +14,9 @@ import subprocess
 from .build import ROOT, Built
 from .errors import ProgramError
 
-BUILT = Built("verdict", "target/bin/verdict", ["rt", "check", "verdict"])
-LIBRARY = Built("tree_borrows", "target/staticlib/libtree_borrows.a", ["rt", "staticlib", "tree_borrows"])
+# (`rt run` also runs the program once, on nothing)
+BUILT = Built("verdict", "verdict", ["rt", "run"])
+LIBRARY = Built("tree_borrows", "libtree_borrows.a", ["rt", "lib"])
 INSTALLED = os.path.join(ROOT, "program", "verdict")
 INSTALLED_VERSION = os.path.join(ROOT, "VERSION")
 

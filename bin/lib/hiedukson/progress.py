@@ -15,16 +15,18 @@ USUAL_RATE = 6_000
 MEASURED_FROM = 0.1
 LAST_LINES = 15
 
-_PROVED = re.compile(rb"^rt: (\S+) proved \((\d+ s|unchanged)")
+# At the end of a crate's check: how many of its modules were checked, none if nothing has changed; and that it is proved.
+_CHECKED = re.compile(rb"^crate (\S+): modules loaded=\d+ checked=(\d+)")
+_PROVED = b"logic=proved "
 
 
-def follow(command, folder, log, weights, say):
+def follow(command, folder, log, weights, crates_of, say):
     """Run a check in a folder, its output in a log, and return its status. `weights` has how much there is to prove in
-    each crate."""
+    each crate; `crates_of` gives a crate and those below it."""
     with open(log, "wb") as out:
         streams = {"stdin": subprocess.DEVNULL, "stdout": subprocess.PIPE, "stderr": subprocess.STDOUT}
         process = subprocess.Popen(command, cwd=folder, **streams)
-        meter = Meter(weights, log, say)
+        meter = Meter(weights, crates_of, log, say)
         try:
             _copy(process.stdout, out, meter)
         except BaseException:
@@ -55,26 +57,35 @@ def _copy(source, out, meter):
 class Meter:
     """How far a check is, by the crates that it has proved."""
 
-    def __init__(self, weights, log, say):
+    def __init__(self, weights, crates_of, log, say):
         self.weights = weights
+        self.crates_of = crates_of
         self.log = os.path.relpath(log)
         self.say = say
         self.start = time.monotonic()
-        self.done = 0
+        # the crate whose check ends, and whether anything of it was checked
+        self.last = None
+        self.done = set()
         self.skipped = 0
         self.proved = 0
         self.is_terminal = sys.stderr is not None and sys.stderr.isatty()
         self.is_shown = False
 
     def hear(self, line):
-        found = _PROVED.match(line)
+        found = _CHECKED.match(line)
         if found:
-            weight = self.weights.get(found.group(1).decode(), 0)
-            self.done += 1
-            if found.group(2) == b"unchanged":
-                self.skipped += weight
+            self.last = found.group(1).decode(), int(found.group(2)) > 0
+        elif line.startswith(_PROVED) and self.last:
+            crate, is_new = self.last
+            self.last = None
+            # Of a library that is built already nothing is said.
+            below = {it for it in self.crates_of(crate) if it in self.weights} - self.done - {crate}
+            self.skipped += sum(self.weights[it] for it in below)
+            if is_new:
+                self.proved += self.weights.get(crate, 0)
             else:
-                self.proved += weight
+                self.skipped += self.weights.get(crate, 0)
+            self.done |= below | {crate}
 
     def show(self):
         elapsed = time.monotonic() - self.start
@@ -88,7 +99,7 @@ class Meter:
         self.is_shown = True
 
     def line(self, elapsed):
-        crate = min(self.done + 1, len(self.weights))
+        crate = min(len(self.done) + 1, len(self.weights))
         left = self.left(elapsed)
         expected = f"about {duration(left)} more" if left >= 1 else "longer than expected"
         return f"proving: crate {crate} of {len(self.weights)}, {duration(elapsed)} so far, {expected}"
