@@ -1,5 +1,5 @@
 -- At i the answer is that for the allocations from i on, whose parts stand at the front of what is left.
-use Prim.Native.Nat.{ℕ, ◌-◌}
+use Prim.Native.Nat.{ℕ}
 use mathlib.Core.Path.{sym, ap, ◌∙◌}
 use native.Mathlib.Nat.{sub-zero}
 use native.Mathlib.Omega.{arith}
@@ -27,22 +27,22 @@ returns-then-bad_allocation_at c = let a = c.args in
 pub overflow_add-node : goal.overflow_add-node
 overflow_add-node c = let parts-fit : let a = c.args in
     PartsFit a.allocs.now a.parents.now a.protectors.now a.words.now a.codes.now c.loop-i.i c.loop-i.node c.loop-i.word c.loop-i.code = let k = c.loop-i.invariant in walk-fits _ _ _ _ _ _ _ _ _ _ c.bad_allocation_at.ensures c.if-bad_allocation_at.false k.1 k.2 k.3 k.4 in
-    omega (arith, (parts-fit).parents)
+    omega (arith, parts-fit.parents)
 
 pub overflow_add-word : goal.overflow_add-word
 overflow_add-word c = let parts-fit : let a = c.args in
     PartsFit a.allocs.now a.parents.now a.protectors.now a.words.now a.codes.now c.loop-i.i c.loop-i.node c.loop-i.word c.loop-i.code = let k = c.loop-i.invariant in walk-fits _ _ _ _ _ _ _ _ _ _ c.bad_allocation_at.ensures c.if-bad_allocation_at.false k.1 k.2 k.3 k.4 in
-    omega (arith, (parts-fit).words)
+    omega (arith, parts-fit.words)
 
 pub overflow_mul-code : goal.overflow_mul-code
 overflow_mul-code c = let parts-fit : let a = c.args in
     PartsFit a.allocs.now a.parents.now a.protectors.now a.words.now a.codes.now c.loop-i.i c.loop-i.node c.loop-i.word c.loop-i.code = let k = c.loop-i.invariant in walk-fits _ _ _ _ _ _ _ _ _ _ c.bad_allocation_at.ensures c.if-bad_allocation_at.false k.1 k.2 k.3 k.4 in
-    omega (arith, (parts-fit).codes)
+    omega (arith, parts-fit.codes)
 
 pub overflow_add-code : goal.overflow_add-code
 overflow_add-code c = let parts-fit : let a = c.args in
     PartsFit a.allocs.now a.parents.now a.protectors.now a.words.now a.codes.now c.loop-i.i c.loop-i.node c.loop-i.word c.loop-i.code = let k = c.loop-i.invariant in walk-fits _ _ _ _ _ _ _ _ _ _ c.bad_allocation_at.ensures c.if-bad_allocation_at.false k.1 k.2 k.3 k.4 in
-    omega (arith, (parts-fit).codes)
+    omega (arith, parts-fit.codes)
 
 pub loop-i-preserved : goal.loop-i-preserved
 loop-i-preserved c = let parts-fit : let a = c.args in

@@ -1,5 +1,5 @@
 -- Each return is the definition with the tests up to it decided.
-use borrow.Author.Tests.{eq-eqb, ne_eqb, lt-ltb, le-ltb, not-true, not-false}
+use borrow.Author.Tests.{eq-eqb, ne_eqb, lt-ltb, le-ltb}
 use Rattle.wellformed.specs.WellFormed.{bad_code}
 use Rattle.wellformed.proofs.bad_code.Goals as goal
 

@@ -1,7 +1,6 @@
 -- Each return is the test with what precedes it decided.
 use mathlib.Core.Path.{◌≡◌, sym, ap, ◌∙◌}
 use mathlib.Core.Bool.{true}
-use borrow.Author.Tests.{not-true, not-false}
 use Rattle.definition.specs.Width.{Width}
 use Rattle.tables.specs.Encoding.{Buffers}
 use Rattle.tables.specs.Decoding.{view}
@@ -26,14 +25,14 @@ returns-then-not-well_formed c =
 
 pub fits_width-requires : goal.fits_width-requires
 fits_width-requires c = let given : Buffers = let a = c.args in buffers a.allocs.now a.parents.now a.protectors.now a.words.now a.codes.now in
-    let formed : well_formed (given) ≡ true = sym c.well_formed-2.ensures.test ∙ c.if-not-well_formed.false in
-    (_, holds-records (sound _ (formed)))
+    let formed : well_formed given ≡ true = sym c.well_formed-2.ensures.test ∙ c.if-not-well_formed.false in
+    (_, holds-records (sound _ formed))
 
 pub returns : goal.returns
 unfolding well_formed_at
 returns c = let given : Buffers = let a = c.args in buffers a.allocs.now a.parents.now a.protectors.now a.words.now a.codes.now in
     let numbered : c.is_width.result ≡ true = c.if-not-is_width.false in
-    let formed : well_formed (given) ≡ true = sym c.well_formed-2.ensures.test ∙ c.if-not-well_formed.false in
+    let formed : well_formed given ≡ true = sym c.well_formed-2.ensures.test ∙ c.if-not-well_formed.false in
     let b = given in
     rw (sym c.is_width.ensures ∙ numbered, formed)
-    (c.fits_width.ensures _ (holds-records (sound _ (formed))) ∙ ap (λ (w : Width). fits_in w (view b) b.words) c.width_at.ensures)
+    (c.fits_width.ensures _ (holds-records (sound _ formed)) ∙ ap (λ (w : Width). fits_in w (view b) b.words) c.width_at.ensures)
