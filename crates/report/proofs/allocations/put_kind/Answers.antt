@@ -2,6 +2,7 @@
 use Prim.Native.Nat.{ℕ}
 use mathlib.Core.List.{◌++◌}
 use mathlib.Core.Path.{◌≡◌, ap, sym}
+use native.Mathlib.Omega.{arith}
 use Rattle.definition.specs.Memory.AllocationKind.{Stack}
 use Rattle.definition.specs.Memory.{AllocationKind}
 use Rattle.definition.specs.Output.{Text, ascii, kind_name}
@@ -31,8 +32,8 @@ put_bytes-requires-in-4 c = room_as (ap (λ (n : ℕ). text (allocation_kind n))
 
 pub put_bytes-requires-in_default : goal.put_bytes-requires-in_default
 unfolding kind_name
-put_bytes-requires-in_default c = let is-stack : allocation_kind c.args.kind ≡ Stack = let none = c.in_default.in_default-own.rest in stack-rest _ none.0.0.0.1 none.0.0.1 none.0.1 none.1 in
-    room_as (ap text (is-stack)) c.requires
+put_bytes-requires-in_default c = let is-stack : allocation_kind c.args.kind ≡ Stack = stack-rest _ (omega arith) (omega arith) (omega arith) (omega arith) in
+    room_as (ap text is-stack) c.requires
 
 pub returns-in-1 : goal.returns-in-1
 unfolding kind_name
@@ -52,5 +53,5 @@ returns-in-4 c = written_as (ap (λ (n : ℕ). text (allocation_kind n)) (sym c.
 
 pub returns-in_default : goal.returns-in_default
 unfolding kind_name
-returns-in_default c = let is-stack : allocation_kind c.args.kind ≡ Stack = let none = c.in_default.in_default-own.rest in stack-rest _ none.0.0.0.1 none.0.0.1 none.0.1 none.1 in
-    written_as (ap text (sym (is-stack))) c.put_bytes-in_default.ensures
+returns-in_default c = let is-stack : allocation_kind c.args.kind ≡ Stack = stack-rest _ (omega arith) (omega arith) (omega arith) (omega arith) in
+    written_as (ap text (sym is-stack)) c.put_bytes-in_default.ensures

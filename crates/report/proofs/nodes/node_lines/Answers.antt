@@ -26,9 +26,6 @@ overflow_add-end c = let rows : let a = c.args in let l = c.loop-node in
     rows_next (length a.parents.now) l.node a.size l.start (length a.codes.now) c.loop-node-test.true l.invariant.1 in
     omega (arith, rows)
 
-pub overflow_cast-parents : goal.overflow_cast-parents
-overflow_cast-parents c = omega (arith, c.shared_slice_known-in-loop-node-1.given c.loop-node.node)
-
 pub slice_bounds-node_line-start : goal.slice_bounds-node_line-start
 slice_bounds-node_line-start c = let rows : let a = c.args in let l = c.loop-node in
     l.start + a.size + (length a.parents.now - (l.node + 1)) * a.size ≡ length a.codes.now = let a = c.args in

@@ -2,7 +2,7 @@
 use Prim.Native.Nat.{◌+◌, ◌-◌, ◌*◌, ◌≤◌}
 use mathlib.Core.Path.{◌≡◌}
 use lib.ListN.{length}
-use Rattle.definition.specs.Output.{node_line, node_lines}
+use Rattle.definition.specs.Output.{node_lines}
 use Rattle.tables.specs.Decoding.{nodes_in}
 use Rattle.report.proofs.Rows.{lines_from}
 use Rattle.report.proofs.Writes.{Left}

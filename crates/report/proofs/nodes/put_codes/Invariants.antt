@@ -1,7 +1,6 @@
 -- At i the codes from i on are left. A code below 15 is that of its permission.
 use Prim.Native.Nat.{◌-◌, ◌≤◌}
 use mathlib.Core.List.{map}
-use mathlib.Core.Path.{ap}
 use lib.ListN.{length, drop}
 use Rattle.definition.specs.Output.{digit}
 use Rattle.report.proofs.Writes.{Left}

@@ -2,6 +2,7 @@
 use Prim.Native.Nat.{ℕ}
 use mathlib.Core.List.{◌++◌}
 use mathlib.Core.Path.{◌≡◌, ap, sym}
+use native.Mathlib.Omega.{arith}
 use Rattle.definition.specs.Output.{Text, ascii, protector_name}
 use Rattle.definition.specs.Permission.Protected.{No}
 use Rattle.definition.specs.Permission.{Protected}
@@ -23,8 +24,8 @@ put_bytes-requires-in-2 c = room_as (ap (λ (n : ℕ). text (protector n)) c.in-
 
 pub put_bytes-requires-in_default : goal.put_bytes-requires-in_default
 unfolding protector_name
-put_bytes-requires-in_default c = let is-no : protector c.args.mark ≡ No = let none = c.in_default.in_default-own.rest in no-rest _ none.0.1 none.1 in
-    room_as (ap text (is-no)) c.requires
+put_bytes-requires-in_default c = let is-no : protector c.args.mark ≡ No = no-rest _ (omega arith) (omega arith) in
+    room_as (ap text is-no) c.requires
 
 pub returns-in-1 : goal.returns-in-1
 unfolding protector_name
@@ -36,5 +37,5 @@ returns-in-2 c = written_as (ap (λ (n : ℕ). text (protector n)) (sym c.in-2.i
 
 pub returns-in_default : goal.returns-in_default
 unfolding protector_name
-returns-in_default c = let is-no : protector c.args.mark ≡ No = let none = c.in_default.in_default-own.rest in no-rest _ none.0.1 none.1 in
-    written_as (ap text (sym (is-no))) c.put_bytes-in_default.ensures
+returns-in_default c = let is-no : protector c.args.mark ≡ No = no-rest _ (omega arith) (omega arith) in
+    written_as (ap text (sym is-no)) c.put_bytes-in_default.ensures
