@@ -6,12 +6,7 @@ use Rattle.definition.specs.Memory.{Memory}
 use Rattle.definition.specs.Notation.{any}
 use Rattle.tables.specs.Held.{Records}
 use Rattle.frames.specs.List.{entries_of}
-use Rattle.bounds.proofs.target_of.Reads as target-of-reads
-use Rattle.bounds.proofs.never_made.Reads as never-made-reads
-use Rattle.frames.proofs.entry_at.Reads as entry-at-reads
 use Rattle.end_call.proofs.EndCall.{is_unmade}
-use Rattle.end_call.proofs.any_never_made.Reads as reads
-use Rattle.end_call.proofs.any_never_made.Lts as lts
 use Rattle.end_call.proofs.any_never_made.Given as goal
 
 abbrev pub invariant-loop-i : goal.invariant-loop-i

@@ -70,14 +70,11 @@ used_behind-used-requires c = let known : (m : Memory) → HoldsMarked m c.args.
     let u = c.used_behind-used.ensures m r in
     record {
       made = (known m h).made;
-      read = found c.before;
+      read = found;
       used = record { words = refl; nodes = u.nodes; codes = u.codes };
       part = subst (λ (t : Parts). PartsOf m c.in-Of.allocation t) (sym c.parts_of-t.ensures) (parts-read r (made m h) (own-record m h));
     } in
     let passed : (m : Memory) → HoldsMarked m c.args.allocs.now c.args.parents.now c.args.protectors.now c.args.codes.now → Passed m c.in-Of.allocation c.in-Of.node c.args.p.addr (length c.args.inside.now) = λ m h. (c.retag_refusal-refused.ensures.tested m _ _ (trees-of h) (located m h) c.in-Of.is).passed c.if-refused-ne0.false in
-    let read : (m : Memory) → HoldsMarked m c.args.allocs.now c.args.parents.now c.args.protectors.now c.args.codes.now
-    → HoldsMarked (after_reads m c.in-Of.allocation c.in-Of.node c.args.p.addr c.args.inside.now) c.args.allocs.now c.args.parents.now c.args.protectors.now c.retag_refusal-refused.new.inside = λ m h. holds_after (reads_at m c.in-Of.allocation c.in-Of.node c.args.p.addr c.args.inside.now) m c.in-Of.allocation (passed m h).fits.reached.made h
-    (tested-made c.args.inside.now (c.retag_refusal-refused.ensures.tested m _ _ (trees-of h) (located m h) c.in-Of.is) c.if-refused-ne0.false) in
     let (m, h) = c.requires.holds_marked in (m, ((trees-of h).records, made m h))
 
 pub retag_refusal-refused-requires : goal.retag_refusal-refused-requires
@@ -95,14 +92,11 @@ retag_refusal-refused-requires c = let known : (m : Memory) → HoldsMarked m c.
     let u = c.used_behind-used.ensures m r in
     record {
       made = (known m h).made;
-      read = found c.before.before.before;
+      read = found;
       used = record { words = refl; nodes = u.nodes; codes = u.codes };
       part = subst (λ (t : Parts). PartsOf m c.in-Of.allocation t) (sym c.parts_of-t.ensures) (parts-read r (made m h) (own-record m h));
     } in
     let passed : (m : Memory) → HoldsMarked m c.args.allocs.now c.args.parents.now c.args.protectors.now c.args.codes.now → Passed m c.in-Of.allocation c.in-Of.node c.args.p.addr (length c.args.inside.now) = λ m h. (c.retag_refusal-refused.ensures.tested m _ _ (trees-of h) (located m h) c.in-Of.is).passed c.if-refused-ne0.false in
-    let read : (m : Memory) → HoldsMarked m c.args.allocs.now c.args.parents.now c.args.protectors.now c.args.codes.now
-    → HoldsMarked (after_reads m c.in-Of.allocation c.in-Of.node c.args.p.addr c.args.inside.now) c.args.allocs.now c.args.parents.now c.args.protectors.now c.retag_refusal-refused.new.inside = λ m h. holds_after (reads_at m c.in-Of.allocation c.in-Of.node c.args.p.addr c.args.inside.now) m c.in-Of.allocation (passed m h).fits.reached.made h
-    (tested-made c.args.inside.now (c.retag_refusal-refused.ensures.tested m _ _ (trees-of h) (located m h) c.in-Of.is) c.if-refused-ne0.false) in
     let (m, h) = c.requires.holds_marked in
     (m, (_, (_, (trees-of h, located m h, c.in-Of.is))))
 
@@ -121,14 +115,11 @@ returns-then-refused-ne0 c = let known : (m : Memory) → HoldsMarked m c.args.a
     let u = c.used_behind-used.ensures m r in
     record {
       made = (known m h).made;
-      read = found c.before.before.before.before.before.before.before;
+      read = found;
       used = record { words = refl; nodes = u.nodes; codes = u.codes };
       part = subst (λ (t : Parts). PartsOf m c.in-Of.allocation t) (sym c.parts_of-t.ensures) (parts-read r (made m h) (own-record m h));
     } in
     let passed : (m : Memory) → HoldsMarked m c.args.allocs.now c.args.parents.now c.args.protectors.now c.args.codes.now → Passed m c.in-Of.allocation c.in-Of.node c.args.p.addr (length c.args.inside.now) = λ m h. (c.retag_refusal-refused.ensures.tested m _ _ (trees-of h) (located m h) c.in-Of.is).passed c.if-refused-ne0.false in
-    let read : (m : Memory) → HoldsMarked m c.args.allocs.now c.args.parents.now c.args.protectors.now c.args.codes.now
-    → HoldsMarked (after_reads m c.in-Of.allocation c.in-Of.node c.args.p.addr c.args.inside.now) c.args.allocs.now c.args.parents.now c.args.protectors.now c.retag_refusal-refused.new.inside = λ m h. holds_after (reads_at m c.in-Of.allocation c.in-Of.node c.args.p.addr c.args.inside.now) m c.in-Of.allocation (passed m h).fits.reached.made h
-    (tested-made c.args.inside.now (c.retag_refusal-refused.ensures.tested m _ _ (trees-of h) (located m h) c.in-Of.is) c.if-refused-ne0.false) in
     λ s frame mask h a.
     let l = located s.memory h in
     retagged-refused (settings_of c.args.settings mask) frame c.args.p c.in-Of.is s _
@@ -155,7 +146,7 @@ add_child-child-requires c = let known : (m : Memory) → HoldsMarked m c.args.a
     let u = c.used_behind-used.ensures m r in
     record {
       made = (known m h).made;
-      read = found c.before.before.before.before.before.before.before.before.before.before.before;
+      read = found;
       used = record { words = refl; nodes = u.nodes; codes = u.codes };
       part = subst (λ (t : Parts). PartsOf m c.in-Of.allocation t) (sym c.parts_of-t.ensures) (parts-read r (made m h) (own-record m h));
     } in
@@ -180,7 +171,7 @@ overflow_cast-result c = let known : (m : Memory) → HoldsMarked m c.args.alloc
     let u = c.used_behind-used.ensures m r in
     record {
       made = (known m h).made;
-      read = found c.before.before.before.before.before.before.before.before.before.before.before.before.before.before.before.before.before.before.before.before;
+      read = found;
       used = record { words = refl; nodes = u.nodes; codes = u.codes };
       part = subst (λ (t : Parts). PartsOf m c.in-Of.allocation t) (sym c.parts_of-t.ensures) (parts-read r (made m h) (own-record m h));
     } in
@@ -214,7 +205,7 @@ returns-else-refused-ne0 c = let known : (m : Memory) → HoldsMarked m c.args.a
     let u = c.used_behind-used.ensures m r in
     record {
       made = (known m h).made;
-      read = found c.before.before.before.before.before.before.before.before.before.before.before.before.before.before.before.before.before.before.before.before;
+      read = found;
       used = record { words = refl; nodes = u.nodes; codes = u.codes };
       part = subst (λ (t : Parts). PartsOf m c.in-Of.allocation t) (sym c.parts_of-t.ensures) (parts-read r (made m h) (own-record m h));
     } in

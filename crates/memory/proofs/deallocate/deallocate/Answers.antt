@@ -16,9 +16,6 @@ target_of-a-requires c = allocs-length (records-of c.requires.1)
 pub returns-then-refused-ne0 : goal.returns-then-refused-ne0
 returns-then-refused-ne0 c = let tested : (m : Memory) → let a = c.args in HoldsMarked m a.allocs.now a.parents.now a.protectors.now a.codes.now
     → c.deallocate_refusal-refused.result ≡ refusal_through (record { allocation = c.in-Of.allocation; node = c.in-Of.node }) a.p.addr a.kind a.len a.exponent m = λ m h. c.deallocate_refusal-refused.ensures m _ (records-of h) c.target_of-a.ensures in
-    let node : (m : Memory) → let a = c.args in HoldsMarked m a.allocs.now a.parents.now a.protectors.now a.codes.now
-    → NodeIn m c.in-Of.allocation c.in-Of.node = λ m h. let a = c.args in
-    node_made _ a.p.addr a.kind a.len a.exponent m c.deallocate_refusal-refused.result (tested m h) c.if-refused-ne0.false in
     λ m k h e.
     refused-through c.args.p c.in-Of.is k e h c.deallocate_refusal-refused.result (tested m h) c.if-refused-ne0.true
 
