@@ -33,6 +33,7 @@ fn any_beyond(allocs: &[u64], width: Width) -> bool
     false
 }
 
+#[tactic(auto, unfolding(crate::specs::AtWidth::fits_in))]
 fn fits_narrow(allocs: &[u64], words: &[u32], width: Width) -> bool
     requires { (m : Memory) × Records m allocs.now }
     ensures { (m : Memory) → Records m allocs.now → result ≡ fits_in (width_of width) m words.now }
@@ -55,6 +56,7 @@ fn fits_width(allocs: &[u64], words: &[u32], width: Width) -> bool
 }
 
 // The width is a number of bits: 16, 32 or 64.
+#[tactic(auto, unfolding(crate::specs::AtWidth::well_formed_at))]
 pub fn well_formed_at(
     allocs: &[u64],
     parents: &[u16],

@@ -63,6 +63,7 @@ fn any_nonzero_u64(b: &[u64]) -> bool
 }
 
 // Behind the last allocation.
+#[tactic(auto, unfolding(crate::specs::WellFormed::bad_rest))]
 fn bad_rest(allocs: &[u64], parents: &[u16], protectors: &[u8], words: &[u32], codes: &[u8]) -> bool
     ensures { result ≡ bad_rest allocs.now parents.now protectors.now words.now codes.now }
 {
@@ -89,6 +90,7 @@ fn any_bad_word(words: &[u32]) -> bool
 }
 
 // ---- nodes
+#[tactic(auto, unfolding(crate::specs::WellFormed::bad_place))]
 fn bad_place(n: usize, parent: usize, protector: u8) -> bool
     ensures { result ≡ bad_place n parent protector }
 {
@@ -105,6 +107,7 @@ fn bad_place(n: usize, parent: usize, protector: u8) -> bool
 }
 
 // Codes 6 to e are the protected ones.
+#[tactic(auto, unfolding(crate::specs::WellFormed::bad_code))]
 fn bad_code(live: bool, protector: u8, code: u8) -> bool
     ensures { result ≡ bad_code live protector code }
 {
@@ -160,6 +163,7 @@ fn bad_nodes(
 }
 
 // ---- one allocation
+#[tactic(auto, unfolding(crate::specs::WellFormed::bad_record))]
 fn bad_record(state: u64, kind: u64, exponent: u64, address: u64, size: u64, nodes: u64) -> bool
     ensures { result ≡ bad_record state kind exponent address size nodes }
 {
@@ -190,6 +194,7 @@ fn bad_record(state: u64, kind: u64, exponent: u64, address: u64, size: u64, nod
 }
 
 // The allocation at the front of the five lists.
+#[tactic(auto, unfolding(crate::specs::WellFormed::bad_allocation))]
 fn bad_allocation(
     allocs: &[u64],
     parents: &[u16],
@@ -227,6 +232,7 @@ fn bad_allocation(
 }
 
 // Its parts start elsewhere than where those of the one before end.
+#[tactic(auto, unfolding(crate::specs::WellFormed::bad_starts))]
 fn bad_starts(allocs: &[u64], word: usize, node: usize, code: usize) -> bool
     requires { 9 ≤ length allocs.now }
     ensures { result ≡ bad_starts word node code allocs.now }
@@ -240,6 +246,7 @@ fn bad_starts(allocs: &[u64], word: usize, node: usize, code: usize) -> bool
     allocs[8] != code as u64
 }
 
+#[tactic(auto, unfolding(crate::specs::WellFormed::bad_allocation_at))]
 fn bad_allocation_at(
     allocs: &[u64],
     parents: &[u16],
