@@ -5,7 +5,6 @@ use mathlib.Core.Bool.{true, false, false≢true}
 use mathlib.Core.Option.{Option, none, some}
 use mathlib.Core.List.{List, [], ◌∷◌}
 use native.Mathlib.Omega.{arith}
-use types.Run.{miss}
 use Rattle.definition.specs.Width.{Width}
 use Rattle.definition.specs.Layout.{FreezeMask, freeze_mask}
 use Rattle.definition.specs.Memory.{Memory}
@@ -29,7 +28,6 @@ use Rattle.request.specs.declared.Kind.{Kind}
 use Rattle.request.specs.declared.Kind.TheVariants.{Allocate, Deallocate, Load, Store, Retag, NewCall, EndCall, Dereferenceable, SignedDereferenceable, LeakCheck, Empty, Unused}
 use Rattle.request.specs.declared.Request as code
 use Rattle.request.specs.Fields.{kind_of, request_of, frame_by, frame_used, open_in}
-use Rattle.request.proofs.Matches.{Among}
 use Rattle.request.proofs.WellFormed.{new-call-frame, end-call-frame}
 use Rattle.perform.specs.Performed.{Formed, outcome_of, is_in_memory, Asked, LeftMemory, Left, LeftTrees, LeftFrames}
 use Rattle.state.specs.State.{HoldsState, HoldsTreesAndFrames}
@@ -39,22 +37,19 @@ use Rattle.state.proofs.Held.{state-lengths}
 use Rattle.state.proofs.Lengths.{have-lengths}
 
 -- ---- the kinds that need no frame
-abbrev alone : List ℕ
-alone = 0 ∷ 1 ∷ 2 ∷ 3 ∷ 7 ∷ 8 ∷ 9 ∷ 11 ∷ []
-
-pub is-alone : (k : Kind) → Among alone k → is_in_memory k ≡ true
-is-alone Allocate h = refl
-is-alone Deallocate h = refl
-is-alone Load h = refl
-is-alone Store h = refl
-is-alone Retag h = absurd (miss alone 4 tt h)
-is-alone NewCall h = absurd (miss alone 5 tt h)
-is-alone EndCall h = absurd (miss alone 6 tt h)
-is-alone Dereferenceable h = refl
-is-alone SignedDereferenceable h = refl
-is-alone LeakCheck h = refl
-is-alone Empty h = absurd (miss alone 10 tt h)
-is-alone Unused h = refl
+pub is-alone : (k : Kind) → (k ≡ Retag → ⊥) → (k ≡ NewCall → ⊥) → (k ≡ EndCall → ⊥) → (k ≡ Empty → ⊥) → is_in_memory k ≡ true
+is-alone Allocate r n e m = refl
+is-alone Deallocate r n e m = refl
+is-alone Load r n e m = refl
+is-alone Store r n e m = refl
+is-alone Retag r n e m = absurd (r refl)
+is-alone NewCall r n e m = absurd (n refl)
+is-alone EndCall r n e m = absurd (e refl)
+is-alone Dereferenceable r n e m = refl
+is-alone SignedDereferenceable r n e m = refl
+is-alone LeakCheck r n e m = refl
+is-alone Empty r n e m = absurd (m refl)
+is-alone Unused r n e m = refl
 
 frames-stay : (w : Width) (k : Kind) → is_in_memory k ≡ true → (s : State) (q : Request) → (perform w (kind_of k) s q).1.frames ≡ s.frames
 unfolding perform

@@ -5,8 +5,6 @@ use mathlib.Core.Bool.{Bool}
 use mathlib.Core.List.{List, [], ◌∷◌}
 use native.Mathlib.Omega.{arith}
 use lib.ListN.{get_or, get_or-eq_default}
-use denote.Enum.Declared.{tag_of}
-use types.Run.{OneOf, miss}
 use Rattle.definition.specs.Permission.SafePointer.{SharedRef, MutableRef, Box}
 use Rattle.definition.specs.Frame.{State}
 use Rattle.definition.specs.Width.{Width}
@@ -17,7 +15,6 @@ use Rattle.request.specs.declared.Kind.{Kind}
 use Rattle.request.specs.declared.Kind.TheVariants.{Allocate, Deallocate, Load, Store, Retag, NewCall, EndCall, Dereferenceable, SignedDereferenceable, LeakCheck, Empty, Unused}
 use Rattle.request.specs.declared.Request.{Request}
 use Rattle.request.specs.Fields.{kind_of, request_of, frame_by}
-use Rattle.request.specs.contracts.Kind.{the_type}
 
 -- ---- a number in the arm `_`, behind an arm for each of 0, 1, .., n - 1
 abbrev pub NoneBelow : ℕ → ℕ → Type 0
@@ -63,37 +60,28 @@ pub of-kind : {b : Bool} (s : State) (q : Request) (ws : List ℕ) (k : Kind) �
     → b ≡ is_malformed (kind_of k) s (request_of q ws) → b ≡ is_malformed (kind_of q.kind) s (request_of q ws)
 of-kind {b} s q ws k e h = subst⁻¹ (λ (k : Kind). b ≡ is_malformed (kind_of k) s (request_of q ws)) e h
 
--- in the arm `_`: one of those with the tags ks
-abbrev pub Among : List ℕ → Kind → Type 0
-Among ks k = OneOf ks (tag_of the_type k)
-
-abbrev not_store_or_retag : List ℕ
-not_store_or_retag = 0 ∷ 1 ∷ 2 ∷ 5 ∷ 6 ∷ 7 ∷ 8 ∷ 9 ∷ 10 ∷ 11 ∷ []
-
-abbrev not_retag : List ℕ
-not_retag = 0 ∷ 1 ∷ 2 ∷ 3 ∷ 5 ∷ 6 ∷ 7 ∷ 8 ∷ 9 ∷ 10 ∷ 11 ∷ []
-
-pub nothing-follows : (q : Request) (ws : List ℕ) (k : Kind) → q.kind ≡ k → Among not_store_or_retag k → following_length (request_of q ws) ≡ 0
+-- in the arm `_`: none of those that have arms
+pub nothing-follows : (q : Request) (ws : List ℕ) (k : Kind) → q.kind ≡ k → (k ≡ Store → ⊥) → (k ≡ Retag → ⊥) → following_length (request_of q ws) ≡ 0
 unfolding following_length
-nothing-follows q ws Allocate e h = rw e
-nothing-follows q ws Deallocate e h = rw e
-nothing-follows q ws Load e h = rw e
-nothing-follows q ws Store e h = absurd (miss not_store_or_retag 3 tt h)
-nothing-follows q ws Retag e h = absurd (miss not_store_or_retag 4 tt h)
-nothing-follows q ws NewCall e h = rw e
-nothing-follows q ws EndCall e h = rw e
-nothing-follows q ws Dereferenceable e h = rw e
-nothing-follows q ws SignedDereferenceable e h = rw e
-nothing-follows q ws LeakCheck e h = rw e
-nothing-follows q ws Empty e h = rw e
-nothing-follows q ws Unused e h = rw e
+nothing-follows q ws Allocate e h r = rw e
+nothing-follows q ws Deallocate e h r = rw e
+nothing-follows q ws Load e h r = rw e
+nothing-follows q ws Store e h r = absurd (h refl)
+nothing-follows q ws Retag e h r = absurd (r refl)
+nothing-follows q ws NewCall e h r = rw e
+nothing-follows q ws EndCall e h r = rw e
+nothing-follows q ws Dereferenceable e h r = rw e
+nothing-follows q ws SignedDereferenceable e h r = rw e
+nothing-follows q ws LeakCheck e h r = rw e
+nothing-follows q ws Empty e h r = rw e
+nothing-follows q ws Unused e h r = rw e
 
-pub frame-in-word : (q : Request) (k : Kind) → Among not_retag k → frame_by k q ≡ q.fourth % 32
+pub frame-in-word : (q : Request) (k : Kind) → (k ≡ Retag → ⊥) → frame_by k q ≡ q.fourth % 32
 frame-in-word q Allocate h = refl
 frame-in-word q Deallocate h = refl
 frame-in-word q Load h = refl
 frame-in-word q Store h = refl
-frame-in-word q Retag h = absurd (miss not_retag 4 tt h)
+frame-in-word q Retag h = absurd (h refl)
 frame-in-word q NewCall h = refl
 frame-in-word q EndCall h = refl
 frame-in-word q Dereferenceable h = refl
@@ -102,14 +90,11 @@ frame-in-word q LeakCheck h = refl
 frame-in-word q Empty h = refl
 frame-in-word q Unused h = refl
 
-abbrev not_store : List ℕ
-not_store = 0 ∷ 1 ∷ 2 ∷ 4 ∷ 5 ∷ 6 ∷ 7 ∷ 8 ∷ 9 ∷ 10 ∷ 11 ∷ []
-
-pub nothing_stored : (k : Kind) (ws : List ℕ) → Among not_store k → stored_bytes (kind_of k) ws ≡ []
+pub nothing_stored : (k : Kind) (ws : List ℕ) → (k ≡ Store → ⊥) → stored_bytes (kind_of k) ws ≡ []
 nothing_stored Allocate ws h = refl
 nothing_stored Deallocate ws h = refl
 nothing_stored Load ws h = refl
-nothing_stored Store ws h = absurd (miss not_store 3 tt h)
+nothing_stored Store ws h = absurd (h refl)
 nothing_stored Retag ws h = refl
 nothing_stored NewCall ws h = refl
 nothing_stored EndCall ws h = refl
@@ -119,10 +104,7 @@ nothing_stored LeakCheck ws h = refl
 nothing_stored Empty ws h = refl
 nothing_stored Unused ws h = refl
 
-abbrev not_empty : List ℕ
-not_empty = 0 ∷ 1 ∷ 2 ∷ 3 ∷ 4 ∷ 5 ∷ 6 ∷ 7 ∷ 8 ∷ 9 ∷ 11 ∷ []
-
-pub width-kept : (k : Kind) (q : definition.Request) (w : Width) → Among not_empty k → width_by (kind_of k) q w ≡ w
+pub width-kept : (k : Kind) (q : definition.Request) (w : Width) → (k ≡ Empty → ⊥) → width_by (kind_of k) q w ≡ w
 width-kept Allocate q w h = refl
 width-kept Deallocate q w h = refl
 width-kept Load q w h = refl
@@ -133,5 +115,5 @@ width-kept EndCall q w h = refl
 width-kept Dereferenceable q w h = refl
 width-kept SignedDereferenceable q w h = refl
 width-kept LeakCheck q w h = refl
-width-kept Empty q w h = absurd (miss not_empty 10 tt h)
+width-kept Empty q w h = absurd (h refl)
 width-kept Unused q w h = refl

@@ -6,7 +6,7 @@ use Rattle.bounds.proofs.place_of.Goals as goal
 
 pub returns-then-allocation-ge128 : goal.returns-then-allocation-ge128
 unfolding place_of
-returns-then-allocation-ge128 c = let (of, e) = c.provenance-1.given in rw (e, le-ltb of.0 128 (omega arith))
+returns-then-allocation-ge128 c = rw (c.in-Of.is, le-ltb c.in-Of.allocation 128 (omega arith))
 
 pub returns-in-None : goal.returns-in-None
 unfolding place_of
@@ -14,4 +14,4 @@ returns-in-None c = rw c.in-None.is
 
 pub returns-else-allocation-ge128 : goal.returns-else-allocation-ge128
 unfolding place_of
-returns-else-allocation-ge128 c = let (of, e) = c.provenance-1.given in rw (e, lt-ltb of.0 128 (omega arith))
+returns-else-allocation-ge128 c = rw (c.in-Of.is, lt-ltb c.in-Of.allocation 128 (omega arith))

@@ -16,7 +16,7 @@ pub empty-requires : goal.empty-requires
 empty-requires c = (c.requires.0, c.requires.1.0)
 
 pub in_memory-requires : goal.in_memory-requires
-in_memory-requires c = (c.requires.0, asked c.requires.1.0 c.requires.1.1 (is-alone c.args.q.kind c.in_default.in_default-own.keys5))
+in_memory-requires c = (c.requires.0, asked c.requires.1.0 c.requires.1.1 (is-alone c.args.q.kind c.in_default.not-Retag c.in_default.not-NewCall c.in_default.not-EndCall c.in_default.not-Empty))
 
 pub returns-in-Retag : goal.returns-in-Retag
 returns-in-Retag c = λ s h formed. left-retag h formed (width_of c.args.width) c.in-Retag.is (c.retag.ensures s (trees h))
@@ -36,5 +36,5 @@ returns-in-Empty c = λ s h formed.
 pub returns-in_default : goal.returns-in_default
 returns-in_default c = λ s h formed.
     let a = c.args in
-    let k = is-alone a.q.kind c.in_default.in_default-own.keys5 in
+    let k = is-alone a.q.kind c.in_default.not-Retag c.in_default.not-NewCall c.in_default.not-EndCall c.in_default.not-Empty in
     left-memory h formed (width_of a.width) k (c.in_memory.ensures s (asked h formed k))

@@ -18,7 +18,7 @@ loop-i-preserved c = let i = c.loop-i.i in
     let more : i < length words = omega arith in (
       search rules,
       search rules,
-      λ text before h. rw (taken_more text words i more) c.before.before.before.before.before.before (c.put-next.ensures (text ++ take i words) before (c.loop-i.invariant.2 text before h)),
+      λ text before h. rw (taken_more text words i more) at (c.put-next.ensures (text ++ take i words) before (c.loop-i.invariant.2 text before h)),
     )
 
 pub returns : goal.returns

@@ -8,17 +8,17 @@ use Rattle.library.proofs.Performed.{dereferenced}
 use Rattle.library.proofs.dereferenceable.dereferenceable.Goals as goal
 
 pub returns-then-not-well_formed_at : goal.returns-then-not-well_formed_at
-returns-then-not-well_formed_at c = not-formed _ _ _ _ _ (sym c.well_formed_at.ensures ∙ not-true _ c.if-not-well_formed_at.true-raw)
+returns-then-not-well_formed_at c = not-formed _ _ _ _ _ (sym c.well_formed_at.ensures ∙ c.if-not-well_formed_at.true)
 
 pub returns-then-bad_address : goal.returns-then-bad_address
 returns-then-bad_address c =
-    bad-field _ _ _ _ _ (sym c.well_formed_at.ensures ∙ not-false _ c.if-not-well_formed_at.false-raw)
+    bad-field _ _ _ _ _ (sym c.well_formed_at.ensures ∙ c.if-not-well_formed_at.false)
     (sym c.bad_address.ensures ∙ c.if-bad_address.true)
 
 pub dereferenceable-requires : goal.dereferenceable-requires
-dereferenceable-requires c = (_, holds-records (sound-at _ _ (sym c.well_formed_at.ensures ∙ not-false _ c.if-not-well_formed_at.false-raw)))
+dereferenceable-requires c = (_, holds-records (sound-at _ _ (sym c.well_formed_at.ensures ∙ c.if-not-well_formed_at.false)))
 
 pub returns : goal.returns
-returns c = let formed = sym c.well_formed_at.ensures ∙ not-false _ c.if-not-well_formed_at.false-raw in
+returns c = let formed = sym c.well_formed_at.ensures ∙ c.if-not-well_formed_at.false in
     let fine = sym c.bad_address.ensures ∙ c.if-bad_address.false in
     dereferenced _ _ _ _ _ formed fine (c.dereferenceable.ensures _ (holds-records (sound-at _ _ formed)))

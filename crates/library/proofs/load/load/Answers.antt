@@ -9,18 +9,18 @@ use Rattle.library.proofs.Performed.{loaded}
 use Rattle.library.proofs.load.load.Goals as goal
 
 pub returns-then-not-well_formed_at : goal.returns-then-not-well_formed_at
-returns-then-not-well_formed_at c = not-formed _ _ _ _ _ (sym c.well_formed_at.ensures ∙ not-true _ c.if-not-well_formed_at.true-raw)
+returns-then-not-well_formed_at c = not-formed _ _ _ _ _ (sym c.well_formed_at.ensures ∙ c.if-not-well_formed_at.true)
 
 pub returns-then-bad_load : goal.returns-then-bad_load
 returns-then-bad_load c =
-    bad-field _ _ _ _ _ (sym c.well_formed_at.ensures ∙ not-false _ c.if-not-well_formed_at.false-raw)
+    bad-field _ _ _ _ _ (sym c.well_formed_at.ensures ∙ c.if-not-well_formed_at.false)
     (sym c.bad_load.ensures ∙ c.if-bad_load.true)
 
 pub load-requires : goal.load-requires
-load-requires c = let formed = sym c.well_formed_at.ensures ∙ not-false _ c.if-not-well_formed_at.false-raw in
+load-requires c = let formed = sym c.well_formed_at.ensures ∙ c.if-not-well_formed_at.false in
     let fine = sym c.bad_load.ensures ∙ c.if-bad_load.false in record { holds_trees = (_, holds-trees (sound-at _ _ formed)); exponent_bound = exponent-shifts _ (load-exponent _ _ _ fine) }
 
 pub returns : goal.returns
-returns c = let formed = sym c.well_formed_at.ensures ∙ not-false _ c.if-not-well_formed_at.false-raw in
+returns c = let formed = sym c.well_formed_at.ensures ∙ c.if-not-well_formed_at.false in
     let fine = sym c.bad_load.ensures ∙ c.if-bad_load.false in
     loaded _ _ formed _ _ fine _ (c.load.ensures _ (holds-trees (sound-at _ _ formed)))

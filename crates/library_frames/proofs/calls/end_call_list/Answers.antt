@@ -12,17 +12,17 @@ use Rattle.library_frames.proofs.calls.end_call_list.Goals as goal
 
 pub returns-then-not-is_lent_with_area : goal.returns-then-not-is_lent_with_area
 returns-then-not-is_lent_with_area c = let memory : Buffers = buffers c.args.allocs.now c.args.parents.now c.args.protectors.now c.args.words.now c.args.codes.now in
-    not-lent c.args.width c.args.len c.args.count c.args.area.now (memory) (sym c.is_lent_with_area.ensures ∙ not-true _ c.if-not-is_lent_with_area.true-raw) _
+    not-lent c.args.width c.args.len c.args.count c.args.area.now (memory) (sym c.is_lent_with_area.ensures ∙ c.if-not-is_lent_with_area.true) _
 
 pub end_call_held-requires : goal.end_call_held-requires
 end_call_held-requires c = let memory : Buffers = buffers c.args.allocs.now c.args.parents.now c.args.protectors.now c.args.words.now c.args.codes.now in
-    let fine : is_lent_with_area c.args.width c.args.len c.args.count c.args.area.now (memory) ≡ true = sym c.is_lent_with_area.ensures ∙ not-false _ c.if-not-is_lent_with_area.false-raw in
+    let fine : is_lent_with_area c.args.width c.args.len c.args.count c.args.area.now (memory) ≡ true = sym c.is_lent_with_area.ensures ∙ c.if-not-is_lent_with_area.false in
     let b = memory in
     let t = c.args in record { holds_marked = (view b, holds-marked (memory-lent t.width t.len t.count t.area.now b (fine))); count_bound = (count-lent t.width t.len t.count t.area.now b (fine), area-lent t.width t.len t.count t.area.now b (fine)) }
 
 pub returns : goal.returns
 returns c = let memory : Buffers = buffers c.args.allocs.now c.args.parents.now c.args.protectors.now c.args.words.now c.args.codes.now in
-    let fine : is_lent_with_area c.args.width c.args.len c.args.count c.args.area.now (memory) ≡ true = sym c.is_lent_with_area.ensures ∙ not-false _ c.if-not-is_lent_with_area.false-raw in
+    let fine : is_lent_with_area c.args.width c.args.len c.args.count c.args.area.now (memory) ≡ true = sym c.is_lent_with_area.ensures ∙ c.if-not-is_lent_with_area.false in
     let b = memory in
     let t = c.args in
     let left = c.end_call_held.ensures in

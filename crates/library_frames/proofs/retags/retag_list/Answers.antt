@@ -13,27 +13,27 @@ use Rattle.library_frames.proofs.retags.retag_list.Goals as goal
 pub returns-then-not-is_lent : goal.returns-then-not-is_lent
 returns-then-not-is_lent c = let memory : Buffers = buffers c.args.allocs.now c.args.parents.now c.args.protectors.now c.args.words.now c.args.codes.now in
     let t = c.args in
-    not-lent t.width t.settings (thin_pointer_of t.p) t.layout.now t.len t.count (memory) (sym c.is_lent.ensures ∙ not-true _ c.if-not-is_lent.true-raw) c.without_entry.ensures
+    not-lent t.width t.settings (thin_pointer_of t.p) t.layout.now t.len t.count (memory) (sym c.is_lent.ensures ∙ c.if-not-is_lent.true) c.without_entry.ensures
 
 pub returns-then-bad_fields : goal.returns-then-bad_fields
 returns-then-bad_fields c = let memory : Buffers = buffers c.args.allocs.now c.args.parents.now c.args.protectors.now c.args.words.now c.args.codes.now in
-    let fine : is_lent c.args.width c.args.len c.args.count (memory) ≡ true = sym c.is_lent.ensures ∙ not-false _ c.if-not-is_lent.false-raw in
+    let fine : is_lent c.args.width c.args.len c.args.count (memory) ≡ true = sym c.is_lent.ensures ∙ c.if-not-is_lent.false in
     let t = c.args in
     bad-field t.width t.settings (thin_pointer_of t.p) t.layout.now t.len t.count (memory) (fine) (sym c.bad_fields.ensures ∙ c.if-bad_fields.true) c.without_entry-then-bad_fields.ensures
 
 pub retag_held-answer-requires : goal.retag_held-answer-requires
 retag_held-answer-requires c = let memory : Buffers = buffers c.args.allocs.now c.args.parents.now c.args.protectors.now c.args.words.now c.args.codes.now in
-    let fine : is_lent c.args.width c.args.len c.args.count (memory) ≡ true = sym c.is_lent.ensures ∙ not-false _ c.if-not-is_lent.false-raw in
+    let fine : is_lent c.args.width c.args.len c.args.count (memory) ≡ true = sym c.is_lent.ensures ∙ c.if-not-is_lent.false in
     (view (memory), lent-nodes c.args.width c.args.len c.args.count (memory) (fine))
 
 pub with_entry-requires : goal.with_entry-requires
 with_entry-requires c = let memory : Buffers = buffers c.args.allocs.now c.args.parents.now c.args.protectors.now c.args.words.now c.args.codes.now in
-    let fine : is_lent c.args.width c.args.len c.args.count (memory) ≡ true = sym c.is_lent.ensures ∙ not-false _ c.if-not-is_lent.false-raw in
+    let fine : is_lent c.args.width c.args.len c.args.count (memory) ≡ true = sym c.is_lent.ensures ∙ c.if-not-is_lent.false in
     lent-count c.args.width c.args.len c.args.count (memory) (fine)
 
 pub returns : goal.returns
 returns c = let memory : Buffers = buffers c.args.allocs.now c.args.parents.now c.args.protectors.now c.args.words.now c.args.codes.now in
-    let fine : is_lent c.args.width c.args.len c.args.count (memory) ≡ true = sym c.is_lent.ensures ∙ not-false _ c.if-not-is_lent.false-raw in
+    let fine : is_lent c.args.width c.args.len c.args.count (memory) ≡ true = sym c.is_lent.ensures ∙ c.if-not-is_lent.false in
     let t = c.args in
     retagged t.width t.settings (thin_pointer_of t.p) t.layout.now t.len t.count (memory) (fine) (sym c.bad_fields.ensures ∙ c.if-bad_fields.false)
     c.retag_held-answer.ensures c.entered_node-node.result c.entered_node-node.ensures c.with_entry.ensures

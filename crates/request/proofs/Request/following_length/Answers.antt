@@ -24,4 +24,4 @@ returns-else-is_safe c = let q = c.args.self in
     (λ ws. rw (c.in-Retag.is, f), omega arith)
 
 pub returns-in_default : goal.returns-in_default
-returns-in_default c = (λ ws. let q = c.args.self in sym (nothing-follows q ws q.kind refl c.in_default.in_default-own.keys3), omega arith)
+returns-in_default c = (λ ws. let q = c.args.self in sym (nothing-follows q ws q.kind refl c.in_default.not-Store c.in_default.not-Retag), omega arith)

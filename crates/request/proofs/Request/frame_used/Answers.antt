@@ -9,4 +9,4 @@ returns-in-Retag c = rw c.in-Retag.is (c.frame_number.ensures, omega (arith, c.f
 
 pub returns-in_default : goal.returns-in_default
 returns-in_default c = let q = c.args.self in
-    (sym (frame-in-word q q.kind c.in_default.in_default-own.keys2), omega arith)
+    (sym (frame-in-word q q.kind c.in_default.not-Retag), omega arith)

@@ -9,4 +9,4 @@ pub returns-in-Empty : goal.returns-in-Empty
 returns-in-Empty c = λ ws. rw c.in-Empty.is (c.chosen_width.ensures (request_of c.args.self ws) refl)
 
 pub returns-in_default : goal.returns-in_default
-returns-in_default c = λ ws. let a = c.args in sym (width-kept a.self.kind (request_of a.self ws) (width_of a.width) c.in_default.in_default-own.keys2)
+returns-in_default c = λ ws. let a = c.args in sym (width-kept a.self.kind (request_of a.self ws) (width_of a.width) c.in_default.not-Empty)

@@ -12,50 +12,39 @@ pub loop-i-init : goal.loop-i-init
 loop-i-init c = (search rules, going_start c.args.requests.now c.args.ends.now c.args.answers.now c.requires c.nothing_written.ensures)
 
 pub overflow_cast-end : goal.overflow_cast-end
-overflow_cast-end c = omega (arith, c.shared_slice_known-in-loop-i-1.given c.loop-i.i)
+overflow_cast-end c = omega (arith, c.type_inv.ends c.loop-i.i)
 
 pub turn-p-requires : goal.turn-p-requires
-turn-p-requires c = let g = c.loop-i.inv.1 in
+turn-p-requires c = let g = c.loop-i.invariant.1 in
     (g.state, g.holds)
 
-pub overflow_add-i : goal.overflow_add-i
-overflow_add-i c = record { fits = omega (arith, (mul-end c.before.before.before.before.before.before.before.before.before.before.before.before.before.before.before.before.before.before.before.before.before.before.before.before).fits) }
-
 pub loop-i-preserved : goal.loop-i-preserved
-loop-i-preserved c = let g = c.loop-i.inv.1 in (
+loop-i-preserved c = let g = c.loop-i.invariant.1 in (
   search rules,
   going_on c.args.requests.now c.args.ends.now c.args.answers.now c.loop-i.from c.loop-i-test.true g refl c.part-request.ensures
       (c.turn-p.ensures g.state g.holds),
 )
 
 pub shape_of-allocs : goal.shape_of-allocs
-shape_of-allocs c = let first : tie.Start invariant-loop decreases-loop = c.before.before.before.before.before.before.before.before.before.before.before.before in
-    (state-lengths c.loop-i.invariant.1.holds.state).allocs ∙ sym (state-lengths (first).requires).allocs
+shape_of-allocs c = (state-lengths c.loop-i.invariant.1.holds.state).allocs ∙ sym (state-lengths c.requires).allocs
 
 pub shape_of-parents : goal.shape_of-parents
-shape_of-parents c = let first : tie.Start invariant-loop decreases-loop = c.before.before.before.before.before.before.before.before.before.before.before.before in
-    (state-lengths c.loop-i.invariant.1.holds.state).parents ∙ sym (state-lengths (first).requires).parents
+shape_of-parents c = (state-lengths c.loop-i.invariant.1.holds.state).parents ∙ sym (state-lengths c.requires).parents
 
 pub shape_of-protectors : goal.shape_of-protectors
-shape_of-protectors c = let first : tie.Start invariant-loop decreases-loop = c.before.before.before.before.before.before.before.before.before.before.before.before in
-    (state-lengths c.loop-i.invariant.1.holds.state).protectors ∙ sym (state-lengths (first).requires).protectors
+shape_of-protectors c = (state-lengths c.loop-i.invariant.1.holds.state).protectors ∙ sym (state-lengths c.requires).protectors
 
 pub shape_of-words : goal.shape_of-words
-shape_of-words c = let first : tie.Start invariant-loop decreases-loop = c.before.before.before.before.before.before.before.before.before.before.before.before in
-    (state-lengths c.loop-i.invariant.1.holds.state).words ∙ sym (state-lengths (first).requires).words
+shape_of-words c = (state-lengths c.loop-i.invariant.1.holds.state).words ∙ sym (state-lengths c.requires).words
 
 pub shape_of-codes : goal.shape_of-codes
-shape_of-codes c = let first : tie.Start invariant-loop decreases-loop = c.before.before.before.before.before.before.before.before.before.before.before.before in
-    (state-lengths c.loop-i.invariant.1.holds.state).codes ∙ sym (state-lengths (first).requires).codes
+shape_of-codes c = (state-lengths c.loop-i.invariant.1.holds.state).codes ∙ sym (state-lengths c.requires).codes
 
 pub shape_of-frames : goal.shape_of-frames
-shape_of-frames c = let first : tie.Start invariant-loop decreases-loop = c.before.before.before.before.before.before.before.before.before.before.before.before in
-    (state-lengths c.loop-i.invariant.1.holds.state).frames ∙ sym (state-lengths (first).requires).frames
+shape_of-frames c = (state-lengths c.loop-i.invariant.1.holds.state).frames ∙ sym (state-lengths c.requires).frames
 
 pub shape_of-answers : goal.shape_of-answers
 shape_of-answers c = written-length c.loop-i.invariant.1.written
 
 pub returns : goal.returns
-returns c = let first : tie.Start invariant-loop decreases-loop = c.before.before.before.before.before.before.before.before.before.before.before.before in
-    let s = first in
-    all-ran s.args.requests.now s.args.ends.now s.args.answers.now (search rules) c.loop-i.invariant.1
+returns c = all-ran c.args.requests.now c.args.ends.now c.args.answers.now (search rules) c.loop-i.invariant.1
