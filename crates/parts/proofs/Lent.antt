@@ -9,7 +9,7 @@ use lib.Dec.{eqb}
 use lib.ListN.{length, take, drop}
 use Rattle.definition.specs.Notation.{if◌then◌else◌, mutate_at}
 use Rattle.definition.specs.Tree.{Visit, visited}
-use Rattle.definition.specs.Memory.{Allocation, Memory, allocation_at, size, node_count, code_count}
+use Rattle.definition.specs.Memory.{Allocation, Memory, allocation_at, node_count, code_count}
 use Rattle.definition.specs.Valid.{ValidAllocation}
 use Rattle.definition.proofs.Places.{valid-at}
 use Rattle.tables.specs.Encoding.{Buffers, held_records, parents_of, protectors_of, words_of, codes_of, held}

@@ -82,6 +82,9 @@ node-fits {nodes} {width} {ps} {codes} h n l = held_fits nodes width codes h.tab
 pub marks-count : (nodes : List Node) (protectors : List ℕ) → protectors ≡ marks nodes → length protectors ≡ length nodes
 marks-count nodes protectors e = ap length e ∙ length-map nodes (λ x. protector_number x.protected)
 
+pub marked-fits : {nodes : List Node} {width : ℕ} {protectors codes : List ℕ} → HoldsMarks nodes width protectors codes → (n : ℕ) → n < length protectors → n * width + width ≤ length codes
+marked-fits {nodes} {width} {protectors} {codes} h n l = held_fits nodes width codes h.table n (omega (arith, marks-count nodes protectors h.marked))
+
 -- the tables of marks and codes by themselves
 pub held-marks : {nodes : List Node} {width : ℕ} {ps protectors codes : List ℕ} → HoldsAll nodes width ps protectors codes → HoldsMarks nodes width protectors codes
 held-marks h = record { table = h.holds.table; marked = h.marked }

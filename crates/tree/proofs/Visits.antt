@@ -1,6 +1,6 @@
 -- The visits that the requests make, as the definition's.
 use Prim.Native.Nat.{ℕ, ◌+◌, ◌*◌, ◌≤◌, ◌<◌}
-use mathlib.Core.Path.{◌≡◌, refl, sym, ap, ap₂, subst, ◌∙◌}
+use mathlib.Core.Path.{◌≡◌, refl, sym, ap, ap₂, subst, subst⁻¹, ◌∙◌}
 use mathlib.Core.Option.{Option, none, some}
 use mathlib.Core.List.{List, [], ◌∷◌, map}
 use native.Mathlib.Nat.{le_refl}
@@ -23,10 +23,11 @@ use Rattle.visit.specs.declared.Answer.{Answer}
 use Rattle.visit.specs.declared.Answer.TheVariants.{Stays, Changes}
 use Rattle.visit.specs.declared.Reach.{Reach}
 use Rattle.tree.specs.Table.{rows_of, Holds}
-use Rattle.visit.specs.Walk.{Ready, told_access}
+use Rattle.visit.specs.Walk.{SameVisit, Ready, ToldOf, told_access, subtree, walk_after}
+use Rattle.visit.proofs.Places.{same_width}
 use Rattle.tree.specs.Requests.{access_number, end_number, unless_refused, Made, Checked}
 use Rattle.tree.proofs.Held.{rows-length}
-use Rattle.tree.proofs.Meaning.{Means}
+use Rattle.tree.proofs.Meaning.{Means, means-same, means-told, means-after}
 use Rattle.tree.proofs.Inits.{init-access-permission}
 
 -- a table that holds nodes is ready for a visit of them
@@ -86,6 +87,21 @@ module _ (ps : List ℕ) (root : 0 < length ps) (width : ℕ) where
             (release-places (node_at nodes n).permissions);
         order = walk-some ps tree n z root;
       }
+
+-- a retag's reads, all at once, with their accesses said in another way
+module _ (nodes : List Node) (width node from : ℕ) (ps codes inside : List ℕ) (held : Holds nodes width ps codes)
+    (reach : Reach) (same : SameVisit (record { node = node; spared = length ps; width = width; from = from; len = length inside; what = AtInit }) inside reach) where
+  as_wide : Holds nodes reach.width ps codes
+  as_wide = subst⁻¹ (λ (w : ℕ). Holds nodes w ps codes) (same_width _ reach inside same) held
+
+  means : Means reach inside ps (reads_visit node from (map permission inside))
+  means = means-same _ reach inside ps (reads_visit node from (map permission inside)) same (means-reads ps held.root width node from inside)
+
+  pub reads-told : (answer : Answer) → ToldOf reach ps inside codes (subtree reach.spared 0 ps) answer → Checked (reads_visit node from (map permission inside)) nodes answer
+  reads-told = means-told reach inside ps (reads_visit node from (map permission inside)) means nodes codes as_wide
+
+  pub reads-after : walk_after reach ps inside (subtree reach.spared 0 ps) codes ≡ rows_of (visited (reads_visit node from (map permission inside)) nodes)
+  reads-after = means-after reach inside ps (reads_visit node from (map permission inside)) means nodes codes as_wide
 
 -- ---- what passes a check
 module _ (v : Visit) (nodes : List Node) (answer : Answer) (t : Checked v nodes answer) where

@@ -9,7 +9,7 @@ use lib.ListN.{length, replicate}
 use Rattle.definition.specs.Notation.{any}
 use Rattle.definition.specs.Width.{Width, bits, addresses}
 use Rattle.definition.specs.Width.Width.{Bits64}
-use Rattle.definition.specs.Memory.{Allocation, Memory, size, allocation_at}
+use Rattle.definition.specs.Memory.{Memory, size, allocation_at}
 use Rattle.definition.specs.Request.{is_too_far}
 use Rattle.definition.specs.Valid.{All, ValidAllocation, Valid, NarrowAllocation, Narrow}
 use Rattle.definition.proofs.Alls.{all-imp, all_both, all_append, all_replicate, none_pass}

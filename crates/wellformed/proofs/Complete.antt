@@ -188,5 +188,5 @@ pub decides : (b : Buffers) → Decides (well_formed b) b
 decides b = record { sound = λ e. (_, sound b e); complete = λ m h. complete m b h }
 
 -- an answer that is the test's decides too
-pub decided : (r : Bool) (b : Buffers) → r ≡ well_formed b → (r ≡ well_formed b) × Decides r b
-decided r b e = (e, subst (λ (t : Bool). Decides t b) (sym e) (decides b))
+pub decided : (r : Bool) (b : Buffers) → r ≡ well_formed b → record { test : r ≡ well_formed b; exact : Decides r b }
+decided r b e = record { test = e; exact = subst (λ (t : Bool). Decides t b) (sym e) (decides b) }

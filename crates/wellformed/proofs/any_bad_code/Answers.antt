@@ -1,9 +1,7 @@
 -- At i the answer is that for those from i on.
-use Prim.Native.Nat.{◌-◌}
 use mathlib.Core.Path.{sym, ◌∙◌}
 use native.Mathlib.Omega.{arith}
 use borrow.Author.Rules.{rules}
-use Rattle.definition.specs.Notation.{any}
 use Rattle.definition.proofs.Any.{any_here, any-later, any-end}
 use Rattle.wellformed.specs.WellFormed.{bad_code}
 use Rattle.wellformed.proofs.any_bad_code.Goals as goal

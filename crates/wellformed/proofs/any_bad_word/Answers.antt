@@ -10,4 +10,4 @@ use Rattle.wellformed.proofs.any_bad_word.Goals as goal
 
 pub returns : goal.returns
 returns c = let W = c.args.words.now in
-    c.any_bad_byte.ensures ∙ any_same bad_byte 0 bad_word W (λ i h. sym (word-bad (get_or W i 0) (omega (arith, c.shared_slice_known-1.given i))))
+    c.any_bad_byte.ensures ∙ any_same bad_byte 0 bad_word W (λ i h. sym (word-bad (get_or W i 0) (omega (arith, c.type_inv.words i))))

@@ -1,12 +1,10 @@
 -- At i the answer is that for those from i on.
-use Prim.Native.Nat.{◌-◌}
 use mathlib.Core.Bool.{not}
 use mathlib.Core.Path.{sym, ap, ◌∙◌}
 use native.Mathlib.Omega.{arith}
 use borrow.Author.Tests.{eq-eqb, ne_eqb}
 use borrow.Author.Rules.{rules}
 use Rattle.definition.specs.Request.{nonzero}
-use Rattle.definition.specs.Notation.{any}
 use Rattle.definition.proofs.Any.{any_here, any-later, any-end}
 use Rattle.wellformed.proofs.any_nonzero_u16.Goals as goal
 

@@ -1,5 +1,5 @@
 -- At i the answer is that for the allocations from i on, whose parts stand at the front of what is left.
-use Prim.Native.Nat.{ℕ, ◌-◌}
+use Prim.Native.Nat.{ℕ}
 use mathlib.Core.Path.{sym, ap, ◌∙◌}
 use native.Mathlib.Nat.{sub-zero}
 use native.Mathlib.Omega.{arith}
@@ -22,31 +22,31 @@ bad_allocation_at-requires c = walk-front c.args.allocs.now c.args.parents.now c
 
 pub returns-then-bad_allocation_at : goal.returns-then-bad_allocation_at
 returns-then-bad_allocation_at c = let a = c.args in
-    sym (walk-bad a.allocs.now a.parents.now a.protectors.now a.words.now a.codes.now c.loop-i.i c.loop-i.node c.loop-i.word c.loop-i.code _ c.bad_allocation_at.ensures a.count (omega arith) c.if-bad_allocation_at.true) ∙ c.loop-i.inv.5
+    sym (walk-bad a.allocs.now a.parents.now a.protectors.now a.words.now a.codes.now c.loop-i.i c.loop-i.node c.loop-i.word c.loop-i.code _ c.bad_allocation_at.ensures a.count (omega arith) c.if-bad_allocation_at.true) ∙ c.loop-i.invariant.5
 
 pub overflow_add-node : goal.overflow_add-node
 overflow_add-node c = let parts-fit : let a = c.args in
-    PartsFit a.allocs.now a.parents.now a.protectors.now a.words.now a.codes.now c.loop-i.i c.loop-i.node c.loop-i.word c.loop-i.code = let k = c.loop-i.inv in walk-fits _ _ _ _ _ _ _ _ _ _ c.bad_allocation_at.ensures c.if-bad_allocation_at.false k.1 k.2 k.3 k.4 in
-    omega (arith, (parts-fit).parents)
+    PartsFit a.allocs.now a.parents.now a.protectors.now a.words.now a.codes.now c.loop-i.i c.loop-i.node c.loop-i.word c.loop-i.code = let k = c.loop-i.invariant in walk-fits _ _ _ _ _ _ _ _ _ _ c.bad_allocation_at.ensures c.if-bad_allocation_at.false k.1 k.2 k.3 k.4 in
+    omega (arith, parts-fit.parents)
 
 pub overflow_add-word : goal.overflow_add-word
 overflow_add-word c = let parts-fit : let a = c.args in
-    PartsFit a.allocs.now a.parents.now a.protectors.now a.words.now a.codes.now c.loop-i.i c.loop-i.node c.loop-i.word c.loop-i.code = let k = c.loop-i.inv in walk-fits _ _ _ _ _ _ _ _ _ _ c.bad_allocation_at.ensures c.if-bad_allocation_at.false k.1 k.2 k.3 k.4 in
-    omega (arith, (parts-fit).words)
+    PartsFit a.allocs.now a.parents.now a.protectors.now a.words.now a.codes.now c.loop-i.i c.loop-i.node c.loop-i.word c.loop-i.code = let k = c.loop-i.invariant in walk-fits _ _ _ _ _ _ _ _ _ _ c.bad_allocation_at.ensures c.if-bad_allocation_at.false k.1 k.2 k.3 k.4 in
+    omega (arith, parts-fit.words)
 
 pub overflow_mul-code : goal.overflow_mul-code
 overflow_mul-code c = let parts-fit : let a = c.args in
-    PartsFit a.allocs.now a.parents.now a.protectors.now a.words.now a.codes.now c.loop-i.i c.loop-i.node c.loop-i.word c.loop-i.code = let k = c.loop-i.inv in walk-fits _ _ _ _ _ _ _ _ _ _ c.bad_allocation_at.ensures c.if-bad_allocation_at.false k.1 k.2 k.3 k.4 in
-    omega (arith, (parts-fit).codes)
+    PartsFit a.allocs.now a.parents.now a.protectors.now a.words.now a.codes.now c.loop-i.i c.loop-i.node c.loop-i.word c.loop-i.code = let k = c.loop-i.invariant in walk-fits _ _ _ _ _ _ _ _ _ _ c.bad_allocation_at.ensures c.if-bad_allocation_at.false k.1 k.2 k.3 k.4 in
+    omega (arith, parts-fit.codes)
 
 pub overflow_add-code : goal.overflow_add-code
 overflow_add-code c = let parts-fit : let a = c.args in
-    PartsFit a.allocs.now a.parents.now a.protectors.now a.words.now a.codes.now c.loop-i.i c.loop-i.node c.loop-i.word c.loop-i.code = let k = c.loop-i.inv in walk-fits _ _ _ _ _ _ _ _ _ _ c.bad_allocation_at.ensures c.if-bad_allocation_at.false k.1 k.2 k.3 k.4 in
-    omega (arith, (parts-fit).codes)
+    PartsFit a.allocs.now a.parents.now a.protectors.now a.words.now a.codes.now c.loop-i.i c.loop-i.node c.loop-i.word c.loop-i.code = let k = c.loop-i.invariant in walk-fits _ _ _ _ _ _ _ _ _ _ c.bad_allocation_at.ensures c.if-bad_allocation_at.false k.1 k.2 k.3 k.4 in
+    omega (arith, parts-fit.codes)
 
 pub loop-i-preserved : goal.loop-i-preserved
 loop-i-preserved c = let parts-fit : let a = c.args in
-    PartsFit a.allocs.now a.parents.now a.protectors.now a.words.now a.codes.now c.loop-i.i c.loop-i.node c.loop-i.word c.loop-i.code = let k = c.loop-i.inv in walk-fits _ _ _ _ _ _ _ _ _ _ c.bad_allocation_at.ensures c.if-bad_allocation_at.false k.1 k.2 k.3 k.4 in
+    PartsFit a.allocs.now a.parents.now a.protectors.now a.words.now a.codes.now c.loop-i.i c.loop-i.node c.loop-i.word c.loop-i.code = let k = c.loop-i.invariant in walk-fits _ _ _ _ _ _ _ _ _ _ c.bad_allocation_at.ensures c.if-bad_allocation_at.false k.1 k.2 k.3 k.4 in
     let a = c.args in
     let fits = parts-fit in (
       omega arith,
@@ -54,7 +54,7 @@ loop-i-preserved c = let parts-fit : let a = c.args in
       fits.protectors,
       fits.words,
       fits.codes,
-      walk-on a.allocs.now a.parents.now a.protectors.now a.words.now a.codes.now c.loop-i.i c.loop-i.node c.loop-i.word c.loop-i.code _ c.bad_allocation_at.ensures a.count (omega arith) c.if-bad_allocation_at.false ∙ c.loop-i.inv.5,
+      walk-on a.allocs.now a.parents.now a.protectors.now a.words.now a.codes.now c.loop-i.i c.loop-i.node c.loop-i.word c.loop-i.code _ c.bad_allocation_at.ensures a.count (omega arith) c.if-bad_allocation_at.false ∙ c.loop-i.invariant.5,
     )
 
 pub returns : goal.returns

@@ -21,7 +21,7 @@ loop-n-init c = (
 )
 
 pub overflow_cast-parents : goal.overflow_cast-parents
-overflow_cast-parents c = record { fits = omega (arith, c.shared_slice_known-in-loop-n-2-1.given c.loop-n.n) }
+overflow_cast-parents c = record { fits = omega arith }
 
 pub returns-then-bad_place : goal.returns-then-bad_place
 returns-then-bad_place c = let split : let a = c.args in
@@ -30,8 +30,8 @@ returns-then-bad_place c = let split : let a = c.args in
     (c.bad_place.result || any (bad_code a.live (get_or a.protectors.now n 0)) (take a.size (drop row a.codes.now)))
     || bad_nodes a.live a.size (n + 1) (a.count - (n + 1)) (drop (n + 1) a.parents.now) (drop (n + 1) a.protectors.now) (drop (row + a.size) a.codes.now)
     ≡ bad_nodes a.live a.size 0 a.count a.parents.now a.protectors.now a.codes.now = let a = c.args in
-    rw (sym c.bad_place.ensures) c.before.before.before.before.before
-    (sym (nodes-turn a.live a.size a.count c.loop-n.n c.loop-n.row a.parents.now a.protectors.now a.codes.now (omega arith)) ∙ c.loop-n.inv.2) in
+    rw c.bad_place.ensures
+    (sym (nodes-turn a.live a.size a.count c.loop-n.n c.loop-n.row a.parents.now a.protectors.now a.codes.now (omega arith)) ∙ c.loop-n.invariant.2) in
     sym (or-taken _ _ (or-taken _ _ c.if-bad_place.true)) ∙ split
 
 pub overflow_add-end : goal.overflow_add-end
@@ -49,8 +49,8 @@ returns-then-any_bad_code c = let split : let a = c.args in
     (c.bad_place.result || any (bad_code a.live (get_or a.protectors.now n 0)) (take a.size (drop row a.codes.now)))
     || bad_nodes a.live a.size (n + 1) (a.count - (n + 1)) (drop (n + 1) a.parents.now) (drop (n + 1) a.protectors.now) (drop (row + a.size) a.codes.now)
     ≡ bad_nodes a.live a.size 0 a.count a.parents.now a.protectors.now a.codes.now = let a = c.args in
-    rw (sym c.bad_place.ensures) c.before.before.before.before.before.before.before.before
-    (sym (nodes-turn a.live a.size a.count c.loop-n.n c.loop-n.row a.parents.now a.protectors.now a.codes.now (omega arith)) ∙ c.loop-n.inv.2) in
+    rw c.bad_place.ensures
+    (sym (nodes-turn a.live a.size a.count c.loop-n.n c.loop-n.row a.parents.now a.protectors.now a.codes.now (omega arith)) ∙ c.loop-n.invariant.2) in
     let codes : let a = c.args in
     any (bad_code a.live (get_or a.protectors.now c.loop-n.n 0)) (take a.size (drop c.loop-n.row a.codes.now)) ≡ c.any_bad_code.result = let a = c.args in
     let row = c.loop-n.row in
@@ -65,15 +65,15 @@ loop-n-preserved c = let split : let a = c.args in
     (c.bad_place.result || any (bad_code a.live (get_or a.protectors.now n 0)) (take a.size (drop row a.codes.now)))
     || bad_nodes a.live a.size (n + 1) (a.count - (n + 1)) (drop (n + 1) a.parents.now) (drop (n + 1) a.protectors.now) (drop (row + a.size) a.codes.now)
     ≡ bad_nodes a.live a.size 0 a.count a.parents.now a.protectors.now a.codes.now = let a = c.args in
-    rw (sym c.bad_place.ensures) c.before.before.before.before.before.before.before.before
-    (sym (nodes-turn a.live a.size a.count c.loop-n.n c.loop-n.row a.parents.now a.protectors.now a.codes.now (omega arith)) ∙ c.loop-n.inv.2) in
+    rw c.bad_place.ensures
+    (sym (nodes-turn a.live a.size a.count c.loop-n.n c.loop-n.row a.parents.now a.protectors.now a.codes.now (omega arith)) ∙ c.loop-n.invariant.2) in
     let codes : let a = c.args in
     any (bad_code a.live (get_or a.protectors.now c.loop-n.n 0)) (take a.size (drop c.loop-n.row a.codes.now)) ≡ c.any_bad_code.result = let a = c.args in
     let row = c.loop-n.row in
     let wide : row + a.size - row ≡ a.size = omega arith in
     ap (λ (k : ℕ). any (bad_code a.live (get_or a.protectors.now c.loop-n.n 0)) (take k (drop row a.codes.now))) (sym wide) ∙ sym c.any_bad_code.ensures in (
       omega arith,
-      rw (add-one c.loop-n.n) (omega (arith, suc-mul c.loop-n.n c.args.size, c.loop-n.inv.1)),
+      rw (add-one c.loop-n.n) (omega (arith, suc-mul c.loop-n.n c.args.size, c.loop-n.invariant.1)),
       sym (or-skip _ _ (or-skip _ _ c.if-bad_place.false ∙ codes ∙ c.if-any_bad_code.false)) ∙ split,
     )
 

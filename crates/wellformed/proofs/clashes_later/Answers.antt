@@ -20,7 +20,7 @@ returns-then-clashes_at c = let live : get_or c.args.allocs.now (c.args.i * 9) 0
     let j = c.loop-j.j in
     sym (later-turn count j address size A (omega arith) ∙ or-taken _ _ (sym c.clashes_at.ensures ∙ c.if-clashes_at.true))
     ∙ c.loop-j.invariant
-    ∙ sym (first_live (count - (i + 1)) i A (live))
+    ∙ sym (first_live (count - (i + 1)) i A live)
 
 pub loop-j-preserved : goal.loop-j-preserved
 loop-j-preserved c = let A = c.args.allocs.now in
@@ -38,4 +38,4 @@ returns c = let live : get_or c.args.allocs.now (c.args.i * 9) 0 ≡ 1 = c.if-al
     let count = c.args.count in
     let address = get_or A (i * 9 + 3) 0 in
     let size = get_or A (i * 9 + 4) 0 in
-    sym (later-end count c.loop-j.j address size _ (omega arith)) ∙ c.loop-j.invariant ∙ sym (first_live (count - (i + 1)) i A (live))
+    sym (later-end count c.loop-j.j address size _ (omega arith)) ∙ c.loop-j.invariant ∙ sym (first_live (count - (i + 1)) i A live)

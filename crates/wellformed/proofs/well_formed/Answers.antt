@@ -34,7 +34,7 @@ returns-then-codes-ne32768 c = decided false _ (sym (rw (eq-eqb _ _ c.if-allocs-
 
 pub any_clash-requires : goal.any_clash-requires
 any_clash-requires c = let given : Buffers = let a = c.args in buffers a.allocs.now a.parents.now a.protectors.now a.words.now a.codes.now in
-    omega (arith, made-small 128 (given).allocs)
+    omega (arith, made-small 128 given.allocs)
 
 pub returns-then-any_clash : goal.returns-then-any_clash
 unfolding well_formed
@@ -42,12 +42,12 @@ returns-then-any_clash c = let given : Buffers = let a = c.args in buffers a.all
     let others : let b = given in
     let made = made_in 128 b.allocs in
     well_formed b ≡ not (any_clash made b.allocs) && not (bad_allocations made 0 0 0 b.allocs b.parents b.protectors b.words b.codes) = rw (eq-eqb _ _ c.if-allocs-ne1152.false, eq-eqb _ _ c.if-parents-ne1024.false, eq-eqb _ _ c.if-protectors-ne1024.false, eq-eqb _ _ c.if-words-ne4096.false, eq-eqb _ _ c.if-codes-ne32768.false) in
-    let clash : let b = given in any_clash (made_in 128 b.allocs) b.allocs ≡ c.any_clash.result = ap (λ (k : ℕ). any_clash k (given).allocs) (sym c.made_count-count.ensures) ∙ sym c.any_clash.ensures in
+    let clash : let b = given in any_clash (made_in 128 b.allocs) b.allocs ≡ c.any_clash.result = ap (λ (k : ℕ). any_clash k given.allocs) (sym c.made_count-count.ensures) ∙ sym c.any_clash.ensures in
     decided false _ (sym (others ∙ rw (clash ∙ c.if-any_clash.true)))
 
 pub bad_allocations-requires : goal.bad_allocations-requires
 bad_allocations-requires c = let given : Buffers = let a = c.args in buffers a.allocs.now a.parents.now a.protectors.now a.words.now a.codes.now in
-    (omega (arith, made-small 128 (given).allocs), (omega arith, omega arith))
+    (omega (arith, made-small 128 given.allocs), (omega arith, omega arith))
 
 pub returns : goal.returns
 unfolding well_formed
@@ -55,7 +55,7 @@ returns c = let given : Buffers = let a = c.args in buffers a.allocs.now a.paren
     let others : let b = given in
     let made = made_in 128 b.allocs in
     well_formed b ≡ not (any_clash made b.allocs) && not (bad_allocations made 0 0 0 b.allocs b.parents b.protectors b.words b.codes) = rw (eq-eqb _ _ c.if-allocs-ne1152.false, eq-eqb _ _ c.if-parents-ne1024.false, eq-eqb _ _ c.if-protectors-ne1024.false, eq-eqb _ _ c.if-words-ne4096.false, eq-eqb _ _ c.if-codes-ne32768.false) in
-    let clash : let b = given in any_clash (made_in 128 b.allocs) b.allocs ≡ c.any_clash.result = ap (λ (k : ℕ). any_clash k (given).allocs) (sym c.made_count-count.ensures) ∙ sym c.any_clash.ensures in
+    let clash : let b = given in any_clash (made_in 128 b.allocs) b.allocs ≡ c.any_clash.result = ap (λ (k : ℕ). any_clash k given.allocs) (sym c.made_count-count.ensures) ∙ sym c.any_clash.ensures in
     let b = given in
     let bad = ap (λ (k : ℕ). bad_allocations k 0 0 0 b.allocs b.parents b.protectors b.words b.codes) (sym c.made_count-count.ensures) ∙ sym c.bad_allocations.ensures in
     decided _ b (sym (others ∙ rw (clash ∙ c.if-any_clash.false) (ap not bad)))

@@ -1,6 +1,5 @@
 -- The write is refused, or a strong protector prevents, or neither.
 use mathlib.Core.Path.{◌≡◌, refl, sym, subst, ◌∙◌}
-use mathlib.Core.Logic.{⊎_elim}
 use mathlib.Core.List.{List}
 use Rattle.definition.specs.Permission.AccessKind.{Write}
 use Rattle.definition.specs.Tree.{Node, access_visit, visit_refusal}
@@ -9,6 +8,7 @@ use Rattle.tree.specs.Requests.{Checked}
 use Rattle.tree.proofs.Visits.{checked-stays, checked-changes}
 use Rattle.tree.proofs.Strong.{write-refused, strong-refused, write-accepted}
 use Rattle.tree.proofs.deallocation.deallocate.Goals as goal
+use Rattle.tree.proofs.deallocation.deallocate.Goals.{in-Stays, in-Changes}
 
 pub returns-in-Refused : goal.returns-in-Refused
 returns-in-Refused c = λ nodes held.
@@ -21,7 +21,7 @@ returns-then-strong_protector_after_write c = let passed : (nodes : List Node) �
     → visit_refusal (access_visit Write a.node 0 a.width) nodes ≡ 0 = λ nodes held. let a = c.args in
     let write = access_visit Write a.node 0 a.width in
     let told = c.check_access.ensures nodes held.holds in
-    ⊎_elim (λ w. checked-stays write nodes _ told w.1.given.1) (λ w. checked-changes write nodes _ told w.1.given.1) c.match-check_access.branch in
+    elim c.match-check_access.branch [ in-Stays w ↦ checked-stays write nodes _ told w.in-Stays.is | in-Changes w ↦ checked-changes write nodes _ told w.in-Changes.is ] in
     λ nodes held.
     let a = c.args in
     strong-refused nodes a.node a.width 24 _ (passed nodes held) (sym (c.strong_protector_after_write.ensures nodes held) ∙ c.if-strong_protector_after_write.true) refl held.holds.table.rows
@@ -31,7 +31,7 @@ returns c = let passed : (nodes : List Node) → let a = c.args in HoldsAll node
     → visit_refusal (access_visit Write a.node 0 a.width) nodes ≡ 0 = λ nodes held. let a = c.args in
     let write = access_visit Write a.node 0 a.width in
     let told = c.check_access.ensures nodes held.holds in
-    ⊎_elim (λ w. checked-stays write nodes _ told w.1.given.1) (λ w. checked-changes write nodes _ told w.1.given.1) c.match-check_access.branch in
+    elim c.match-check_access.branch [ in-Stays w ↦ checked-stays write nodes _ told w.in-Stays.is | in-Changes w ↦ checked-changes write nodes _ told w.in-Changes.is ] in
     λ nodes held.
     let a = c.args in
     write-accepted nodes a.node a.width 0 _ (passed nodes held) (sym (c.strong_protector_after_write.ensures nodes held) ∙ c.if-strong_protector_after_write.false) refl (c.apply_access.ensures nodes held.holds)

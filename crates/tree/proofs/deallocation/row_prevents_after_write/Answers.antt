@@ -1,10 +1,8 @@
 -- A search: what is left of it is the answer of the whole.
-use Prim.Native.Nat.{◌-◌}
 use mathlib.Core.Option.{some}
 use mathlib.Core.Path.{refl, sym, ◌∙◌}
 use native.Mathlib.Omega.{arith}
 use Rattle.definition.specs.Permission.AccessKind.{Write}
-use Rattle.definition.specs.Notation.{any}
 use Rattle.definition.proofs.Any.{any_here, any-later, any-end}
 use Rattle.permission.specs.Codes.{node_relation, next_code, prevents_code}
 use Rattle.tree.proofs.deallocation.row_prevents_after_write.Goals as goal

@@ -1,7 +1,6 @@
 -- The invariant: the nodes gone over do not prevent.
-use Prim.Native.Nat.{ℕ, ◌+◌, ◌-◌, ◌*◌, ◌≤◌, ◌<◌}
+use Prim.Native.Nat.{ℕ, ◌+◌, ◌*◌, ◌≤◌, ◌<◌}
 use mathlib.Core.Path.{◌≡◌, sym, subst⁻¹, ◌∙◌}
-use mathlib.Core.Logic.{⊎_elim}
 use mathlib.Core.Bool.{false}
 use native.Mathlib.Decide.{ℕ_discrete}
 use native.Mathlib.Omega.{arith}
@@ -14,6 +13,7 @@ use Rattle.definition.proofs.Visits.{visited-length}
 use Rattle.tree.proofs.Held.{node-fits, held-count, marks-count}
 use Rattle.tree.proofs.Strong.{strong-prevents, other-prevents-not}
 use Rattle.tree.proofs.deallocation.strong_protector_in.Goals as goal
+use Rattle.tree.proofs.deallocation.strong_protector_in.Goals.{then-protectors-n-eq2+else-row_prevents_after_write, else-protectors-n-eq2}
 
 pub loop-n-init : goal.loop-n-init
 loop-n-init c = (omega arith, λ node marks nodes held k h. absurd (omega arith))
@@ -53,12 +53,13 @@ loop-n-preserved c = let width = c.args.width in
             | yes e ↦
                 subst⁻¹ (λ (j : ℕ). node_prevents_deallocation (node_at (visited (access_visit Write node 0 width) nodes) j) ≡ false) e
                 (let m : n < length nodes = omega (arith, held-count held.holds) in
-                ⊎_elim
-                (λ w.
-                strong-prevents nodes width c.args.parents.now c.args.protectors.now c.args.codes.now held node n m w.0.taken w.3.result _
-                (w.2.ensures ∙ marks n (omega arith)) w.3.ensures ∙ w.4.left)
-                (λ w. other-prevents-not nodes width c.args.parents.now c.args.protectors.now c.args.codes.now held node n m w.left)
-                c.if-protectors-n-eq2.branch)
+                elim c.if-protectors-n-eq2.branch [
+                  | then-protectors-n-eq2+else-row_prevents_after_write w ↦
+                      strong-prevents nodes width c.args.parents.now c.args.protectors.now c.args.codes.now held node n m w.if-protectors-n-eq2.true w.row_prevents_after_write.result _
+                      (w.relation.ensures ∙ marks n (omega arith)) w.row_prevents_after_write.ensures
+                      ∙ w.if-row_prevents_after_write.false
+                  | else-protectors-n-eq2 w ↦ other-prevents-not nodes width c.args.parents.now c.args.protectors.now c.args.codes.now held node n m w.if-protectors-n-eq2.false
+                ])
             | no e ↦ c.loop-n.invariant.1 node marks nodes held k (omega arith)
           ],
     )

@@ -1,9 +1,7 @@
 -- 16, or the row unprotected.
-use Prim.Native.Nat.{◌+◌, ◌*◌, ◌≤◌}
 use mathlib.Core.Path.{refl, sym, ◌∙◌}
-use lib.ListN.{length}
 use Rattle.definition.specs.Memory.Liveness.{Dead}
-use Rattle.tree.proofs.Held.{held_fits, marks-count}
+use Rattle.tree.proofs.Held.{marks-count, marked-fits}
 use Rattle.tree.proofs.Releases.{unprotected-table, dead-marks, release-16, release-visits, release-accepted, release-refused}
 use native.Mathlib.Omega.{arith}
 use Rattle.tree.proofs.protector.release_dead.Goals as goal
@@ -14,8 +12,7 @@ returns-then-lacks_protector c = λ nodes held.
     (release-16 Dead nodes c.args.node (sym (c.lacks_protector.ensures nodes held) ∙ c.if-lacks_protector.true)) (λ q. absurd (omega arith)) held.marked held.table.rows
 
 pub unprotect_node-requires : goal.unprotect_node-requires
-unprotect_node-requires c = let ends : c.args.node * c.args.width + c.args.width ≤ length c.args.codes.now = held_fits c.requires.some.0 c.args.width c.args.codes.now c.requires.some.1.table c.args.node (omega (arith, marks-count c.requires.some.0 c.args.protectors.now c.requires.some.1.marked)) in
-    ends
+unprotect_node-requires c = marked-fits c.requires.some.1 c.args.node c.requires.node_in_bounds
 
 pub returns : goal.returns
 returns c = let n = c.args.node in

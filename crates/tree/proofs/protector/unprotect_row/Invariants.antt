@@ -1,6 +1,6 @@
 -- The bytes before i are unprotected.
 use Prim.Native.Nat.{◌-◌, ◌≤◌}
-use mathlib.Core.Path.{◌≡◌, ap}
+use mathlib.Core.Path.{◌≡◌}
 use lib.ListN.{length}
 use Rattle.permission.specs.Codes.{unprotected_code}
 use Rattle.visit.proofs.Loops.{mapped_to}

@@ -1,7 +1,6 @@
 -- The invariant: the first refusal of the reads that are left is that of all.
-use Prim.Native.Nat.{◌+◌, ◌-◌}
+use Prim.Native.Nat.{◌+◌}
 use mathlib.Core.Path.{refl, sym, ap, subst, ◌∙◌}
-use mathlib.Core.Logic.{⊎_elim}
 use native.Mathlib.Omega.{arith}
 use Rattle.definition.specs.Tree.{access_visit}
 use Rattle.permission.specs.Codes.{access_kind, maybe_access}
@@ -9,6 +8,7 @@ use Rattle.tree.specs.Requests.{Checked}
 use Rattle.tree.proofs.Visits.{checked-stays, checked-changes}
 use Rattle.tree.proofs.Inits.{reads_all, reads-skipped, reads-passed, reads-refused, reads_end}
 use Rattle.tree.proofs.reads.first_refused_read.Goals as goal
+use Rattle.tree.proofs.reads.first_refused_read.Goals.{in-Nothing, in-Access+in-Stays, in-Access+in-Changes}
 
 pub loop-k-init : goal.loop-k-init
 loop-k-init c = (omega arith, λ nodes holds. refl)
@@ -25,7 +25,7 @@ returns-in-Refused c = let l = c.loop-k in
     λ nodes holds.
     let t = subst (Checked (access_visit (access_kind c.in-Access.kind) node (from + l.k) 1) nodes) c.in-Refused.is (c.check_access.ensures nodes holds) in
     reads-refused node from inside nodes l.k (omega arith) _ c.init_access.ensures (access_kind c.in-Access.kind) c.in-Refused.n (ap maybe_access c.in-Access.is) t.0 t.1
-    ∙ l.inv.1 nodes holds
+    ∙ l.invariant.1 nodes holds
     ∙ reads_all node from inside nodes
 
 pub loop-k-preserved : goal.loop-k-preserved
@@ -36,17 +36,16 @@ loop-k-preserved c = let l = c.loop-k in
     let inside = a.inside.now in (
       omega arith,
       λ nodes holds.
-          ⊎_elim
-          (λ w. reads-skipped node from inside nodes l.k (omega arith) _ c.init_access.ensures (ap maybe_access w.1.given.1))
-          (⊎_elim
-          (λ w.
-          reads-passed node from inside nodes l.k (omega arith) _ c.init_access.ensures (access_kind w.1.given.0.0) _ (ap maybe_access w.1.given.1) refl
-          (checked-stays (access_visit (access_kind w.1.given.0.0) node (from + l.k) 1) nodes _ (w.3.ensures nodes holds) w.5.given.1))
-          (λ w.
-          reads-passed node from inside nodes l.k (omega arith) _ c.init_access.ensures (access_kind w.1.given.0.0) _ (ap maybe_access w.1.given.1) refl
-          (checked-changes (access_visit (access_kind w.1.given.0.0) node (from + l.k) 1) nodes _ (w.3.ensures nodes holds) w.5.given.1)))
-          c.match-init_access.branch
-          ∙ l.inv.1 nodes holds,
+          elim c.match-init_access.branch [
+            | in-Nothing w ↦ reads-skipped node from inside nodes l.k (omega arith) _ c.init_access.ensures (ap maybe_access w.in-Nothing.is)
+            | in-Access+in-Stays w ↦
+                reads-passed node from inside nodes l.k (omega arith) _ c.init_access.ensures (access_kind w.in-Access.kind) _ (ap maybe_access w.in-Access.is) refl
+                (checked-stays (access_visit (access_kind w.in-Access.kind) node (from + l.k) 1) nodes _ (w.check_access.ensures nodes holds) w.in-Stays.is)
+            | in-Access+in-Changes w ↦
+                reads-passed node from inside nodes l.k (omega arith) _ c.init_access.ensures (access_kind w.in-Access.kind) _ (ap maybe_access w.in-Access.is) refl
+                (checked-changes (access_visit (access_kind w.in-Access.kind) node (from + l.k) 1) nodes _ (w.check_access.ensures nodes holds) w.in-Changes.is)
+          ]
+          ∙ l.invariant.1 nodes holds,
     )
 
 pub returns : goal.returns
