@@ -1,10 +1,10 @@
 -- The names of a state, a kind and a protector, and a parent's, by the numbers that stand for them.
 use Prim.Native.Nat.{ℕ, zero, suc}
-use mathlib.Core.Path.{◌≡◌, refl}
+use mathlib.Core.Path.{◌≡◌, refl, ap}
 use borrow.Author.Tests.{ne_eqb}
 use Rattle.definition.specs.Memory.AllocationKind.{Stack}
 use Rattle.definition.specs.Memory.Liveness.{Dead}
-use Rattle.definition.specs.Output.{decimal, parent_name}
+use Rattle.definition.specs.Output.{ascii, decimal, parent_name}
 use Rattle.definition.specs.Permission.Protected.{No}
 use Rattle.tables.specs.Decoding.{liveness, allocation_kind, protector}
 
@@ -29,3 +29,10 @@ pub parent-rest : (k parent : ℕ) → (k ≡ 0 → ⊥) → parent_name k paren
 unfolding parent_name
 parent-rest zero parent h = absurd (h refl)
 parent-rest (suc k) parent h = refl
+
+pub root_named : (k parent : ℕ) → k ≡ 0 → parent_name k parent ≡ ascii "-"
+unfolding parent_name
+root_named k parent e = ap (λ (n : ℕ). parent_name n parent) e
+
+-- what a parent is called, by whether the node is the root
+pub ruleset parent_names = (root_named, parent-rest)

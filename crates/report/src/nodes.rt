@@ -11,6 +11,7 @@ use crate::decimal::put_number;
 use crate::text::{digit_of, put_byte, put_bytes};
 
 // "parent (`-` for the root)"
+#[tactic(auto, using(crate::proofs::Names::parent_names))]
 fn put_parent(out: &mut [u8], at: usize, node: usize, parent: u64) -> usize
     requires { Room out.old at (ascii " " ++ parent_name node parent) }
     ensures { Written out.old at (ascii " " ++ parent_name node parent) out.new result }
