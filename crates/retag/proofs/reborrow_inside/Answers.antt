@@ -60,21 +60,8 @@ used_behind-used-requires c = let known : (m : Memory) → HoldsMarked m c.args.
     → Points m c.args.allocs.now (provenance_of c.args.p.provenance) = λ m h. let r = (trees-of h).records in
     let made = c.never_made.ensures m _ r c.target_of-a.ensures in
     record { records = r; made = ap (λ (q : Provenance). names_never_made m (provenance_of q)) c.in-Of.is ∙ sym made ∙ c.if-never_made.false } in
-    let found : c.target_of-a.result ≡ target_in c.args.allocs.now (provenance_of c.args.p.provenance) = c.target_of-a.ensures ∙ ap (λ (q : Provenance). target_in c.args.allocs.now (provenance_of q)) (sym c.in-Of.is) in
-    let own-record : (m : Memory) → HoldsMarked m c.args.allocs.now c.args.parents.now c.args.protectors.now c.args.codes.now
-    → c.target_of-a.result ≡ record_at c.args.allocs.now c.in-Of.allocation = λ m h. points-read c.args.p c.in-Of.is (known m h) (found) in
     let made : (m : Memory) → HoldsMarked m c.args.allocs.now c.args.parents.now c.args.protectors.now c.args.codes.now
     → c.in-Of.allocation < length m = λ m h. points-made c.args.p c.in-Of.is (known m h) in
-    let located : (m : Memory) → HoldsMarked m c.args.allocs.now c.args.parents.now c.args.protectors.now c.args.codes.now
-    → Located m c.args.allocs.now (provenance_of c.args.p.provenance) c.in-Of.allocation c.target_of-a.result c.used_behind-used.result c.parts_of-t.result = λ m h. let r = (trees-of h).records in
-    let u = c.used_behind-used.ensures m r in
-    record {
-      made = (known m h).made;
-      read = found;
-      used = record { words = refl; nodes = u.nodes; codes = u.codes };
-      part = subst (λ (t : Parts). PartsOf m c.in-Of.allocation t) (sym c.parts_of-t.ensures) (parts-read r (made m h) (own-record m h));
-    } in
-    let passed : (m : Memory) → HoldsMarked m c.args.allocs.now c.args.parents.now c.args.protectors.now c.args.codes.now → Passed m c.in-Of.allocation c.in-Of.node c.args.p.addr (length c.args.inside.now) = λ m h. (c.retag_refusal-refused.ensures.tested m _ _ (trees-of h) (located m h) c.in-Of.is).passed c.if-refused-ne0.false in
     let (m, h) = c.requires.holds_marked in (m, ((trees-of h).records, made m h))
 
 pub retag_refusal-refused-requires : goal.retag_refusal-refused-requires
@@ -96,7 +83,6 @@ retag_refusal-refused-requires c = let known : (m : Memory) → HoldsMarked m c.
       used = record { words = refl; nodes = u.nodes; codes = u.codes };
       part = subst (λ (t : Parts). PartsOf m c.in-Of.allocation t) (sym c.parts_of-t.ensures) (parts-read r (made m h) (own-record m h));
     } in
-    let passed : (m : Memory) → HoldsMarked m c.args.allocs.now c.args.parents.now c.args.protectors.now c.args.codes.now → Passed m c.in-Of.allocation c.in-Of.node c.args.p.addr (length c.args.inside.now) = λ m h. (c.retag_refusal-refused.ensures.tested m _ _ (trees-of h) (located m h) c.in-Of.is).passed c.if-refused-ne0.false in
     let (m, h) = c.requires.holds_marked in
     (m, (_, (_, (trees-of h, located m h, c.in-Of.is))))
 
@@ -119,7 +105,6 @@ returns-then-refused-ne0 c = let known : (m : Memory) → HoldsMarked m c.args.a
       used = record { words = refl; nodes = u.nodes; codes = u.codes };
       part = subst (λ (t : Parts). PartsOf m c.in-Of.allocation t) (sym c.parts_of-t.ensures) (parts-read r (made m h) (own-record m h));
     } in
-    let passed : (m : Memory) → HoldsMarked m c.args.allocs.now c.args.parents.now c.args.protectors.now c.args.codes.now → Passed m c.in-Of.allocation c.in-Of.node c.args.p.addr (length c.args.inside.now) = λ m h. (c.retag_refusal-refused.ensures.tested m _ _ (trees-of h) (located m h) c.in-Of.is).passed c.if-refused-ne0.false in
     λ s frame mask h a.
     let l = located s.memory h in
     retagged-refused (settings_of c.args.settings mask) frame c.args.p c.in-Of.is s _
@@ -152,7 +137,7 @@ add_child-child-requires c = let known : (m : Memory) → HoldsMarked m c.args.a
     } in
     let passed : (m : Memory) → HoldsMarked m c.args.allocs.now c.args.parents.now c.args.protectors.now c.args.codes.now → Passed m c.in-Of.allocation c.in-Of.node c.args.p.addr (length c.args.inside.now) = λ m h. (c.retag_refusal-refused.ensures.tested m _ _ (trees-of h) (located m h) c.in-Of.is).passed c.if-refused-ne0.false in
     let read : (m : Memory) → HoldsMarked m c.args.allocs.now c.args.parents.now c.args.protectors.now c.args.codes.now
-    → HoldsMarked (after_reads m c.in-Of.allocation c.in-Of.node c.args.p.addr c.args.inside.now) c.args.allocs.now c.args.parents.now c.args.protectors.now c.retag_refusal-refused.new.inside = λ m h. holds_after (reads_at m c.in-Of.allocation c.in-Of.node c.args.p.addr c.args.inside.now) m c.in-Of.allocation (passed m h).fits.reached.made h
+    → HoldsMarked (after_reads m c.in-Of.allocation c.in-Of.node c.args.p.addr c.args.inside.now) c.args.allocs.now c.args.parents.now c.args.protectors.now c.retag_refusal-refused.new.codes = λ m h. holds_after (reads_at m c.in-Of.allocation c.in-Of.node c.args.p.addr c.args.inside.now) m c.in-Of.allocation (passed m h).fits.reached.made h
     (tested-made c.args.inside.now (c.retag_refusal-refused.ensures.tested m _ _ (trees-of h) (located m h) c.in-Of.is) c.if-refused-ne0.false) in
     let (m, h) = c.requires.holds_marked in record { located = (m, (located m h, passed m h, h.valid, read m h)); provenance_value = c.in-Of.is; inside_value = c.requires.inside_value }
 
@@ -177,7 +162,7 @@ overflow_cast-result c = let known : (m : Memory) → HoldsMarked m c.args.alloc
     } in
     let passed : (m : Memory) → HoldsMarked m c.args.allocs.now c.args.parents.now c.args.protectors.now c.args.codes.now → Passed m c.in-Of.allocation c.in-Of.node c.args.p.addr (length c.args.inside.now) = λ m h. (c.retag_refusal-refused.ensures.tested m _ _ (trees-of h) (located m h) c.in-Of.is).passed c.if-refused-ne0.false in
     let read : (m : Memory) → HoldsMarked m c.args.allocs.now c.args.parents.now c.args.protectors.now c.args.codes.now
-    → HoldsMarked (after_reads m c.in-Of.allocation c.in-Of.node c.args.p.addr c.args.inside.now) c.args.allocs.now c.args.parents.now c.args.protectors.now c.retag_refusal-refused.new.inside = λ m h. holds_after (reads_at m c.in-Of.allocation c.in-Of.node c.args.p.addr c.args.inside.now) m c.in-Of.allocation (passed m h).fits.reached.made h
+    → HoldsMarked (after_reads m c.in-Of.allocation c.in-Of.node c.args.p.addr c.args.inside.now) c.args.allocs.now c.args.parents.now c.args.protectors.now c.retag_refusal-refused.new.codes = λ m h. holds_after (reads_at m c.in-Of.allocation c.in-Of.node c.args.p.addr c.args.inside.now) m c.in-Of.allocation (passed m h).fits.reached.made h
     (tested-made c.args.inside.now (c.retag_refusal-refused.ensures.tested m _ _ (trees-of h) (located m h) c.in-Of.is) c.if-refused-ne0.false) in
     let (m, h) = c.requires.holds_marked in
     let k = passed m h in
@@ -211,7 +196,7 @@ returns-else-refused-ne0 c = let known : (m : Memory) → HoldsMarked m c.args.a
     } in
     let passed : (m : Memory) → HoldsMarked m c.args.allocs.now c.args.parents.now c.args.protectors.now c.args.codes.now → Passed m c.in-Of.allocation c.in-Of.node c.args.p.addr (length c.args.inside.now) = λ m h. (c.retag_refusal-refused.ensures.tested m _ _ (trees-of h) (located m h) c.in-Of.is).passed c.if-refused-ne0.false in
     let read : (m : Memory) → HoldsMarked m c.args.allocs.now c.args.parents.now c.args.protectors.now c.args.codes.now
-    → HoldsMarked (after_reads m c.in-Of.allocation c.in-Of.node c.args.p.addr c.args.inside.now) c.args.allocs.now c.args.parents.now c.args.protectors.now c.retag_refusal-refused.new.inside = λ m h. holds_after (reads_at m c.in-Of.allocation c.in-Of.node c.args.p.addr c.args.inside.now) m c.in-Of.allocation (passed m h).fits.reached.made h
+    → HoldsMarked (after_reads m c.in-Of.allocation c.in-Of.node c.args.p.addr c.args.inside.now) c.args.allocs.now c.args.parents.now c.args.protectors.now c.retag_refusal-refused.new.codes = λ m h. holds_after (reads_at m c.in-Of.allocation c.in-Of.node c.args.p.addr c.args.inside.now) m c.in-Of.allocation (passed m h).fits.reached.made h
     (tested-made c.args.inside.now (c.retag_refusal-refused.ensures.tested m _ _ (trees-of h) (located m h) c.in-Of.is) c.if-refused-ne0.false) in
     λ s frame mask h a.
     let m = s.memory in
