@@ -19,6 +19,6 @@ allocate-requires c = let formed = sym c.well_formed_at.ensures ∙ c.if-not-wel
     (_, (_, can-enter _ _ formed _ _ _ fine))
 
 pub returns : goal.returns
-returns c = let formed = sym c.well_formed_at.ensures ∙ not-false _ c.if-not-well_formed_at.false in
+returns c = let formed = sym c.well_formed_at.ensures ∙ c.if-not-well_formed_at.false in
     let fine = sym c.bad_allocation.ensures ∙ c.if-bad_allocation.false in
     allocated _ _ formed _ _ _ fine _ c.width_at.ensures (c.allocate.ensures _ _ (can-enter _ _ formed _ _ _ fine))

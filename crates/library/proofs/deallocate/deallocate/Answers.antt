@@ -22,6 +22,6 @@ deallocate-requires c = let formed = sym c.well_formed_at.ensures ∙ c.if-not-w
     (_, holds-marked (sound-at _ _ formed))
 
 pub returns : goal.returns
-returns c = let formed = sym c.well_formed_at.ensures ∙ not-false _ c.if-not-well_formed_at.false in
+returns c = let formed = sym c.well_formed_at.ensures ∙ c.if-not-well_formed_at.false in
     let fine = sym c.bad_allocation.ensures ∙ c.if-bad_allocation.false in
     deallocated _ _ formed _ _ _ _ fine (c.deallocate.ensures _ _ (holds-marked (sound-at _ _ formed)) (allocation-kind _ _ _ _ fine))

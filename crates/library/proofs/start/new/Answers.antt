@@ -10,12 +10,12 @@ pub returns-then-not-is_width : goal.returns-then-not-is_width
 returns-then-not-is_width c = not-width _ _ (sym c.is_width.ensures ∙ c.if-not-is_width.true)
 
 pub returns-then-not-have_memory_lengths : goal.returns-then-not-have_memory_lengths
-returns-then-not-have_memory_lengths c = let numbered : is_width c.args.width ≡ true = sym c.is_width.ensures ∙ not-false _ c.if-not-is_width.false in
+returns-then-not-have_memory_lengths c = let numbered : is_width c.args.width ≡ true = sym c.is_width.ensures ∙ c.if-not-is_width.false in
     not-lengths _ _ (numbered) (sym c.have_memory_lengths.ensures ∙ c.if-not-have_memory_lengths.true)
 
 pub clear_memory-requires : goal.clear_memory-requires
 clear_memory-requires c = sym c.have_memory_lengths.ensures ∙ c.if-not-have_memory_lengths.false
 
 pub returns : goal.returns
-returns c = let numbered : is_width c.args.width ≡ true = sym c.is_width.ensures ∙ not-false _ c.if-not-is_width.false in
+returns c = let numbered : is_width c.args.width ≡ true = sym c.is_width.ensures ∙ c.if-not-is_width.false in
     made-new _ _ (numbered) (sym c.have_memory_lengths.ensures ∙ c.if-not-have_memory_lengths.false) c.clear_memory.ensures

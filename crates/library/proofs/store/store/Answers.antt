@@ -21,6 +21,6 @@ store-requires c = let formed = sym c.well_formed_at.ensures ∙ c.if-not-well_f
     let fine = sym c.bad_store.ensures ∙ c.if-bad_store.false in record { holds_words = (_, holds-bytes (sound-at _ _ formed)); exponent_bound = exponent-shifts _ (store-exponent _ _ _ _ fine) }
 
 pub returns : goal.returns
-returns c = let formed = sym c.well_formed_at.ensures ∙ not-false _ c.if-not-well_formed_at.false in
+returns c = let formed = sym c.well_formed_at.ensures ∙ c.if-not-well_formed_at.false in
     let fine = sym c.bad_store.ensures ∙ c.if-bad_store.false in
     stored _ _ formed _ _ _ fine (c.store.ensures _ (holds-bytes (sound-at _ _ formed)))

@@ -47,7 +47,7 @@ pub returns-in-Dereferenceable : goal.returns-in-Dereferenceable
 returns-in-Dereferenceable c = λ s h. dereferenceable-left h c.pointer-p.ensures (width_of c.args.width) c.in-Dereferenceable.is c.wide-len.ensures (reach-answers _ _ _ s.memory _ (c.dereferenceable.ensures s.memory (holds-records h.holds)))
 
 pub returns-in-SignedDereferenceable : goal.returns-in-SignedDereferenceable
-returns-in-SignedDereferenceable c = λ s h. let same = to_z-of_z {w = w64} {z = c.signed_length.result} (sfits_of c.signed_length.type-inv) in signed-left h c.pointer-p.ensures (width_of c.args.width) c.in-SignedDereferenceable.is c.signed_length.result c.signed_length.ensures {r = c.signed_dereferenceable.result} (rw (← ap back same, ← ap ahead same) (reach-answers _ _ _ s.memory c.args.words.now (c.signed_dereferenceable.ensures s.memory (holds-records h.holds))))
+returns-in-SignedDereferenceable c = λ s h. let same = to_z-of_z {w = w64} {z = c.signed_length.result} (sfits_of c.signed_length.type_inv) in signed-left h c.pointer-p.ensures (width_of c.args.width) c.in-SignedDereferenceable.is c.signed_length.result c.signed_length.ensures {r = c.signed_dereferenceable.result} (rw (← ap back same, ← ap ahead same) (reach-answers _ _ _ s.memory c.args.words.now (c.signed_dereferenceable.ensures s.memory (holds-records h.holds))))
 
 pub returns-in-LeakCheck : goal.returns-in-LeakCheck
 returns-in-LeakCheck c = λ s h. leak-left h (width_of c.args.width) c.in-LeakCheck.is (check-answers s.memory _ (c.leak_check.ensures s.memory (holds-records h.holds)))

@@ -11,4 +11,4 @@ pub clear-requires : goal.clear-requires
 clear-requires c = sym c.have_lengths.ensures ∙ c.if-not-have_lengths.false
 
 pub returns : goal.returns
-returns c = list-ran (sym c.have_lengths.ensures ∙ not-false _ c.if-not-have_lengths.false) c.run_cleared-p.ensures
+returns c = list-ran (sym c.have_lengths.ensures ∙ c.if-not-have_lengths.false) c.run_cleared-p.ensures
