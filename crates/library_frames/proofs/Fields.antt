@@ -48,7 +48,7 @@ module _ (settings : RetagSettings) where
   unpin-flag = of_word.is_unpin
 
   pub freeze-flag : freeze (fields_of settings) ≡ settings.freeze
-  freeze-flag = of_word.is-freeze
+  freeze-flag = of_word.is_freeze_flag
 
   pub zero_bit : bit 28 (fourth_of settings) ≡ false
   zero_bit = of_word.no_bit

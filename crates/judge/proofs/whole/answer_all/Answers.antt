@@ -25,24 +25,24 @@ pub next-p-requires : goal.next-p-requires
 next-p-requires c = let going : let l = c.loop-from in let run = c.args.run.now in
     (l.p.refused ≡ false) × ((l.p.from < length run) × (l.p.at + line_room ≤ length l.out)) = let l = c.loop-from in goes l.p (length c.args.run.now) (length l.out) (sym c.goes_on.ensures ∙ c.loop-from-test.true) in
     let l = c.loop-from in
-    let h = l.inv.0.performing in
+    let h = l.invariant.0.performing in
     let g = going in
-    let part = subst (λ (bytes : List ℕ). CutOf bytes c.next_cut-cut.result) (take_all (length c.args.run.now - l.p.from) (drop l.p.from c.args.run.now) (omega (arith, length-drop l.p.from c.args.run.now))) c.next_cut-cut.ensures in record { holds_run = (h.state, h.holds); line_room_in_bounds = (g.1.1, (l.inv.1.1.1.1.1.1.1.0 ∙ c.requires.request_len, (g.1.0, omega (arith, h.counted, g.1.0, c.good)))); cut_of = part }
+    let part = subst (λ (bytes : List ℕ). CutOf bytes c.next_cut-cut.result) (take_all (length c.args.run.now - l.p.from) (drop l.p.from c.args.run.now) (omega (arith, length-drop l.p.from c.args.run.now))) c.next_cut-cut.ensures in record { holds_run = (h.state, h.holds); line_room_in_bounds = (g.1.1, (l.invariant.1.1.1.1.1.1.1.0 ∙ c.requires.request_len, (g.1.0, omega (arith, h.counted, g.1.0, c.good)))); cut_of = part }
 
 pub loop-from-smaller : goal.loop-from-smaller
 loop-from-smaller c = let going : let l = c.loop-from in let run = c.args.run.now in
     (l.p.refused ≡ false) × ((l.p.from < length run) × (l.p.at + line_room ≤ length l.out)) = let l = c.loop-from in goes l.p (length c.args.run.now) (length l.out) (sym c.goes_on.ensures ∙ c.loop-from-test.true) in
-    let one_more : let l = c.loop-from in Taken l.inv.0.performing.state c.args.run.now l.p l.out c.next-p.result c.next-p.new.out (buffers c.next-p.new.allocs c.next-p.new.parents c.next-p.new.protectors c.next-p.new.words c.next-p.new.codes) c.next-p.new.frames = let h = c.loop-from.invariant.0.performing in c.next-p.ensures h.state h.holds in
+    let one_more : let l = c.loop-from in Taken l.invariant.0.performing.state c.args.run.now l.p l.out c.next-p.result c.next-p.new.out (buffers c.next-p.new.allocs c.next-p.new.parents c.next-p.new.protectors c.next-p.new.words c.next-p.new.codes) c.next-p.new.frames = let h = c.loop-from.invariant.0.performing in c.next-p.ensures h.state h.holds in
     let l = c.loop-from in
     let run = c.args.run.now in
     let g = going in
-    omega (arith, (one_more).from, end-ahead run l.p.from g.1.0, end-within run l.p.from l.inv.0.performing.within, g.1.0)
+    omega (arith, (one_more).from, end-ahead run l.p.from g.1.0, end-within run l.p.from l.invariant.0.performing.within, g.1.0)
 
 pub loop-from-preserved : goal.loop-from-preserved
 loop-from-preserved c = let going : let l = c.loop-from in let run = c.args.run.now in
     (l.p.refused ≡ false) × ((l.p.from < length run) × (l.p.at + line_room ≤ length l.out)) = let l = c.loop-from in goes l.p (length c.args.run.now) (length l.out) (sym c.goes_on.ensures ∙ c.loop-from-test.true) in
-    let one_more : let l = c.loop-from in Taken l.inv.0.performing.state c.args.run.now l.p l.out c.next-p.result c.next-p.new.out (buffers c.next-p.new.allocs c.next-p.new.parents c.next-p.new.protectors c.next-p.new.words c.next-p.new.codes) c.next-p.new.frames = let h = c.loop-from.invariant.0.performing in c.next-p.ensures h.state h.holds in
-    let i = c.loop-from.inv in
+    let one_more : let l = c.loop-from in Taken l.invariant.0.performing.state c.args.run.now l.p l.out c.next-p.result c.next-p.new.out (buffers c.next-p.new.allocs c.next-p.new.parents c.next-p.new.protectors c.next-p.new.words c.next-p.new.codes) c.next-p.new.frames = let h = c.loop-from.invariant.0.performing in c.next-p.ensures h.state h.holds in
+    let i = c.loop-from.invariant in
     let g = going in
     let k = one_more in
     let e = c.next-p.auto in
