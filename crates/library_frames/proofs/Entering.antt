@@ -3,15 +3,13 @@ use Prim.Native.Nat.{ℕ}
 use mathlib.Core.Path.{◌≡◌, refl, sym, ap, ap₂, ◌∙◌}
 use mathlib.Core.Bool.{Bool, true, false, not, ◌&&◌, ◌||◌}
 use mathlib.Core.Option.{none}
-use mathlib.Core.List.{List, [], ◌∷◌}
-use denote.Enum.Declared.{tag_of}
-use types.Run.{OneOf, miss}
+use mathlib.Core.List.{List}
 use Rattle.definition.specs.Memory.{named_pointer}
 use Rattle.definition.specs.Request.{adds_no_node}
 use Rattle.answer.specs.Answer.{answer_of}
 use Rattle.answer.specs.declared.Answer.{Answer}
+use Rattle.pointer.specs.declared.Provenance.{Provenance}
 use Rattle.answer.specs.declared.Answer.TheVariants.{Refused, Leak, Accepted, Pointer, Words}
-use Rattle.answer.specs.contracts.Answer.{the_type}
 use Rattle.library_frames.specs.declared.retags.RetagSettings.{RetagSettings}
 use Rattle.library_frames.specs.Settings.{fields_of, protects}
 use Rattle.library_frames.specs.Outcome.{entered_node}
@@ -35,17 +33,14 @@ module _ (settings : RetagSettings) {none-added : Bool} (e : none-added ≡ adds
   pub protected : none-added || not settings.function_entry ≡ false → protects settings ≡ true
   protected t = tested ∙ ap not t
 
--- an answer that gives no pointer
-abbrev not_pointer : List ℕ
-not_pointer = 0 ∷ 1 ∷ 2 ∷ 4 ∷ []
-
 pub nothing-entered : (is_protected : Bool) → entered_node is_protected none ≡ none
 nothing-entered true = refl
 nothing-entered false = refl
 
-pub no_pointer : (is_protected : Bool) (words : List ℕ) (a : Answer) → OneOf not_pointer (tag_of the_type a) → entered_node is_protected (named_pointer (answer_of a words).names) ≡ none
+-- an answer that gives no pointer
+pub no_pointer : (is_protected : Bool) (words : List ℕ) (a : Answer) → ((t : Provenance) → a ≡ Pointer t → ⊥) → entered_node is_protected (named_pointer (answer_of a words).names) ≡ none
 no_pointer is_protected words (Refused n) h = nothing-entered is_protected
 no_pointer is_protected words (Leak n) h = nothing-entered is_protected
 no_pointer is_protected words Accepted h = nothing-entered is_protected
-no_pointer is_protected words (Pointer t) h = absurd (miss not_pointer 3 tt h)
+no_pointer is_protected words (Pointer t) h = absurd (h t refl)
 no_pointer is_protected words (Words start len) h = nothing-entered is_protected

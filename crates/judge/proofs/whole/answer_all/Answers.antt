@@ -27,7 +27,7 @@ next-p-requires c = let going : let l = c.loop-from in let run = c.args.run.now 
     let l = c.loop-from in
     let h = l.invariant.0.performing in
     let g = going in
-    let part = subst (λ (bytes : List ℕ). CutOf bytes c.next_cut-cut.result) (take_all (length c.args.run.now - l.p.from) (drop l.p.from c.args.run.now) (omega (arith, length-drop l.p.from c.args.run.now))) c.next_cut-cut.ensures in record { holds_run = (h.state, h.holds); line_room_in_bounds = (g.1.1, (l.invariant.1.1.1.1.1.1.1.0 ∙ c.requires.request_len, (g.1.0, omega (arith, h.counted, g.1.0, c.good)))); cut_of = part }
+    let part = subst (λ (bytes : List ℕ). CutOf bytes c.next_cut-cut.result) (take_all (length c.args.run.now - l.p.from) (drop l.p.from c.args.run.now) (omega (arith, length-drop l.p.from c.args.run.now))) c.next_cut-cut.ensures in record { holds_run = (h.state, h.holds); line_room_in_bounds = (g.1.1, (l.invariant.1.1.1.1.1.1.1.0 ∙ c.requires.request_len, (g.1.0, omega (arith, h.counted, g.1.0, c.well_formed)))); cut_of = part }
 
 pub loop-from-smaller : goal.loop-from-smaller
 loop-from-smaller c = let going : let l = c.loop-from in let run = c.args.run.now in
@@ -46,7 +46,7 @@ loop-from-preserved c = let going : let l = c.loop-from in let run = c.args.run.
     let g = going in
     let k = one_more in
     let e = c.next-p.auto in
-    (record { performing = performing-next i.0.performing g.0 g.1.0 (advanced k); fits = k.turned.line.written.fits }, (e.0 ∙ i.1.0, (e.1.0 ∙ i.1.1.0, (e.1.1.0 ∙ i.1.1.1.0, (e.1.1.1.0 ∙ i.1.1.1.1.0, (e.1.1.1.1.0 ∙ i.1.1.1.1.1.0, (e.1.1.1.1.1.0 ∙ i.1.1.1.1.1.1.0, (e.1.1.1.1.1.1.1.0 ∙ i.1.1.1.1.1.1.1.0, e.1.1.1.1.1.1.1.1.0 ∙ i.1.1.1.1.1.1.1.1))))))))
+    (record { performing = performing-next i.0.performing g.0 g.1.0 (advanced k); fits = k.turned.line.written.fits }, (e.allocs ∙ i.1.0, (e.parents ∙ i.1.1.0, (e.protectors ∙ i.1.1.1.0, (e.words ∙ i.1.1.1.1.0, (e.codes ∙ i.1.1.1.1.1.0, (e.frames ∙ i.1.1.1.1.1.1.0, (e.request ∙ i.1.1.1.1.1.1.1.0, e.out ∙ i.1.1.1.1.1.1.1.1))))))))
 
 pub shape_of-allocs : goal.shape_of-allocs
 shape_of-allocs c = c.loop-from.invariant.1.0

@@ -26,4 +26,4 @@ returns c = let memory : Buffers = buffers c.args.allocs.now c.args.parents.now 
     let b = memory in
     let t = c.args in
     let left = c.end_call_held.ensures in
-    ended-lent t.width t.len t.count t.area.now b (fine) (left.0 (view b) (holds-marked (memory-lent t.width t.len t.count t.area.now b (fine)))) left.1
+    ended-lent t.width t.len t.count t.area.now b (fine) (left.ended (view b) (holds-marked (memory-lent t.width t.len t.count t.area.now b (fine)))) left.zero

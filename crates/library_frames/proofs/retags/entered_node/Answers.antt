@@ -15,4 +15,4 @@ pub returns-in-Pointer : goal.returns-in-Pointer
 returns-in-Pointer c = let t = c.args in λ words. rw (protected t.settings c.adds_no_node.ensures c.if-adds_no_node-settings.false, c.in-Pointer.is)
 
 pub returns-in_default : goal.returns-in_default
-returns-in_default c = let h = c.in_default in ?
+returns-in_default c = let t = c.args in λ words. sym (no_pointer (protects t.settings) words t.answer (λ p. c.in_default.not-Pointer p))
