@@ -1,4 +1,5 @@
 -- What the records say of a provenance, and of the allocation that a pointer points into; which of them is looked up.
+use Rattle.std.specs.Prelude.{if◌then◌else◌}
 use Prim.Native.Nat.{ℕ, ◌+◌, ◌*◌, ◌^◌, ◌≤◌, ◌<◌}
 use mathlib.Core.Path.{◌≡◌, refl, sym, ap, ◌∙◌}
 use mathlib.Core.Bool.{Bool, true, false, not, ◌&&◌}
@@ -8,7 +9,7 @@ use native.Mathlib.Omega.{arith}
 use borrow.Author.Tests.{eq-eqb, ne_eqb, le-leb, lt-ltb, le-ltb, ltb-true, ltb-false, not-false}
 use lib.Dec.{eqb, leb, ltb}
 use lib.ListN.{length, get_or}
-use Rattle.definition.specs.Notation.{if◌then◌else◌, ◌when◌}
+use Rattle.definition.specs.Notation.{◌when◌}
 use Rattle.definition.specs.Memory.{Provenance, ThinPointer, allocation_of, has_none, is_live, Allocation, size, kind_number, node_count, Memory, allocation_at, was_made, names_never_made, is_outside, check_ptr, target}
 use Rattle.definition.proofs.ValidMemory.{was-made}
 use Rattle.definition.proofs.Places.{valid-at}

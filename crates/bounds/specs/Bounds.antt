@@ -1,7 +1,6 @@
 -- Which record is looked up, and what the tests ask of it.
-use Rattle.std.specs.Prelude.{ℕ, ◌≡◌, false, List, ltb}
+use Rattle.std.specs.Prelude.{ℕ, ◌≡◌, false, List, ltb, if◌then◌else◌}
 use Rattle.std.proofs.Math.Option.{Option}
-use Rattle.definition.specs.Notation.{if◌then◌else◌}
 use Rattle.definition.specs.Memory.{Memory, Provenance, allocation_of, names_never_made}
 use Rattle.tables.specs.declared.Allocation as lent_record
 use Rattle.tables.specs.Held.{Records}

@@ -3,6 +3,7 @@
 --     answer-same       and gives the same words
 --     memory-same       the same memory is left in either order
 --     again             a load that is accepted, made again directly after, changes nothing more
+use Rattle.std.specs.Prelude.{if◌then◌else◌}
 use Prim.Native.Nat.{ℕ, zero, suc, ◌+◌, ◌≤◌, ◌<◌}
 use mathlib.Core.Path.{◌≡◌, refl, sym, ap, ap₂, subst, ◌∙◌}
 use mathlib.Core.Bool.{Bool, true, false, not, ◌&&◌}
@@ -13,7 +14,7 @@ use native.Mathlib.Omega.{arith}
 use lib.Dec.{eqb, leb, ltb}
 use borrow.Author.Tests.{eq-eqb, ne_eqb, leb-true, ltb-true, not-false}
 use lib.ListN.{length, get_or, take, drop}
-use Rattle.definition.specs.Notation.{if◌then◌else◌, ◌when◌, ◌or◌, mutate_at, write_at, in_range}
+use Rattle.definition.specs.Notation.{◌when◌, ◌or◌, mutate_at, write_at, in_range}
 use Rattle.definition.specs.Refusal.{never_made, misaligned, missing_provenance, dead_allocation, out_of_bounds}
 use Rattle.definition.specs.Permission.{AccessKind}
 use Rattle.definition.specs.Permission.AccessKind.{Read, Write}

@@ -1,4 +1,5 @@
 -- What holds of each element, under the list words of `Notation`; what a change of one element does to a sum; and what holds of both branches of a choice.
+use Rattle.std.specs.Prelude.{if◌then◌else◌}
 use Prim.Native.Nat.{ℕ, zero, suc, ◌+◌, ◌≤◌, ◌<◌}
 use mathlib.Core.Path.{◌≡◌, refl, sym, ap, subst, ◌∙◌}
 use mathlib.Core.Bool.{Bool, true, false, false≢true}
@@ -6,7 +7,7 @@ use mathlib.Core.List.{List, [], ◌∷◌, ◌++◌, map}
 use native.Mathlib.Nat.{add-zero, add-suc, suc-add, le_refl}
 use native.Mathlib.Omega.{arith}
 use lib.ListN.{length, get_or, take, drop, set, replicate}
-use Rattle.definition.specs.Notation.{if◌then◌else◌, map_from, mutate_at, write_at, any, sum_of}
+use Rattle.definition.specs.Notation.{map_from, mutate_at, write_at, any, sum_of}
 use Rattle.definition.specs.Memory.{Answer, unless_refused}
 use Rattle.definition.specs.Valid.{All, AllFrom}
 

@@ -1,4 +1,5 @@
 -- Laws of `any`.
+use Rattle.std.specs.Prelude.{if◌then◌else◌}
 use Prim.Native.Nat.{ℕ, zero, suc, ◌+◌, ◌≤◌, ◌<◌}
 use mathlib.Core.Path.{◌≡◌, refl, sym, ap, ap₂, ◌∙◌}
 use mathlib.Core.Bool.{Bool, true, false, ◌||◌}
@@ -7,7 +8,7 @@ use native.Mathlib.Numerals.{add-one}
 use native.Mathlib.Omega.{arith}
 use lib.ListN.{length, get_or, drop, drop_of_length-le}
 use lib.Seq.{drop-cons}
-use Rattle.definition.specs.Notation.{if◌then◌else◌, map_from, any}
+use Rattle.definition.specs.Notation.{map_from, any}
 use Rattle.definition.specs.Valid.{All}
 
 -- ---- a loop that looks for one: at i, among those from i on

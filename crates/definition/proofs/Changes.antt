@@ -4,6 +4,7 @@
 --     Kept, KeptByRelease         a law of one allocation, which is one of states (`in-allocation`, `ended-allocation`)
 --     KeptFrames                  a law of the frames, which is one of states (`in-frames`)
 -- A new kind of request gets a field in `KeptByRequest` and a clause in `perform-keeps`; the checker then names every law that has to say what becomes of it.
+use Rattle.std.specs.Prelude.{if◌then◌else◌}
 use Prim.Native.Nat.{ℕ, suc, ◌<◌}
 use mathlib.Core.Path.{◌≡◌, refl, sym, ap, ◌∙◌}
 use mathlib.Core.Bool.{Bool, false, not, ◌&&◌, ◌||◌}
@@ -11,7 +12,7 @@ use mathlib.Core.Option.{Option, none, some}
 use mathlib.Core.List.{List, [], ◌∷◌, ◌++◌}
 use lib.Dec.{eqb}
 use lib.ListN.{length, get_or, set}
-use Rattle.definition.specs.Notation.{if◌then◌else◌, ◌when◌, ◌or◌, mutate_at, any}
+use Rattle.definition.specs.Notation.{◌when◌, ◌or◌, mutate_at, any}
 use Rattle.definition.specs.Refusal.{malformed, never_made, misaligned, missing_provenance, dead_allocation, away_from_start, another_kind, another_size, another_alignment, strong_protector}
 use Rattle.definition.specs.Width.{Width}
 use Rattle.definition.specs.Permission.{Protected, is_yes, SafePointer}

@@ -1,4 +1,5 @@
 -- How often, and in which order, numbers stand in a list; sums over lists; what a filter leaves.
+use Rattle.std.specs.Prelude.{if◌then◌else◌}
 use Prim.Native.Nat.{ℕ, zero, suc, ◌+◌, ◌≤◌, ◌<◌}
 use mathlib.Core.Path.{◌≡◌, refl, sym, ap, subst, ◌∙◌}
 use mathlib.Core.Bool.{Bool, true, false}
@@ -10,7 +11,7 @@ use native.Mathlib.Omega.{arith}
 use lib.Dec.{eqb}
 use lib.ListN.{length, get_or, set}
 use borrow.Author.Tests.{eq-eqb, ne_eqb}
-use Rattle.definition.specs.Notation.{if◌then◌else◌, table_from, filter, sum_of}
+use Rattle.definition.specs.Notation.{table_from, filter, sum_of}
 use Rattle.definition.specs.Valid.{All}
 
 -- how often j stands in a list

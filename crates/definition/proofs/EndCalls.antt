@@ -1,6 +1,7 @@
 -- Ending a call is never refused (M-109; specs/EndCalls). An end call releases the entries of its frame one after another. Each release is accepted: the
 -- entry has its protector, as it stands among all entries once (Entries), and the accesses at the protector's end are accepted in its tree (Releases).
 -- Both hold of the empty memory, and every request keeps them (`Sound`).
+use Rattle.std.specs.Prelude.{if◌then◌else◌}
 use Prim.Native.Nat.{ℕ, zero, suc, ◌+◌, ◌≤◌, ◌<◌}
 use mathlib.Core.Path.{◌≡◌, refl, sym, ap, ap₂, ◌∙◌}
 use mathlib.Core.Bool.{Bool, true, false, not, false≢true}
@@ -11,7 +12,7 @@ use native.Mathlib.Decide.{dec_lt}
 use native.Mathlib.Omega.{arith}
 use borrow.Author.Tests.{lt-ltb}
 use lib.ListN.{length, get_or, replicate, set, length-set, get_or-eq_default}
-use Rattle.definition.specs.Notation.{if◌then◌else◌, ◌when◌, ◌or◌, any, sum_of}
+use Rattle.definition.specs.Notation.{◌when◌, ◌or◌, any, sum_of}
 use Rattle.definition.specs.Refusal.{malformed, never_made, not_protected}
 use Rattle.definition.specs.Width.{Width}
 use Rattle.definition.specs.Width.Width.{Bits16, Bits32, Bits64}

@@ -1,6 +1,7 @@
 -- A node stands among the frames' entries once at most, and only while it has its protector (`EnteredOnce`): a retag enters the node that it makes, and nothing
 -- but its own release takes a node's protector. Every request keeps this, in any state (`entered-kept`, `entered-ended`).
 -- And an entry of a frame stays until the frame's call is ended (`run-lists`).
+use Rattle.std.specs.Prelude.{if◌then◌else◌}
 use Prim.Native.Nat.{ℕ, suc, ◌+◌, ◌≤◌, ◌<◌}
 use mathlib.Core.Path.{◌≡◌, refl, sym, ap, ap₂, ◌∙◌}
 use mathlib.Core.Bool.{Bool, true, false, not, ◌||◌, false≢true}
@@ -10,7 +11,7 @@ use lib.Dec.{eqb}
 use borrow.Author.Tests.{eq-eqb, eqb-true}
 use lib.ListN.{length, get_or, set, get_or-eq_default}
 use lib.Seq.{get_or-append_seam}
-use Rattle.definition.specs.Notation.{if◌then◌else◌, mutate_at, any, sum_of}
+use Rattle.definition.specs.Notation.{mutate_at, any, sum_of}
 use Rattle.definition.specs.Width.{Width}
 use Rattle.definition.specs.Permission.{Protected, SafePointer, is_protected, is_yes}
 use Rattle.definition.specs.Tree.{Node, no_node, node_at}

@@ -1,6 +1,7 @@
 -- Demand 3, for the definition: from any state of a run, at any width, and so from its start.
 --     order-is-free    exchanges change no answer and nothing that is left; an accepted load made again is accepted, gives the same words, and changes nothing more
 -- A load or store is either refused with 2 whatever the state, or an access; accesses that are independent commute (Accesses).
+use Rattle.std.specs.Prelude.{if◌then◌else◌}
 use Prim.Native.Nat.{ℕ, zero, suc, ◌+◌, ◌≤◌, ◌<◌}
 use mathlib.Core.Path.{◌≡◌, refl, sym, ap, ap₂, ◌∙◌}
 use mathlib.Core.Bool.{Bool, true, false, ◌&&◌, ◌||◌, false≢true}
@@ -11,7 +12,6 @@ use native.Mathlib.Omega.{arith}
 use lib.Dec.{eqb}
 use borrow.Author.Tests.{not-false, eqb-true}
 use lib.ListN.{length, get_or, drop, length-drop}
-use Rattle.definition.specs.Notation.{if◌then◌else◌}
 use Rattle.definition.specs.Refusal.{malformed}
 use Rattle.definition.specs.Width.{Width}
 use Rattle.definition.specs.Permission.AccessKind.{Read}

@@ -1,6 +1,7 @@
 -- What a protected shared reference has read is held. Its node is Frozen there, with a local read, and no write of the byte passes that, whoever makes it:
 -- neither a store nor a deallocation is accepted. So the byte keeps its word, in a live allocation, as long as the node has its protector (`held_kept`,
 -- `held-released`).
+use Rattle.std.specs.Prelude.{if◌then◌else◌}
 use Prim.Native.Nat.{ℕ, suc, ◌+◌, ◌<◌}
 use mathlib.Core.Path.{◌≡◌, refl, sym, ap, subst, ◌∙◌}
 use mathlib.Core.Bool.{Bool, true, false, false≢true}
@@ -10,7 +11,7 @@ use native.Mathlib.Decide.{ℕ_discrete}
 use native.Mathlib.Omega.{arith}
 use borrow.Author.Tests.{le-leb, lt-ltb}
 use lib.ListN.{length, get_or, get_or-append}
-use Rattle.definition.specs.Notation.{if◌then◌else◌, ◌when◌, mutate_at, write_at, in_range}
+use Rattle.definition.specs.Notation.{◌when◌, mutate_at, write_at, in_range}
 use Rattle.definition.specs.Refusal.{not_protected}
 use Rattle.definition.specs.Permission.{AccessKind, NodeRelation, PermissionProt, Permission, refusal, next, refusal_by}
 use Rattle.definition.specs.Permission.AccessKind.{Read, Write}

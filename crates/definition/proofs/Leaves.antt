@@ -2,6 +2,7 @@
 --     leaf-relation    a node is to the leaf what it is to the leaf's parent
 --     refusal-leaf     the first refusal is that through the parent, where nothing is refused at the leaf itself
 --     visited-leaf     the others are left as the visit through the parent leaves them
+use Rattle.std.specs.Prelude.{if◌then◌else◌}
 use Prim.Native.Nat.{ℕ, suc, ◌+◌, ◌<◌}
 use mathlib.Core.Path.{◌≡◌, refl, sym, ap, ap₂, subst, ◌∙◌}
 use mathlib.Core.Bool.{Bool, true, false}
@@ -13,7 +14,7 @@ use lib.Dec.{eqb}
 use borrow.Author.Tests.{ne_eqb}
 use lib.ListN.{length, length-map, get_or-append}
 use lib.Seq.{get_or-append_seam}
-use Rattle.definition.specs.Notation.{if◌then◌else◌, ◌or◌, first_refusal, map_from}
+use Rattle.definition.specs.Notation.{◌or◌, first_refusal, map_from}
 use Rattle.definition.specs.Permission.{AccessKind, NodeRelation, Permission}
 use Rattle.definition.specs.Permission.NodeRelation.{Local, Foreign}
 use Rattle.definition.specs.Tree.{Node, no_node, parents, is_above, relation, descendants, preorder, visiting_order, Visit, row_refusal, row_after, node_refusal, visit_refusal, node_after, visited}

@@ -1,5 +1,6 @@
 -- The order of visiting: each node once, parents before children, children in the order they were made, the spared node and its descendants left out.
 -- Each once: a sum over the order is the sum over 0, 1, .. (`order-sum`). In order: a node is followed at once by its descendants (`piece`).
+use Rattle.std.specs.Prelude.{if◌then◌else◌}
 use Prim.Native.Nat.{ℕ, zero, suc, ◌+◌, ◌≤◌, ◌<◌}
 use mathlib.Core.Path.{◌≡◌, refl, sym, ap, ap₂, subst, ◌∙◌}
 use mathlib.Core.Bool.{Bool, true, false, not, ◌||◌, or-true}
@@ -13,7 +14,7 @@ use lib.Dec.{eqb}
 use lib.ListN.{length, get_or, drop, length-drop}
 use lib.Seq.{drop-cons}
 use borrow.Author.Tests.{eq-eqb, ne_eqb}
-use Rattle.definition.specs.Notation.{if◌then◌else◌, table_from, table, filter, sum_of}
+use Rattle.definition.specs.Notation.{table_from, table, filter, sum_of}
 use Rattle.definition.specs.Tree.{is_above_within, is_above, is_spared, descendants, preorder, visiting_order}
 use Rattle.definition.specs.Valid.{All}
 use Rattle.definition.proofs.Booleans.{or-neither}

@@ -1,4 +1,5 @@
 -- A node's protector: nothing but its own release takes it.
+use Rattle.std.specs.Prelude.{if◌then◌else◌}
 use Prim.Native.Nat.{ℕ, suc, ◌<◌}
 use mathlib.Core.Path.{◌≡◌, refl, sym, ap, ◌∙◌}
 use mathlib.Core.Bool.{Bool, true, false, not, ◌||◌, false≢true}
@@ -6,7 +7,7 @@ use mathlib.Core.List.{List, [], ◌∷◌}
 use native.Mathlib.Decide.{dec_lt}
 use native.Mathlib.Omega.{arith}
 use lib.ListN.{length, get_or-eq_default, get_or-append}
-use Rattle.definition.specs.Notation.{if◌then◌else◌, map_from, mutate_at, any}
+use Rattle.definition.specs.Notation.{map_from, mutate_at, any}
 use Rattle.definition.specs.Permission.{NodeRelation, Permission, is_protected, is_yes, next_by}
 use Rattle.definition.specs.Tree.{Node, no_node, node_at, parents, relation, is_spared, Visit, node_after, visited}
 use Rattle.definition.specs.Memory.{Allocation, Liveness, Memory, no_allocation, allocation_at, offset, ThinPointer, node_count, visit_of, write_all, after_access_in, after_deallocate_in}

@@ -2,6 +2,7 @@
 --     range-refusal, range-after        an access of one kind to n bytes from `from` on, as a walk over that part of the row
 --     list-refusal, list-after          an access for each of some bytes from `from` on, as a walk over the accesses and that part of the row
 --     release-refusal, release-after    the accesses that a row's protectors make at their end, as a walk over both rows
+use Rattle.std.specs.Prelude.{if◌then◌else◌}
 use Prim.Native.Nat.{ℕ, zero, suc, ◌+◌, ◌-◌, ◌≤◌, ◌<◌}
 use mathlib.Core.Path.{◌≡◌, refl, sym, ap, ap₂, ◌∙◌}
 use mathlib.Core.Bool.{true, false}
@@ -13,7 +14,7 @@ use native.Mathlib.Omega.{arith}
 use borrow.Author.Tests.{le-leb, lt-leb, lt-ltb, le-ltb}
 use lib.ListN.{length, get_or, take, drop, replicate, length-replicate, get_or-replicate, get_or-map, get_or-eq_default}
 use lib.Seq.{take-nil, drop-nil}
-use Rattle.definition.specs.Notation.{if◌then◌else◌, ◌or◌, first_refusal, map_from, in_range}
+use Rattle.definition.specs.Notation.{◌or◌, first_refusal, map_from, in_range}
 use Rattle.definition.specs.Permission.{AccessKind, NodeRelation, Permission, refusal, next, refusal_by, next_by, end_access}
 use Rattle.definition.specs.Permission.Permission.{Unprot}
 use Rattle.definition.specs.Permission.PermissionUnprot.{Cell}

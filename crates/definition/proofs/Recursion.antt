@@ -1,6 +1,7 @@
 -- The visit as the Rust writes it (`Node::access`, `Node::release_protector`), by recursion: a node, then each of its children with its own, in the order
 -- they were made, up to the first refusal; the spared node is not entered. It is the visit in turn of the definition's order, so it meets the definition's
 -- refusal and leaves the definition's nodes. (That `release_protector` takes the mark off the spared node is no part of the visit.)
+use Rattle.std.specs.Prelude.{if◌then◌else◌}
 use Prim.Native.Nat.{ℕ, zero, suc, ◌+◌, ◌≤◌, ◌<◌}
 use mathlib.Core.Path.{◌≡◌, refl, sym, ap, ◌∙◌}
 use mathlib.Core.Bool.{Bool, true, false, not, ◌&&◌}
@@ -11,7 +12,6 @@ use native.Mathlib.Omega.{arith}
 use lib.Dec.{eqb}
 use lib.ListN.{length, drop, length-drop, length-map}
 use borrow.Author.Tests.{eq-eqb, ne_eqb}
-use Rattle.definition.specs.Notation.{if◌then◌else◌}
 use Rattle.definition.specs.Tree.{Node, parents, visiting_order, Visit, visit_refusal, visited}
 use Rattle.definition.proofs.Trees.{Parents}
 use Rattle.definition.proofs.Order.{walk, walk-some, walk_none, root-spared}

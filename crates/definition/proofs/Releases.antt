@@ -1,6 +1,7 @@
 -- The end of any node's protector is accepted, in every tree that requests make (`Releasable`). It holds of a new allocation's tree, and a visit, a new child
 -- and a release keep it. What it takes of the permissions is one test over all pairs of them, at one byte of two nodes (`end_kept`): whatever an access that
 -- is not refused leaves of the two, the end of the one's protector is still accepted at the other.
+use Rattle.std.specs.Prelude.{if◌then◌else◌}
 use Prim.Native.Nat.{ℕ, zero, suc, ◌<◌}
 use mathlib.Core.Path.{◌≡◌, refl, sym, ap, ap₂, subst, ◌∙◌}
 use mathlib.Core.Bool.{Bool, true, false, ◌&&◌, false≢true}
@@ -12,7 +13,7 @@ use native.Mathlib.Omega.{arith}
 use lib.Dec.{T, eqb, eqb→eq}
 use lib.ListN.{length, replicate, length-append, length-map, get_or-eq_default, get_or-append, get_or-map}
 use lib.Seq.{get_or-append_seam}
-use Rattle.definition.specs.Notation.{if◌then◌else◌, ◌or◌, mutate_at}
+use Rattle.definition.specs.Notation.{◌or◌, mutate_at}
 use Rattle.definition.specs.Permission.{AccessKind, NodeRelation, PermissionUnprot, PermissionProt, Permission, Protected, SafePointer, refusal, next, refusal_by, end_access, unprotected, mk_perm}
 use Rattle.definition.specs.Permission.AccessKind.{Read, Write}
 use Rattle.definition.specs.Permission.NodeRelation.{Local, Foreign}

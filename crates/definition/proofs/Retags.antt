@@ -4,6 +4,7 @@
 --     child-row        the child's own row afterwards
 --     reads-refusal-after, reads-visit-after    permissions that were read ask for the same reads
 --     retag-refusal, retag-nodes    both, of the child that a retag makes
+use Rattle.std.specs.Prelude.{if◌then◌else◌}
 use Prim.Native.Nat.{ℕ, zero, suc, ◌+◌, ◌-◌, ◌<◌}
 use mathlib.Core.Path.{◌≡◌, refl, sym, ap, ap₂, subst, fun_ext, ◌∙◌}
 use mathlib.Core.Bool.{Bool, true, false}
@@ -16,7 +17,7 @@ use lib.Dec.{T, eqb}
 use borrow.Author.Tests.{eq-eqb, ne_eqb, le-leb, lt-leb, lt-ltb, le-ltb}
 use lib.ListN.{length, get_or, take, drop, replicate, length-map, get_or-map}
 use lib.Seq.{drop-cons}
-use Rattle.definition.specs.Notation.{if◌then◌else◌, ◌or◌, map_from, write_at, in_range}
+use Rattle.definition.specs.Notation.{◌or◌, map_from, write_at, in_range}
 use Rattle.definition.specs.Permission.{AccessKind, NodeRelation, PermissionUnprot, PermissionProt, Permission, Protected, SafePointer, refusal, next, refusal_by, next_by, mk_perm, init_access}
 use Rattle.definition.specs.Permission.AccessKind.{Read, Write}
 use Rattle.definition.specs.Permission.NodeRelation.{Local}

@@ -2,6 +2,7 @@
 --     visited-at        the permission that it leaves
 --     visit-accepted    where it is not refused, no access that it makes is
 --     visit-accepts     and the other way round
+use Rattle.std.specs.Prelude.{if◌then◌else◌}
 use Prim.Native.Nat.{ℕ, zero, suc, ◌+◌}
 use mathlib.Core.Path.{◌≡◌, refl, sym, ap, ap₂, ◌∙◌}
 use mathlib.Core.Bool.{Bool, true, false, not, false≢true}
@@ -12,7 +13,7 @@ use native.Mathlib.Nat.{zero-add, add-zero}
 use native.Mathlib.Decide.{dec_lt}
 use native.Mathlib.Omega.{arith}
 use lib.ListN.{length, get_or, length-map, get_or-eq_default}
-use Rattle.definition.specs.Notation.{if◌then◌else◌, ◌or◌, first_refusal, map_from, filter}
+use Rattle.definition.specs.Notation.{◌or◌, first_refusal, map_from, filter}
 use Rattle.definition.specs.Permission.{AccessKind, NodeRelation, PermissionUnprot, Permission, refusal, next, refusal_by, next_by}
 use Rattle.definition.specs.Permission.AccessKind.{Read, Write}
 use Rattle.definition.specs.Permission.NodeRelation.{Local, Foreign}

@@ -1,5 +1,6 @@
 -- A shared argument stays put (M-113; specs/SharedArguments). Its retag makes a protected node that is Frozen at a freeze byte inside, and reads the byte through
 -- it. So the byte is held as long as the node has its protector (Held), and it has that as long as it is entered in a frame (Entries).
+use Rattle.std.specs.Prelude.{if◌then◌else◌}
 use Prim.Native.Nat.{ℕ, zero, suc, ◌+◌, ◌<◌}
 use mathlib.Core.Path.{◌≡◌, refl, sym, ap, ap₂, subst, ◌∙◌}
 use mathlib.Core.Bool.{Bool, true, false, not, ◌&&◌, ◌||◌, and-false, false≢true}
@@ -11,7 +12,7 @@ use lib.Dec.{eqb, ltb}
 use borrow.Author.Tests.{ne_eqb, le-ltb}
 use lib.ListN.{length, get_or, set, replicate, length-map, length-replicate, get_or-eq_default, get_or-map}
 use lib.Seq.{get_or-append_seam, get_or-set_same}
-use Rattle.definition.specs.Notation.{if◌then◌else◌, any}
+use Rattle.definition.specs.Notation.{any}
 use Rattle.definition.specs.Refusal.{malformed}
 use Rattle.definition.specs.Width.{Width}
 use Rattle.definition.specs.Permission.{AccessKind, PermissionUnprot, PermissionProt, Permission, Protected, SafePointer, next, next_by, is_yes, init_access}

@@ -1,6 +1,7 @@
 -- A visit in turn: each permission is changed as it is met, node after node in the definition's order, up to the first refusal.
 -- It meets the refusal that the definition says, and without one leaves the nodes that the definition says: no node is visited twice, and the change
 -- of one is not seen at another.
+use Rattle.std.specs.Prelude.{if◌then◌else◌}
 use Prim.Native.Nat.{ℕ, zero, suc, ◌≤◌, ◌<◌}
 use mathlib.Core.Path.{◌≡◌, refl, sym, ap, ap₂, subst, ◌∙◌}
 use mathlib.Core.Bool.{Bool, true, false}
@@ -10,7 +11,7 @@ use native.Mathlib.Decide.{ℕ_discrete}
 use native.Mathlib.Omega.{arith}
 use lib.ListN.{length, length-map}
 use lib.Seq.{ext_get_or}
-use Rattle.definition.specs.Notation.{if◌then◌else◌, ◌or◌, first_refusal, map_from, mutate_at, sum_of}
+use Rattle.definition.specs.Notation.{◌or◌, first_refusal, map_from, mutate_at, sum_of}
 use Rattle.definition.specs.Permission.{AccessKind, NodeRelation, Permission, refusal_by, next_by}
 use Rattle.definition.specs.Tree.{Node, no_node, node_at, parents, relation, is_spared, visiting_order, Visit, row_refusal, row_after, node_refusal, visit_refusal, node_after, visited}
 use Rattle.definition.proofs.Booleans.{or_left, or_right}

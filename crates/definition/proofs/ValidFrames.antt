@@ -1,5 +1,6 @@
 -- What a new call, an end call and a retag leave of a state: its memory is well formed, and its frames have room and name what was made.
 -- Of the state before, only its memory must be well formed: the frames may be a program's 32 or a single lent one.
+use Rattle.std.specs.Prelude.{if◌then◌else◌}
 use Prim.Native.Nat.{ℕ, ◌+◌, ◌<◌}
 use mathlib.Core.Path.{◌≡◌, refl, sym, ap, ◌∙◌}
 use mathlib.Core.Bool.{Bool, true, false, not, ◌&&◌, ◌||◌, false≢true}
@@ -10,7 +11,7 @@ use native.Mathlib.Omega.{arith}
 use lib.Dec.{eqb, ltb}
 use borrow.Author.Tests.{ltb-false}
 use lib.ListN.{length, set, length-append, length-set}
-use Rattle.definition.specs.Notation.{if◌then◌else◌, ◌when◌, ◌or◌, mutate_at}
+use Rattle.definition.specs.Notation.{◌when◌, ◌or◌, mutate_at}
 use Rattle.definition.specs.Refusal.{never_made, missing_provenance, dead_allocation, out_of_bounds, below_start, size_exceeded}
 use Rattle.definition.specs.Permission.{is_yes}
 use Rattle.definition.specs.Memory.{Provenance, ThinPointer, has_none, allocation_of, node_of, is_live, Allocation, size, Memory, no_allocation, allocation_at, target, offset, Answer, gives_pointer, names_never_made, was_made, is_outside, check_ptr, node_count, exceeds_bounds}

@@ -1,12 +1,13 @@
 -- Two visits of one tree that are independent at each byte (one has no access there, or both read): each is refused, or not, as without the other,
 -- and they leave the same nodes in either order. A visit that only reads, repeated, changes nothing more. For any list of nodes, a tree or not.
+use Rattle.std.specs.Prelude.{if◌then◌else◌}
 use Prim.Native.Nat.{ℕ, zero, suc}
 use mathlib.Core.Path.{◌≡◌, refl, sym, ap, ap₂, ◌∙◌}
 use mathlib.Core.Bool.{Bool, true, false}
 use mathlib.Core.Option.{Option}
 use mathlib.Core.List.{List, [], ◌∷◌}
 use lib.ListN.{length}
-use Rattle.definition.specs.Notation.{if◌then◌else◌, ◌or◌, first_refusal, map_from}
+use Rattle.definition.specs.Notation.{◌or◌, first_refusal, map_from}
 use Rattle.definition.specs.Permission.{AccessKind, NodeRelation, Permission, next_by}
 use Rattle.definition.specs.Tree.{Node, node_at, parents, relation, visiting_order, is_spared, Visit, row_refusal, row_after, node_refusal, visit_refusal, node_after, visited}
 use Rattle.definition.proofs.Permissions.{Calm, calm-refused, calm-commute, calm-again}

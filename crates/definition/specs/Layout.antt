@@ -1,8 +1,8 @@
 -- A retag's layout words, to a freeze mask. mem.rs: `LayoutStrategy`, `UnsafeCellStrategy`, `cells_to_freeze_mask`, `freeze_mask`;
 -- document 01: "Retag and frames". A mask has a Boolean for each byte: true where it lies outside all cells. No mask is refusal 3.
-use Rattle.std.specs.Prelude.{ℕ, zero, suc, ◌+◌, ◌*◌, ◌/◌, ◌%◌, ◌^◌, Bool, not, ◌&&◌, ◌||◌, List, [], ◌∷◌, ◌++◌, map, eqb, leb, ltb, length, get_or, take, drop}
+use Rattle.std.specs.Prelude.{ℕ, zero, suc, ◌+◌, ◌*◌, ◌/◌, ◌%◌, ◌^◌, Bool, not, ◌&&◌, ◌||◌, List, [], ◌∷◌, ◌++◌, map, eqb, leb, ltb, length, get_or, take, drop, if◌then◌else◌}
 use Rattle.std.proofs.Math.Option.{Option, none, some}
-use Rattle.definition.specs.Notation.{if◌then◌else◌, table, any, in_range}
+use Rattle.definition.specs.Notation.{table, any, in_range}
 
 abbrev pub FreezeMask : Type 0
 FreezeMask = List Bool

@@ -1,8 +1,8 @@
 -- The memory, and the requests that need no frame. mem.rs: `ThinPointer`, `Allocation`, `BasicMemory`, `TreeBorrowsMemory`;
 -- document 01: "Allocation and bounds", refusals 4 to 13, 15, 24, 25.
-use Rattle.std.specs.Prelude.{ℕ, zero, suc, ◌+◌, ◌-◌, ◌*◌, ◌%◌, ◌^◌, Bool, true, false, not, ◌&&◌, ◌||◌, List, [], ◌∷◌, ◌++◌, eqb, leb, ltb, length, get_or, take, drop, replicate}
+use Rattle.std.specs.Prelude.{ℕ, zero, suc, ◌+◌, ◌-◌, ◌*◌, ◌%◌, ◌^◌, Bool, true, false, not, ◌&&◌, ◌||◌, List, [], ◌∷◌, ◌++◌, eqb, leb, ltb, length, get_or, take, drop, replicate, if◌then◌else◌}
 use Rattle.std.proofs.Math.Option.{Option, none, some}
-use Rattle.definition.specs.Notation.{if◌then◌else◌, ◌when◌, ◌or◌, mutate_at, write_at, any, sum_of}
+use Rattle.definition.specs.Notation.{◌when◌, ◌or◌, mutate_at, write_at, any, sum_of}
 use Rattle.definition.specs.Refusal.{never_made, fails_pick, misaligned, missing_provenance, dead_allocation, out_of_bounds, away_from_start, another_kind, another_size, another_alignment, size_exceeded, strong_protector, memory_leak}
 use Rattle.definition.specs.Width.{Width, addresses}
 use Rattle.definition.specs.Permission.{AccessKind, prevents_deallocation, is_strong}

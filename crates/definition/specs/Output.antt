@@ -1,9 +1,8 @@
 -- The program's output, as a list of bytes. Document 01: "It prints, whole: ..", "Fields: ..".
-use Rattle.std.specs.Prelude.{ℕ, zero, suc, ◌+◌, ◌/◌, ◌%◌, ◌^◌, ◌≡◌, true, false, List, [], ◌∷◌, ◌++◌, map, ltb}
+use Rattle.std.specs.Prelude.{ℕ, zero, suc, ◌+◌, ◌/◌, ◌%◌, ◌^◌, ◌≡◌, true, false, List, [], ◌∷◌, ◌++◌, map, ltb, if◌then◌else◌}
 use Prim.Native.Char as char
 use Prim.Native.String.{String, [], ◌∷◌}
 use Rattle.std.proofs.Math.Option.{none, some}
-use Rattle.definition.specs.Notation.{if◌then◌else◌}
 use Rattle.definition.specs.Permission.{Permission, Protected, code}
 use Rattle.definition.specs.Permission.Protected.{No, Weak, Strong}
 use Rattle.definition.specs.Tree.{Node}

@@ -1,7 +1,7 @@
 -- The words of a request, to its fields, and refusal 2. Document 01: "A run and its requests".
-use Rattle.std.specs.Prelude.{ℕ, ◌+◌, ◌-◌, ◌*◌, ◌/◌, ◌%◌, ◌^◌, Bool, true, false, not, ◌&&◌, ◌||◌, List, [], ◌∷◌, eqb, leb, ltb, length, get_or, drop}
+use Rattle.std.specs.Prelude.{ℕ, ◌+◌, ◌-◌, ◌*◌, ◌/◌, ◌%◌, ◌^◌, Bool, true, false, not, ◌&&◌, ◌||◌, List, [], ◌∷◌, eqb, leb, ltb, length, get_or, drop, if◌then◌else◌}
 use Rattle.std.proofs.Math.Option.{none, some}
-use Rattle.definition.specs.Notation.{if◌then◌else◌, any}
+use Rattle.definition.specs.Notation.{any}
 use Rattle.definition.specs.Width.{Width, addresses, pointer_bytes}
 use Rattle.definition.specs.Width.Width.{Bits16, Bits32, Bits64}
 use Rattle.definition.specs.Permission.{Protected, SafePointer}

@@ -1,7 +1,7 @@
 -- Retag. mem.rs: `ReborrowSettings`, `reborrow`, `retag_ptr`; document 01: "Retag and frames".
-use Rattle.std.specs.Prelude.{ℕ, suc, ◌+◌, Bool, ◌&&◌, ◌||◌, List, [], ◌∷◌, ◌++◌, map, eqb, ltb, length, replicate, set}
+use Rattle.std.specs.Prelude.{ℕ, suc, ◌+◌, Bool, ◌&&◌, ◌||◌, List, [], ◌∷◌, ◌++◌, map, eqb, ltb, length, replicate, set, if◌then◌else◌}
 use Rattle.std.proofs.Math.Option.{none, some}
-use Rattle.definition.specs.Notation.{if◌then◌else◌, ◌when◌, ◌or◌, mutate_at, write_at}
+use Rattle.definition.specs.Notation.{◌when◌, ◌or◌, mutate_at, write_at}
 use Rattle.definition.specs.Refusal.{never_made, below_start, size_exceeded}
 use Rattle.definition.specs.Permission.{Permission, Protected, is_yes, SafePointer, no_cell_perm, cell_perm, init_access}
 use Rattle.definition.specs.Tree.{Node, Visit, visit_refusal, visited}

@@ -1,7 +1,7 @@
 -- One allocation's tree, and a visit of it. mem.rs: `Node`; document 01: "One access, one permission".
-use Rattle.std.specs.Prelude.{ℕ, zero, suc, Bool, true, false, not, ◌||◌, List, [], ◌∷◌, ◌++◌, map, eqb, get_or}
+use Rattle.std.specs.Prelude.{ℕ, zero, suc, Bool, true, false, not, ◌||◌, List, [], ◌∷◌, ◌++◌, map, eqb, get_or, if◌then◌else◌}
 use Rattle.std.proofs.Math.Option.{Option, none, some}
-use Rattle.definition.specs.Notation.{if◌then◌else◌, ◌or◌, first_refusal, map_from, filter, in_range}
+use Rattle.definition.specs.Notation.{◌or◌, first_refusal, map_from, filter, in_range}
 use Rattle.definition.specs.Permission.{AccessKind, NodeRelation, Permission, Protected, refusal_by, next_by}
 use Rattle.definition.specs.Permission.NodeRelation.{Local, Foreign}
 use Rattle.definition.specs.Permission.Protected.{No}

@@ -1,4 +1,5 @@
 -- An end call: 4 for all entries, then the releases; and the five buffers, the answer and the frames afterwards.
+use Rattle.std.specs.Prelude.{if◌then◌else◌}
 use Prim.Native.Nat.{ℕ, zero, suc, ◌+◌, ◌-◌, ◌<◌}
 use mathlib.Core.Path.{◌≡◌, refl, sym, ap, subst, ◌∙◌}
 use mathlib.Core.Bool.{Bool, true, false, not}
@@ -7,7 +8,7 @@ use native.Mathlib.Omega.{arith}
 use borrow.Author.Tests.{ne_eqb}
 use lib.Dec.{eqb}
 use lib.ListN.{length, get_or, take, drop, set, replicate}
-use Rattle.definition.specs.Notation.{if◌then◌else◌, ◌when◌, ◌or◌, any, mutate_at}
+use Rattle.definition.specs.Notation.{◌when◌, ◌or◌, any, mutate_at}
 use Rattle.definition.specs.Refusal.{never_made}
 use Rattle.definition.specs.Memory as definition
 use Rattle.definition.specs.Memory.{Memory, Provenance, refused_with, was_made}

@@ -1,4 +1,5 @@
 -- What a release leaves as it is, and the releases of a list one after another.
+use Rattle.std.specs.Prelude.{if◌then◌else◌}
 use Prim.Native.Nat.{ℕ, zero, suc, ◌+◌, ◌≤◌, ◌<◌}
 use mathlib.Core.Path.{◌≡◌, refl, sym, ap, subst, ◌∙◌}
 use mathlib.Core.Bool.{Bool, true, false}
@@ -7,7 +8,7 @@ use native.Mathlib.Omega.{arith}
 use borrow.Author.Tests.{ne_eqb}
 use lib.Dec.{eqb}
 use lib.ListN.{length, get_or, drop}
-use Rattle.definition.specs.Notation.{if◌then◌else◌, ◌or◌, mutate_at}
+use Rattle.definition.specs.Notation.{◌or◌, mutate_at}
 use Rattle.definition.specs.Tree.{Node, parents}
 use Rattle.definition.specs.Memory.{Allocation, Liveness, Memory, Provenance, kind_number, size, was_made}
 use Rattle.definition.specs.Memory.Liveness.{Live, Dead}

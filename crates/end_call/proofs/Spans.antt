@@ -1,5 +1,6 @@
 -- Between which allocations the entries of a list are, and how the marks and codes of these are put back after a refusal: the others stayed
 -- as they were.
+use Rattle.std.specs.Prelude.{if◌then◌else◌}
 use Prim.Native.Nat.{ℕ, ◌+◌, ◌-◌, ◌*◌, ◌/◌, ◌≤◌, ◌<◌}
 use mathlib.Core.Path.{◌≡◌, refl, sym, ap, ap₂, subst, ◌∙◌}
 use mathlib.Core.Bool.{Bool, true, false}
@@ -11,7 +12,6 @@ use borrow.Rule.Slice.PartMut.{put_mid, Post-is}
 use lib.Dec.{eqb}
 use lib.ListN.{length, get_or, take, drop, replicate, length-append, length-drop, take-append-drop, drop_of_length-le}
 use lib.Seq.{length-take-le, take_at, drop_at, take-suc, take-add, take-length, drop-drop}
-use Rattle.definition.specs.Notation.{if◌then◌else◌}
 use Rattle.definition.specs.Memory.{Allocation, Memory, Provenance, was_made}
 use Rattle.definition.specs.Frame.{release_refusal, after_release_in, after_release, release_all_refusal, after_release_all}
 use Rattle.definition.specs.Valid.{All}

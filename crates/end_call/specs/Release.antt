@@ -1,6 +1,5 @@
 -- What the release of a frame's entries asks and what it leaves, said of each memory that the buffers hold.
-use Rattle.std.specs.Prelude.{ℕ, ◌≤◌, ◌<◌, ◌≡◌, true, List, [], ◌∷◌, eqb}
-use Rattle.definition.specs.Notation.{if◌then◌else◌}
+use Rattle.std.specs.Prelude.{ℕ, ◌≤◌, ◌<◌, ◌≡◌, true, List, [], ◌∷◌, eqb, if◌then◌else◌}
 use Rattle.definition.specs.Memory.{Memory, Provenance, refused_with, was_made}
 use Rattle.definition.specs.Frame.{release_refusal, after_release, release_all_refusal, after_release_all, end_call_refusal}
 use Rattle.definition.specs.Valid.{All}

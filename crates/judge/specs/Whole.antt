@@ -1,6 +1,5 @@
 -- A whole run, and the text of its verdict.
-use Rattle.std.specs.Prelude.{ℕ, ◌+◌, ◌≤◌, ◌<◌, ◌≡◌, Bool, not, ◌&&◌, List, [], ◌++◌, ltb, leb, length, take, drop}
-use Rattle.definition.specs.Notation.{if◌then◌else◌}
+use Rattle.std.specs.Prelude.{ℕ, ◌+◌, ◌≤◌, ◌<◌, ◌≡◌, Bool, not, ◌&&◌, List, [], ◌++◌, ltb, leb, length, take, drop, if◌then◌else◌}
 use Rattle.definition.specs.Memory.{Answer}
 use Rattle.definition.specs.Run.{RunState, program}
 use Rattle.definition.specs.Output.{answer_lines, output, IsOutput}

@@ -1,4 +1,5 @@
 -- Every mask of the definition has at most 4,096 bytes, so a buffer of 4,096 has room for it.
+use Rattle.std.specs.Prelude.{if◌then◌else◌}
 use Prim.Native.Nat.{ℕ, ◌+◌, ◌*◌, ◌%◌}
 use mathlib.Core.Path.{◌≡◌, refl}
 use mathlib.Core.Bool.{Bool, true, false, not, ◌||◌}
@@ -7,7 +8,7 @@ use mathlib.Core.List.{List, [], ◌∷◌, ◌++◌, map}
 use lib.Dec.{leb, ltb}
 use lib.ListN.{length, take, drop, length-append}
 use borrow.Author.Tests.{eq-eqb, ne_eqb}
-use Rattle.definition.specs.Notation.{if◌then◌else◌, table}
+use Rattle.definition.specs.Notation.{table}
 use Rattle.definition.specs.Layout.{FreezeMask, UnsafeCell, LayoutStrategy, PointerMeta, unsafe_cell, cells_fit, is_freeze, header, mask_bound, bounded_mask, sized_mask, slice_mask, trait_object_mask, tuple_mask, if_none_left, layout_mask, header_mask, freeze_mask, pointer_meta}
 use Rattle.definition.specs.Layout.LayoutStrategy.{Sized, Slice, TraitObject, Tuple}
 use Rattle.definition.specs.Layout.PointerMeta.{NoMetadata, ElementCount, VTablePointer}

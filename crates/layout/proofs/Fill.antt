@@ -1,4 +1,5 @@
 -- What it is to fill a wanted mask into a buffer, by the mask's form: none, of so many bytes, a tuple's.
+use Rattle.std.specs.Prelude.{if◌then◌else◌}
 use Prim.Native.Nat.{ℕ, suc, ◌+◌, ◌-◌, ◌%◌, ◌≤◌, ◌<◌}
 use mathlib.Core.Path.{◌≡◌, refl, sym, ap, ap₂, subst, ◌∙◌}
 use mathlib.Core.Bool.{Bool, true, false}
@@ -8,7 +9,7 @@ use native.Mathlib.Omega.{arith}
 use lib.Dec.{leb}
 use lib.ListN.{length, get_or, take, drop, length-append, length-drop, take-append-drop}
 use borrow.Author.Tests.{le-leb, lt-leb, leb-true, leb-false}
-use Rattle.definition.specs.Notation.{if◌then◌else◌, table_from, table, write_at}
+use Rattle.definition.specs.Notation.{table_from, table, write_at}
 use Rattle.definition.specs.Layout.{FreezeMask, UnsafeCell, is_freeze, bounded_mask, sized_mask, tuple_mask}
 use Rattle.definition.proofs.Lists.{table-length}
 use Rattle.definition.proofs.Writes.{write-none, write-parts}

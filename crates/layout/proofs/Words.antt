@@ -1,4 +1,5 @@
 -- The definition's clauses over a list of words, by the first of them.
+use Rattle.std.specs.Prelude.{if◌then◌else◌}
 use Prim.Native.Nat.{ℕ, zero, suc, ◌-◌, ◌≤◌, ◌<◌}
 use mathlib.Core.Path.{◌≡◌, refl, sym, ap, ap₂, ◌∙◌}
 use mathlib.Core.Bool.{Bool, true, false, not, ◌&&◌, ◌||◌, false≢true}
@@ -9,7 +10,6 @@ use lib.Dec.{leb}
 use lib.ListN.{length, get_or, take, drop, length-drop, drop_of_length-le}
 use lib.Seq.{take_all}
 use borrow.Author.Tests.{leb-true}
-use Rattle.definition.specs.Notation.{if◌then◌else◌}
 use Rattle.definition.specs.Layout.{FreezeMask, UnsafeCell, LayoutStrategy, Header, PointerMeta, unsafe_cell, cells_fit, header, pointer_meta, sized_mask, tuple_mask, layout_mask, header_mask, nested_mask, freeze_mask}
 use Rattle.definition.specs.Layout.LayoutStrategy.{Sized, Slice, TraitObject, Tuple}
 use Rattle.definition.proofs.Booleans.{and_left, ltb-leb}

@@ -1,7 +1,7 @@
 -- What the code's values are in the definition, and how a lent buffer holds a mask.
-use Rattle.std.specs.Prelude.{ℕ, zero, suc, ◌≡◌, Bool, true, false, ◌&&◌, List, map, eqb, leb, length, take, drop}
+use Rattle.std.specs.Prelude.{ℕ, zero, suc, ◌≡◌, Bool, true, false, ◌&&◌, List, map, eqb, leb, length, take, drop, if◌then◌else◌}
 use Rattle.std.proofs.Math.Option.{Option, none, some}
-use Rattle.definition.specs.Notation.{if◌then◌else◌, write_at}
+use Rattle.definition.specs.Notation.{write_at}
 use Rattle.definition.specs.Layout as definition
 use Rattle.definition.specs.Layout.{FreezeMask, UnsafeCell, unsafe_cell, cells_fit, slice_mask, layout_mask, nested_mask, freeze_mask, mask_bound}
 use Rattle.layout.specs.declared.LayoutStrategy.{LayoutStrategy}

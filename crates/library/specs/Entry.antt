@@ -1,7 +1,7 @@
 -- What an entry comes to, for whatever reaches it: 1, then 2, then the request on the memory that the lent buffers hold. The width is a number of bits.
 -- proofs/Served.antt: `well_formed_at width b` is true exactly where some valid memory at that width encodes to b, and that memory is `view b`.
-use Rattle.std.specs.Prelude.{ℕ, ◌≡◌, Bool, not}
-use Rattle.definition.specs.Notation.{if◌then◌else◌, ◌when◌, ◌or◌}
+use Rattle.std.specs.Prelude.{ℕ, ◌≡◌, Bool, not, if◌then◌else◌}
+use Rattle.definition.specs.Notation.{◌when◌, ◌or◌}
 use Rattle.definition.specs.Refusal.{not_well_formed, malformed}
 use Rattle.definition.specs.Memory.{Memory, MemoryAccess, unless_refused}
 use Rattle.definition.specs.Memory as definition

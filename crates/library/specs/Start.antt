@@ -1,6 +1,5 @@
 -- What a memory and a call start from, on what is lent: 1 for another length, or for a number that is no width, and nothing changes. mem.rs: `new`, `new_call`.
-use Rattle.std.specs.Prelude.{ℕ, ◌&&◌, List, [], ◌∷◌, eqb, length, replicate}
-use Rattle.definition.specs.Notation.{if◌then◌else◌}
+use Rattle.std.specs.Prelude.{ℕ, ◌&&◌, List, [], ◌∷◌, eqb, length, replicate, if◌then◌else◌}
 use Rattle.definition.specs.Refusal.{not_well_formed}
 use Rattle.definition.specs.Frame.{empty}
 use Rattle.definition.specs.Retag.{entry_bound}

@@ -1,4 +1,5 @@
 -- The settings' request has the flags and the pointer that were given, and frame 0; and refusal 2 is the definition's of such a request.
+use Rattle.std.specs.Prelude.{if◌then◌else◌}
 use Prim.Native.Nat.{ℕ, ◌+◌, ◌/◌, ◌%◌, ◌^◌}
 use mathlib.Core.Path.{◌≡◌, refl, ap, ap₂}
 use mathlib.Core.Bool.{Bool, true, false, not, ◌&&◌, ◌||◌}
@@ -6,7 +7,7 @@ use mathlib.Core.Option.{Option, none, some}
 use mathlib.Core.List.{List, [], ◌∷◌}
 use lib.Dec.{ltb}
 use lib.ListN.{get_or}
-use Rattle.definition.specs.Notation.{if◌then◌else◌, any}
+use Rattle.definition.specs.Notation.{any}
 use Rattle.definition.specs.Permission.{SafePointer, is_yes}
 use Rattle.definition.specs.Permission.SafePointer.{SharedRef, MutableRef, Box}
 use Rattle.definition.specs.Permission.Protected.{No}

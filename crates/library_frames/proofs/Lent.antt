@@ -1,4 +1,5 @@
 -- What `served` is, case by case, and a law for each way the entry returns.
+use Rattle.std.specs.Prelude.{if◌then◌else◌}
 use Prim.Native.Nat.{ℕ, zero, suc, ◌≤◌}
 use mathlib.Core.Path.{◌≡◌, refl, sym, ap, subst⁻¹, ◌∙◌}
 use mathlib.Core.Bool.{Bool, true, false, ◌&&◌}
@@ -9,7 +10,7 @@ use borrow.Author.Tests.{eqb-true, leb-true, eq-eqb, le-leb}
 use lib.Dec.{eqb, leb}
 use lib.ListN.{length, get_or, take, set, length-map, length-append}
 use lib.Seq.{length-take-le}
-use Rattle.definition.specs.Notation.{if◌then◌else◌, write_at}
+use Rattle.definition.specs.Notation.{write_at}
 use Rattle.definition.specs.Memory.{Memory, named_pointer}
 use Rattle.definition.specs.Memory as definition
 use Rattle.definition.specs.Frame.{State, Frame, entries, frame_at}

@@ -1,11 +1,11 @@
 -- `perform_retag` of the settings' request by its cases, and what it leaves: the words, and the frames with the node that is entered.
+use Rattle.std.specs.Prelude.{if◌then◌else◌}
 use Prim.Native.Nat.{ℕ}
 use mathlib.Core.Path.{◌≡◌, refl, sym, ap, ap₂, subst, ◌∙◌}
 use mathlib.Core.Bool.{Bool, true, false, not, ◌&&◌}
 use mathlib.Core.Option.{Option, none, some}
 use mathlib.Core.List.{List, [], ◌∷◌, ◌++◌}
 use lib.ListN.{set}
-use Rattle.definition.specs.Notation.{if◌then◌else◌}
 use Rattle.definition.specs.Permission.{is_yes}
 use Rattle.definition.specs.Layout.{FreezeMask, freeze_mask}
 use Rattle.definition.specs.Memory.{Provenance, ThinPointer, Answer, named_pointer, refused_with}

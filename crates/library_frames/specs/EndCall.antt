@@ -1,6 +1,5 @@
 -- An end call on what is lent, whatever it is: 1, and then the end call of the memory that the buffers hold.
-use Rattle.std.specs.Prelude.{ℕ, ◌≡◌, Bool, ◌&&◌, List, eqb, length, replicate}
-use Rattle.definition.specs.Notation.{if◌then◌else◌}
+use Rattle.std.specs.Prelude.{ℕ, ◌≡◌, Bool, ◌&&◌, List, eqb, length, replicate, if◌then◌else◌}
 use Rattle.definition.specs.Refusal.{not_well_formed}
 use Rattle.definition.specs.Memory.{Provenance, refused_with}
 use Rattle.definition.specs.Frame.{end_call_refusal}

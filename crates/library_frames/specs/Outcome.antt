@@ -1,7 +1,6 @@
 -- What the inner functions of a retag leave.
-use Rattle.std.specs.Prelude.{ℕ, ◌+◌, ◌≡◌, Bool, true, false, List}
+use Rattle.std.specs.Prelude.{ℕ, ◌+◌, ◌≡◌, Bool, true, false, List, if◌then◌else◌}
 use Rattle.std.proofs.Math.Option.{Option, none}
-use Rattle.definition.specs.Notation.{if◌then◌else◌}
 use Rattle.definition.specs.Refusal.{not_well_formed, malformed}
 use Rattle.definition.specs.Memory as definition
 use Rattle.definition.specs.Frame.{State}

@@ -1,4 +1,5 @@
 -- Loads and stores: the refusals before the visit and those of the visit are the definition's, and so are the words and the codes afterwards.
+use Rattle.std.specs.Prelude.{if◌then◌else◌}
 use Prim.Native.Nat.{ℕ, zero, suc, ◌+◌, ◌-◌, ◌≤◌, ◌<◌}
 use mathlib.Core.Path.{◌≡◌, refl, sym, ap, ◌∙◌}
 use mathlib.Core.Bool.{Bool, true, false, not, ◌&&◌, false≢true}
@@ -10,7 +11,7 @@ use borrow.Author.Tests.{eq-eqb, ne_eqb, leb-true, not-false}
 use lib.Dec.{eqb, leb}
 use lib.ListN.{length, take, drop}
 use lib.Seq.{paste, paste-zero}
-use Rattle.definition.specs.Notation.{if◌then◌else◌, ◌when◌, ◌or◌, mutate_at}
+use Rattle.definition.specs.Notation.{◌when◌, ◌or◌, mutate_at}
 use Rattle.definition.specs.Refusal.{never_made, misaligned, missing_provenance, dead_allocation, out_of_bounds}
 use Rattle.definition.specs.Permission.{AccessKind}
 use Rattle.definition.specs.Tree.{visit_refusal}

@@ -1,6 +1,6 @@
 -- What a load and a store ask and what they leave, said of each memory that the buffers hold.
-use Rattle.std.specs.Prelude.{ℕ, ◌+◌, ◌-◌, ◌≤◌, ◌<◌, ◌≡◌, false, List, [], eqb, length}
-use Rattle.definition.specs.Notation.{if◌then◌else◌, ◌when◌, ◌or◌}
+use Rattle.std.specs.Prelude.{ℕ, ◌+◌, ◌-◌, ◌≤◌, ◌<◌, ◌≡◌, false, List, [], eqb, length, if◌then◌else◌}
+use Rattle.definition.specs.Notation.{◌when◌, ◌or◌}
 use Rattle.definition.specs.Refusal.{never_made, misaligned}
 use Rattle.definition.specs.Permission.{AccessKind}
 use Rattle.definition.specs.Permission.AccessKind.{Read, Write}

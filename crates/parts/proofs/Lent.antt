@@ -1,4 +1,5 @@
 -- One allocation's parts of the tables, as they are lent: they hold its tree, and what comes back makes the tables of the memory with the tree changed.
+use Rattle.std.specs.Prelude.{if◌then◌else◌}
 use Prim.Native.Nat.{ℕ, ◌+◌, ◌-◌, ◌*◌, ◌≤◌, ◌<◌}
 use mathlib.Core.Path.{◌≡◌, refl, sym, ap, ap₂, ◌∙◌}
 use mathlib.Core.Bool.{Bool, true, false}
@@ -7,7 +8,7 @@ use native.Mathlib.Omega.{arith}
 use borrow.Rule.Slice.PartMut.{put_mid}
 use lib.Dec.{eqb}
 use lib.ListN.{length, take, drop}
-use Rattle.definition.specs.Notation.{if◌then◌else◌, mutate_at}
+use Rattle.definition.specs.Notation.{mutate_at}
 use Rattle.definition.specs.Tree.{Visit, visited}
 use Rattle.definition.specs.Memory.{Allocation, Memory, allocation_at, node_count, code_count}
 use Rattle.definition.specs.Valid.{ValidAllocation}

@@ -1,6 +1,6 @@
 -- Buffers that hold a memory's trees, where one allocation's parts of them lie, and a visit of its tree.
-use Rattle.std.specs.Prelude.{ℕ, ◌+◌, ◌*◌, ◌<◌, ◌≡◌, List, eqb, length}
-use Rattle.definition.specs.Notation.{if◌then◌else◌, mutate_at}
+use Rattle.std.specs.Prelude.{ℕ, ◌+◌, ◌*◌, ◌<◌, ◌≡◌, List, eqb, length, if◌then◌else◌}
+use Rattle.definition.specs.Notation.{mutate_at}
 use Rattle.definition.specs.Tree.{Visit, visited}
 use Rattle.definition.specs.Memory.{Allocation, Memory, allocation_at, changed, size, node_count, code_count}
 use Rattle.definition.specs.Valid.{Valid}

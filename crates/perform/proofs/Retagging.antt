@@ -1,4 +1,5 @@
 -- A retag in a run: its settings, the frame's room for the entry of an accepted one, its mask, and what is left in each case.
+use Rattle.std.specs.Prelude.{if◌then◌else◌}
 use Prim.Native.Nat.{ℕ, ◌<◌}
 use mathlib.Core.Path.{◌≡◌, refl, sym, ap, subst, ◌∙◌}
 use mathlib.Core.Bool.{Bool, true, false}
@@ -7,7 +8,6 @@ use mathlib.Core.List.{List, [], ◌∷◌, ◌++◌}
 use native.Mathlib.Omega.{arith}
 use lib.ListN.{length, get_or, take, set, length-append}
 use lib.Seq.{get_or-set_same}
-use Rattle.definition.specs.Notation.{if◌then◌else◌}
 use Rattle.definition.specs.Permission.{Protected, is_yes}
 use Rattle.definition.specs.Layout.{FreezeMask, freeze_mask}
 use Rattle.definition.specs.Memory.{Provenance, ThinPointer, named_pointer, was_made}

@@ -1,7 +1,6 @@
 -- The code's enums as the definition's data, and the definition's functions of a permission as functions of a code.
-use Rattle.std.specs.Prelude.{ℕ, Bool, false, eqb, ltb}
+use Rattle.std.specs.Prelude.{ℕ, Bool, false, eqb, ltb, if◌then◌else◌}
 use Rattle.std.proofs.Math.Option.{Option, none, some}
-use Rattle.definition.specs.Notation.{if◌then◌else◌}
 use Rattle.definition.specs.Permission as definition
 use Rattle.definition.specs.Permission.{Permission, transition, refusal_by, next_by, is_protected, unprotected, end_access, prevents_deallocation, init_access, code, permission}
 use Rattle.definition.specs.Permission.Outcome.{becomes, refused}

@@ -1,6 +1,5 @@
 -- What the code's widths are in the definition, and the width as the number of its bits.
-use Rattle.std.specs.Prelude.{ℕ, Bool, ◌||◌, ◌==◌}
-use Rattle.definition.specs.Notation.{if◌then◌else◌}
+use Rattle.std.specs.Prelude.{ℕ, Bool, ◌||◌, ◌==◌, if◌then◌else◌}
 use Rattle.definition.specs.Width as definition
 use Rattle.pointer.specs.declared.width.Width.{Width}
 use Rattle.pointer.specs.declared.width.Width.TheVariants.{Bits16, Bits32, Bits64}

@@ -1,4 +1,5 @@
 -- The reads made through the parent, and then the child put in as its own read leaves it: what the definition's reborrow leaves.
+use Rattle.std.specs.Prelude.{if◌then◌else◌}
 use Prim.Native.Nat.{ℕ, ◌+◌}
 use mathlib.Core.Path.{◌≡◌, refl, sym, ap, ap₂, subst, ◌∙◌}
 use mathlib.Core.List.{List, [], ◌∷◌, ◌++◌, map}
@@ -6,7 +7,7 @@ use native.Mathlib.Omega.{arith}
 use borrow.Author.Tests.{eq-eqb, ne_eqb}
 use lib.Dec.{eqb}
 use lib.ListN.{length, replicate, length-map}
-use Rattle.definition.specs.Notation.{if◌then◌else◌, ◌or◌, mutate_at, write_at}
+use Rattle.definition.specs.Notation.{◌or◌, mutate_at, write_at}
 use Rattle.definition.specs.Permission.{Permission, next, permission, is_yes}
 use Rattle.definition.specs.Permission.AccessKind.{Read}
 use Rattle.definition.specs.Permission.NodeRelation.{Local}

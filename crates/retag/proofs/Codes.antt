@@ -1,4 +1,5 @@
 -- The codes of a retag's bytes stand for its permissions, and a byte's code depends on that byte of the mask alone.
+use Rattle.std.specs.Prelude.{if◌then◌else◌}
 use Prim.Native.Nat.{ℕ, suc, ◌+◌, ◌≤◌, ◌<◌}
 use mathlib.Core.Path.{◌≡◌, refl, sym, ap, ap₂, ◌∙◌}
 use mathlib.Core.Bool.{Bool, true, false, not}
@@ -7,7 +8,7 @@ use native.Mathlib.Omega.{arith}
 use lib.ListN.{length, get_or, set, take, drop, replicate, length-map, length-replicate, drop_of_length-le, get_or-map}
 use lib.Seq.{take_all}
 use lib.Dec.{eqb}
-use Rattle.definition.specs.Notation.{if◌then◌else◌, write_at}
+use Rattle.definition.specs.Notation.{write_at}
 use Rattle.definition.specs.Permission.{next, code, permission}
 use Rattle.definition.specs.Permission.AccessKind.{Read}
 use Rattle.definition.specs.Permission.NodeRelation.{Local}

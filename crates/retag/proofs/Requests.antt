@@ -1,4 +1,5 @@
 -- A retag by its cases, and what is left to its caller: the frames, and that five buffers hold the memory afterwards.
+use Rattle.std.specs.Prelude.{if◌then◌else◌}
 use Prim.Native.Nat.{ℕ, zero, suc}
 use mathlib.Core.Path.{◌≡◌, refl, sym, ap, ap₂, subst, ◌∙◌}
 use mathlib.Core.Bool.{Bool, true, false, not, ◌&&◌, false≢true}
@@ -8,7 +9,7 @@ use native.Mathlib.Nat.{zero-add}
 use borrow.Author.Tests.{eq-eqb, ne_eqb}
 use lib.Dec.{eqb}
 use lib.ListN.{length}
-use Rattle.definition.specs.Notation.{if◌then◌else◌, ◌when◌, mutate_at}
+use Rattle.definition.specs.Notation.{◌when◌, mutate_at}
 use Rattle.definition.specs.Refusal.{never_made}
 use Rattle.definition.specs.Layout.{FreezeMask}
 use Rattle.definition.specs.Memory.{Provenance, ThinPointer, has_none, allocation_of, Allocation, allocation_at, Answer, named_pointer, refused_with, gives_pointer, unless_refused, names_never_made, check_ptr}

@@ -1,4 +1,5 @@
 -- What a retag's tests leave to be known: its refusal is theirs or that of the reads through the parent, and where they refuse nothing there is a place for the child.
+use Rattle.std.specs.Prelude.{if◌then◌else◌}
 use Prim.Native.Nat.{ℕ, zero, suc, ◌+◌, ◌-◌, ◌≤◌, ◌<◌}
 use mathlib.Core.Path.{◌≡◌, refl, sym, ap, subst, ◌∙◌}
 use mathlib.Core.Bool.{Bool, true, false, not, ◌&&◌, ◌||◌, false≢true}
@@ -9,7 +10,7 @@ use native.Mathlib.Omega.{arith}
 use borrow.Author.Tests.{eq-eqb, ne_eqb, leb-true, le-leb, lt-leb, lt-ltb, le-ltb}
 use lib.Dec.{eqb, leb, ltb}
 use lib.ListN.{length}
-use Rattle.definition.specs.Notation.{if◌then◌else◌, ◌when◌, ◌or◌}
+use Rattle.definition.specs.Notation.{◌when◌, ◌or◌}
 use Rattle.definition.specs.Refusal.{never_made, missing_provenance, dead_allocation, out_of_bounds, below_start, size_exceeded}
 use Rattle.definition.specs.Permission.{Permission, is_yes}
 use Rattle.definition.specs.Memory.{Provenance, ThinPointer, is_live, Allocation, size, Memory, allocation_at, target, offset, was_made, names_never_made, is_outside, check_ptr, exceeds_bounds}

@@ -1,7 +1,7 @@
 -- What a retag asks of the buffers and what it leaves, said of each state whose memory they hold.
-use Rattle.std.specs.Prelude.{ℕ, ◌+◌, ◌≤◌, ◌<◌, ◌≡◌, Bool, false, ◌&&◌, ◌||◌, List, [], ◌∷◌, ◌++◌, map, eqb, ltb, length, get_or, set}
+use Rattle.std.specs.Prelude.{ℕ, ◌+◌, ◌≤◌, ◌<◌, ◌≡◌, Bool, false, ◌&&◌, ◌||◌, List, [], ◌∷◌, ◌++◌, map, eqb, ltb, length, get_or, set, if◌then◌else◌}
 use Rattle.std.proofs.Math.Option.{Option, none, some}
-use Rattle.definition.specs.Notation.{if◌then◌else◌, ◌when◌, ◌or◌, sum_of, mutate_at}
+use Rattle.definition.specs.Notation.{◌when◌, ◌or◌, sum_of, mutate_at}
 use Rattle.definition.specs.Refusal.{never_made, below_start, size_exceeded}
 use Rattle.definition.specs.Permission.{Protected, is_yes, permission}
 use Rattle.definition.specs.Tree.{Visit}

@@ -1,6 +1,6 @@
 -- What the code's settings and mask are in the definition, and the child that they make.
-use Rattle.std.specs.Prelude.{ℕ, ◌-◌, Bool, not, List, map, eqb, replicate}
-use Rattle.definition.specs.Notation.{if◌then◌else◌, write_at}
+use Rattle.std.specs.Prelude.{ℕ, ◌-◌, Bool, not, List, map, eqb, replicate, if◌then◌else◌}
+use Rattle.definition.specs.Notation.{write_at}
 use Rattle.definition.specs.Permission.{next, code}
 use Rattle.definition.specs.Permission.AccessKind.{Read}
 use Rattle.definition.specs.Permission.NodeRelation.{Local}

@@ -1,11 +1,12 @@
 -- A list made from another by exchanges, or with an accepted load made again, leaves the same memory and frames in the buffers, number for number, and the same width; each
 -- request has the same answer in its new place.
+use Rattle.std.specs.Prelude.{if◌then◌else◌}
 use Prim.Native.Nat.{ℕ}
 use mathlib.Core.Path.{◌≡◌, refl, ap}
 use mathlib.Core.Bool.{Bool, true, false}
 use mathlib.Core.Option.{Option, none, some}
 use mathlib.Core.List.{List}
-use Rattle.definition.specs.Notation.{if◌then◌else◌, write_at}
+use Rattle.definition.specs.Notation.{write_at}
 use Rattle.definition.specs.Memory.{Answer}
 use Rattle.definition.specs.Run.{RunState, start, answers, final}
 use Rattle.definition.specs.Exchange.{Exchanged, exchange_all, AcceptedLoad, twice}

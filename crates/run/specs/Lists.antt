@@ -1,6 +1,6 @@
 -- A list of requests on lent buffers, and demand 3: what `run_list` promises. Document 01: "Lists whose order may change".
-use Rattle.std.specs.Prelude.{ℕ, ◌-◌, min, ◌≡◌, List, [], ◌∷◌, leb, length, take, drop}
-use Rattle.definition.specs.Notation.{if◌then◌else◌, write_at}
+use Rattle.std.specs.Prelude.{ℕ, ◌-◌, min, ◌≡◌, List, [], ◌∷◌, leb, length, take, drop, if◌then◌else◌}
+use Rattle.definition.specs.Notation.{write_at}
 use Rattle.definition.specs.Run.{start, answers, final}
 use Rattle.definition.specs.Exchange.{OrderIsFree}
 use Rattle.tables.specs.Encoding.{Buffers, encode}

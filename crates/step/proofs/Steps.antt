@@ -1,4 +1,5 @@
 -- One request: its fields and its words are the definition's, and each way to answer it is the definition's `step`.
+use Rattle.std.specs.Prelude.{if◌then◌else◌}
 use Prim.Native.Nat.{ℕ, suc, ◌+◌, ◌^◌, ◌≤◌, ◌<◌}
 use native.Mathlib.Omega.{arith}
 use borrow.Author.Tests.{ne_eqb}
@@ -7,7 +8,6 @@ use mathlib.Core.Bool.{Bool, true, false, not, ◌||◌}
 use mathlib.Core.List.{List, [], ◌∷◌}
 use lib.Dec.{eqb}
 use lib.ListN.{length, get_or, drop, length-drop}
-use Rattle.definition.specs.Notation.{if◌then◌else◌}
 use Rattle.definition.specs.Width.{Width}
 use Rattle.definition.specs.Refusal.{malformed}
 use Rattle.definition.specs.Memory as definition

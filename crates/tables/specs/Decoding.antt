@@ -1,6 +1,5 @@
 -- The memory that five buffers hold: `encode` read back. Only well-formed buffers are read.
-use Rattle.std.specs.Prelude.{ℕ, zero, suc, ◌*◌, List, [], ◌∷◌, map, eqb, get_or, take, drop}
-use Rattle.definition.specs.Notation.{if◌then◌else◌}
+use Rattle.std.specs.Prelude.{ℕ, zero, suc, ◌*◌, List, [], ◌∷◌, map, eqb, get_or, take, drop, if◌then◌else◌}
 use Rattle.definition.specs.Permission.{Protected, permission}
 use Rattle.definition.specs.Permission.Protected.{No, Weak, Strong}
 use Rattle.definition.specs.Tree.{Node}

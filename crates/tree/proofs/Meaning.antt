@@ -1,5 +1,6 @@
 -- A visit over the tables is the definition's visit of the nodes that they hold: `means-refusal`, `means-after`.
 -- The rows agree byte by byte; the table changes row by row, and each visited node is changed once.
+use Rattle.std.specs.Prelude.{if◌then◌else◌}
 use Prim.Native.Nat.{ℕ, zero, suc, ◌<◌}
 use mathlib.Core.Path.{◌≡◌, refl, sym, ap, ap₂, subst, subst⁻¹, ◌∙◌}
 use mathlib.Core.Bool.{Bool, true, false}
@@ -9,7 +10,7 @@ use native.Mathlib.Decide.{ℕ_discrete}
 use native.Mathlib.Omega.{arith}
 use lib.ListN.{length, take, drop, length-map}
 use lib.Seq.{ext_get_or}
-use Rattle.definition.specs.Notation.{if◌then◌else◌, ◌or◌, first_refusal, mutate_at, sum_of}
+use Rattle.definition.specs.Notation.{◌or◌, first_refusal, mutate_at, sum_of}
 use Rattle.definition.specs.Permission.{AccessKind, NodeRelation, Permission, next_by, code}
 use Rattle.definition.specs.Tree.{Node, no_node, node_at, parents, relation, is_spared, visiting_order, Visit, visit_refusal, visited}
 use Rattle.definition.specs.Valid.{All}

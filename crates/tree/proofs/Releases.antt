@@ -1,4 +1,5 @@
 -- The release of a protected node, over the tables: 16's test, the node's row unprotected, the marks, and that the visit neither reads nor changes the released node.
+use Rattle.std.specs.Prelude.{if◌then◌else◌}
 use Prim.Native.Nat.{ℕ, zero, suc, ◌<◌}
 use mathlib.Core.Path.{◌≡◌, refl, sym, ap, ap₂, subst, ◌∙◌}
 use mathlib.Core.Bool.{Bool, true, false, not, false≢true}
@@ -8,7 +9,7 @@ use native.Mathlib.Decide.{ℕ_discrete}
 use native.Mathlib.Omega.{arith}
 use lib.ListN.{length, get_or, set, length-map, get_or-map}
 use lib.Seq.{ext_get_or}
-use Rattle.definition.specs.Notation.{if◌then◌else◌, ◌when◌, ◌or◌, first_refusal, map_from, mutate_at, any, filter}
+use Rattle.definition.specs.Notation.{◌when◌, ◌or◌, first_refusal, map_from, mutate_at, any, filter}
 use Rattle.definition.specs.Refusal.{not_protected}
 use Rattle.definition.specs.Permission.{Permission, Protected, is_yes, is_protected, unprotected, code}
 use Rattle.definition.specs.Permission.Protected.{No, Weak, Strong}

@@ -1,4 +1,5 @@
 -- 24's test, over the tables: a row as the write leaves it, and a node that prevents deallocation then.
+use Rattle.std.specs.Prelude.{if◌then◌else◌}
 use Prim.Native.Nat.{ℕ, ◌+◌, ◌-◌, ◌*◌, ◌<◌}
 use mathlib.Core.Path.{◌≡◌, refl, sym, ap, ap₂, ◌∙◌}
 use mathlib.Core.Bool.{Bool, true, false, ◌&&◌}
@@ -7,7 +8,7 @@ use mathlib.Core.List.{List, [], ◌∷◌, ◌++◌, map, append-nil}
 use native.Mathlib.Omega.{arith}
 use lib.ListN.{length, get_or, take, drop, drop_of_length-le}
 use lib.Seq.{take_all}
-use Rattle.definition.specs.Notation.{if◌then◌else◌, ◌when◌, ◌or◌, any}
+use Rattle.definition.specs.Notation.{◌when◌, ◌or◌, any}
 use Rattle.definition.specs.Refusal.{strong_protector}
 use Rattle.definition.specs.Permission.{Permission, NodeRelation, Protected, is_strong, prevents_deallocation, next, code}
 use Rattle.definition.specs.Permission.AccessKind.{Write}

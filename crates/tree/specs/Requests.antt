@@ -1,7 +1,7 @@
 -- What a request's visits do, said of each list of nodes that the tables hold.
-use Rattle.std.specs.Prelude.{ℕ, ◌≡◌, List, eqb}
+use Rattle.std.specs.Prelude.{ℕ, ◌≡◌, List, eqb, if◌then◌else◌}
 use Rattle.std.proofs.Math.Option.{Option, none, some}
-use Rattle.definition.specs.Notation.{if◌then◌else◌, ◌when◌, ◌or◌, any}
+use Rattle.definition.specs.Notation.{◌when◌, ◌or◌, any}
 use Rattle.definition.specs.Refusal.{not_protected, strong_protector}
 use Rattle.definition.specs.Permission.{AccessKind, Permission}
 use Rattle.definition.specs.Permission.AccessKind.{Read, Write}

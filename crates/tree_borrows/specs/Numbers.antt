@@ -1,7 +1,6 @@
 -- Pointers, settings and answers as the numbers that cross the C interface, in the terms of the definition and of `answer`.
-use Rattle.std.specs.Prelude.{ℕ, ◌≡◌, Bool, true, false, ◌&&◌, ◌||◌, List, [], ◌++◌, eqb, ltb, length, take, drop}
+use Rattle.std.specs.Prelude.{ℕ, ◌≡◌, Bool, true, false, ◌&&◌, ◌||◌, List, [], ◌++◌, eqb, ltb, length, take, drop, if◌then◌else◌}
 use Rattle.std.proofs.Math.Option.{Option, none, some}
-use Rattle.definition.specs.Notation.{if◌then◌else◌}
 use Rattle.definition.specs.Refusal.{memory_leak}
 use Rattle.definition.specs.Exchange.{OrderIsFree}
 use Rattle.definition.specs.Run.{start}

@@ -1,4 +1,5 @@
 -- Where a record is, and how many agree.
+use Rattle.std.specs.Prelude.{if◌then◌else◌}
 use Prim.Native.Nat.{ℕ, zero, suc, ◌+◌, ◌-◌, ◌≤◌, ◌<◌}
 use mathlib.Core.Path.{◌≡◌, refl, sym, ap, subst, ◌∙◌}
 use mathlib.Core.Bool.{Bool, true, false, ◌&&◌}
@@ -7,7 +8,6 @@ use native.Mathlib.Omega.{arith}
 use borrow.Author.Tests.{le-leb, lt-leb, lt-ltb, leb-true}
 use lib.Dec.{ltb}
 use lib.ListN.{length}
-use Rattle.definition.specs.Notation.{if◌then◌else◌}
 use Rattle.definition.specs.Output.{IsOutput}
 use Rattle.vectors.specs.declared.Record.{Record}
 use Rattle.vectors.specs.Sample.{word_at, is_there, record_at, run_of, text_of, Agrees, one, Counted}

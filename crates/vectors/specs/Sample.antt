@@ -1,6 +1,5 @@
 -- A recorded sample: runs, each with the text that the Rust printed of it.
-use Rattle.std.specs.Prelude.{ℕ, suc, ◌+◌, ◌-◌, ◌<◌, ◌≡◌, Bool, true, false, List, leb, length, get_or, take, drop}
-use Rattle.definition.specs.Notation.{if◌then◌else◌}
+use Rattle.std.specs.Prelude.{ℕ, suc, ◌+◌, ◌-◌, ◌<◌, ◌≡◌, Bool, true, false, List, leb, length, get_or, take, drop, if◌then◌else◌}
 use Rattle.definition.specs.Run.{words_of}
 use Rattle.definition.specs.Output.{output, IsOutput}
 use Rattle.judge.specs.Whole.{memory_room}

@@ -1,6 +1,5 @@
 -- How the program goes on: what is at hand between two turns, and what reading and writing leave of it.
-use Rattle.std.specs.Prelude.{ℕ, ◌-◌, ◌≤◌, ◌≡◌, Bool, true, false, not, ◌&&◌, ◌||◌, List, ◌++◌, eqb, ltb, length, take, drop}
-use Rattle.definition.specs.Notation.{if◌then◌else◌}
+use Rattle.std.specs.Prelude.{ℕ, ◌-◌, ◌≤◌, ◌≡◌, Bool, true, false, not, ◌&&◌, ◌||◌, List, ◌++◌, eqb, ltb, length, take, drop, if◌then◌else◌}
 use Rattle.stream.specs.Stream.{request_size}
 use Rattle.judge.specs.declared.Advance.{Advance}
 use Rattle.verdict.specs.declared.Progress.{Progress}

@@ -1,4 +1,5 @@
 -- How a plan is made, from the last node down: each node is linked in front of the children of its parent, and noted to be on the path if it is on the path.
+use Rattle.std.specs.Prelude.{if◌then◌else◌}
 use Prim.Native.Nat.{ℕ, ◌+◌, ◌*◌, ◌≤◌, ◌<◌}
 use mathlib.Core.Path.{◌≡◌, refl, sym, ap, subst, ◌∙◌}
 use mathlib.Core.Bool.{Bool, true, false, not, ◌||◌, or-true, or-false}
@@ -10,7 +11,6 @@ use borrow.Author.Tests.{eq-eqb, ne_eqb}
 use lib.Dec.{eqb}
 use lib.ListN.{length, get_or, take, drop, set, replicate, get_or-replicate, length-replicate, length-set, length-take, get_or-eq_default}
 use lib.Seq.{get_or-set_same, get_or-set_other, get_or-take, take_at}
-use Rattle.definition.specs.Notation.{if◌then◌else◌}
 use Rattle.definition.specs.Permission.NodeRelation.{Local, Foreign}
 use Rattle.definition.specs.Tree.{relation, is_above}
 use Rattle.definition.proofs.Trees.{Parents, above-itself, above_parent, not-above-smaller}

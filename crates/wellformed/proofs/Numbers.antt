@@ -1,11 +1,11 @@
 -- Numbers that pass the tests are those of a state, a kind, a protector, a permission, and the other way round.
+use Rattle.std.specs.Prelude.{if◌then◌else◌}
 use Prim.Native.Nat.{ℕ, zero, suc, ◌^◌, ◌≤◌, ◌<◌}
 use mathlib.Core.Path.{◌≡◌, refl, sym, ap, ◌∙◌}
 use mathlib.Core.Bool.{Bool, true, false, not, ◌&&◌, false≢true}
 use native.Mathlib.Omega.{arith}
 use borrow.Author.Tests.{ltb-false, lt-ltb, le-ltb, lt-leb}
 use lib.Dec.{T, eqb, ltb}
-use Rattle.definition.specs.Notation.{if◌then◌else◌}
 use Rattle.definition.specs.Permission.{Permission, Protected, is_protected, is_yes, code, permission}
 use Rattle.definition.specs.Permission.Protected.{No, Weak, Strong}
 use Rattle.definition.specs.Memory.{Liveness, AllocationKind, is_live, kind_number}

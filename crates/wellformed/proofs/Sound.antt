@@ -1,5 +1,6 @@
 -- Buffers that pass the test are those of a valid memory: the one that they are read as. Node by node, allocation by allocation:
 -- what is read at the front is valid and has the front as its parts.
+use Rattle.std.specs.Prelude.{if◌then◌else◌}
 use Prim.Native.Nat.{ℕ, zero, suc, ◌+◌, ◌-◌, ◌*◌, ◌^◌, ◌≤◌, ◌<◌}
 use mathlib.Core.Path.{◌≡◌, refl, sym, ap, ap₂, subst, ◌∙◌}
 use mathlib.Core.Bool.{Bool, true, false, not, ◌&&◌, ◌||◌}
@@ -10,7 +11,7 @@ use borrow.Author.Tests.{eqb-true, eqb-false, ltb-false, leb-false, not-true, no
 use lib.Dec.{eqb, leb, ltb}
 use lib.ListN.{length, get_or, take, drop, replicate, length-append, length-drop, length-replicate, length-map, take-append-drop}
 use lib.Seq.{length-take-le, take-add, take-suc}
-use Rattle.definition.specs.Notation.{if◌then◌else◌, any}
+use Rattle.definition.specs.Notation.{any}
 use Rattle.definition.specs.Permission.{Permission, is_protected, is_yes, code, permission}
 use Rattle.definition.specs.Tree.{Node}
 use Rattle.definition.specs.Memory.{Allocation, Memory, size, node_count, is_live, is_misaligned, ranges_overlap, overlaps}

@@ -1,6 +1,6 @@
 -- When five lent buffers hold some valid memory (refusal 1), as a test of their numbers. Document 01: "Well formed: ..".
-use Rattle.std.specs.Prelude.{ℕ, zero, suc, ◌+◌, ◌*◌, ◌^◌, ◌≤◌, ◌≡◌, Bool, true, false, not, ◌&&◌, ◌||◌, List, eqb, leb, ltb, length, get_or, take, drop}
-use Rattle.definition.specs.Notation.{if◌then◌else◌, any}
+use Rattle.std.specs.Prelude.{ℕ, zero, suc, ◌+◌, ◌*◌, ◌^◌, ◌≤◌, ◌≡◌, Bool, true, false, not, ◌&&◌, ◌||◌, List, eqb, leb, ltb, length, get_or, take, drop, if◌then◌else◌}
+use Rattle.definition.specs.Notation.{any}
 use Rattle.definition.specs.Memory.{Memory, is_misaligned, ranges_overlap}
 use Rattle.definition.specs.Request.{nonzero, bad_byte}
 use Rattle.tables.specs.Encoding.{Buffers}
