@@ -56,8 +56,8 @@ refused_as n (definition.Named.Pointer p) = Refused n
 refused_as n (definition.Named.Leak a) = Leak a
 
 abbrev pub refused_or : ℕ → definition.Named → Answer → Answer
-refused_or zero names accepted = accepted
-refused_or (suc n) names accepted = refused_as (suc n) names
+refused_or zero names outcome = outcome
+refused_or (suc n) names outcome = refused_as (suc n) names
 
 -- the one answer of a request
 abbrev pub reply_to : Gives → definition.Answer → Answer
