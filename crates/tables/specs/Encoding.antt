@@ -1,6 +1,6 @@
 -- How five lent buffers hold a memory: each is a list of numbers, one allocation's behind the other's (decision 55), and zeros behind
 -- the last (decision 48). So memories that are equal have equal buffers.
-use Rattle.std.specs.Prelude.{ℕ, ◌+◌, ◌-◌, List, [], ◌∷◌, ◌++◌, map, length, replicate}
+use Rattle.std.specs.Prelude.{ℕ, ◌+◌, ◌-◌, List, [], ◌∷◌, ◌++◌, length, replicate}
 use Rattle.definition.specs.Tree.{parents}
 use Rattle.definition.specs.Memory.{Liveness, Allocation, Memory, kind_number, size, node_count, code_count}
 use Rattle.definition.specs.Memory.Liveness.{Live, Dead}

@@ -1,5 +1,4 @@
 -- The loop has seen no live heap allocation below i.
-use Prim.Native.Nat.{◌-◌}
 use mathlib.Core.Path.{◌≡◌, ◌∙◌, sym, subst}
 use native.Mathlib.Omega.{arith}
 use borrow.Author.Count.{below_more}

@@ -1,9 +1,9 @@
 -- At each turn the entries from place i on are left, in the memory that the earlier ones left (Releases: Turn).
-use Prim.Native.Nat.{◌-◌, ◌<◌}
+use Prim.Native.Nat.{◌<◌}
 use mathlib.Core.Path.{refl}
 use native.Mathlib.Omega.{arith}
 use borrow.Author.Rules.{rules}
-use lib.ListN.{length, drop, drop_of_length-le}
+use lib.ListN.{length, drop_of_length-le}
 use Rattle.frames.specs.Buffer.{entries_in}
 use Rattle.frames.proofs.FrameNumbers.{number_at, numbers-count}
 use Rattle.end_call.proofs.Releases.{turn-first, turn_at, turn-next, turn-stops, turn-done}

@@ -1,5 +1,5 @@
 -- After i turns the two are the least and the greatest of the first i (Spans: Ranged).
-use Prim.Native.Nat.{◌-◌, ◌<◌}
+use Prim.Native.Nat.{◌<◌}
 use native.Mathlib.Omega.{arith}
 use lib.ListN.{length}
 use Rattle.end_call.proofs.Spans.{ranged-first, ranged-more, spans-none, spans-ranged}

@@ -1,5 +1,5 @@
 -- What was found so far, or is found among the bytes that are left, is the answer for all of them.
-use Rattle.std.proofs.Common.{◌≡◌, ◌+◌, ◌-◌, Bool, ◌||◌, get_or, drop, sym, ap, ◌∙◌, rules}
+use Rattle.std.proofs.Common.{◌≡◌, ◌+◌, Bool, ◌||◌, get_or, drop, sym, ap, ◌∙◌, rules}
 use mathlib.Core.Bool.{or_assoc, or-false}
 use Rattle.definition.specs.Request.{bad_byte}
 use Rattle.definition.specs.Notation.{any}

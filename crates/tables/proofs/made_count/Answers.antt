@@ -1,5 +1,4 @@
 -- At i the loop has counted i records, and what `made_in` says of those from i on is left.
-use Prim.Native.Nat.{◌-◌}
 use mathlib.Core.Path.{◌≡◌}
 use native.Mathlib.Omega.{arith}
 use Rattle.tables.proofs.Lookup.{made-here, made-next}

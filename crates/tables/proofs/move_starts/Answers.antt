@@ -1,6 +1,5 @@
 -- At i the starts of the records before it are moved (Moving).
 use native.Mathlib.Omega.{arith}
-use Prim.Native.Nat.{◌-◌}
 use mathlib.Core.Path.{sym, ◌∙◌}
 use lib.ListN.{length-set}
 use Rattle.tables.proofs.Moving.{moving-start, moving-turn, moving-nodes, moving-codes, moving-end, moving-all, moving-length, behind-length}

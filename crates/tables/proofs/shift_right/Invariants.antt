@@ -1,5 +1,5 @@
 -- The loop runs downwards: from i on the list is moved, before it is as it was.
-use Prim.Native.Nat.{◌+◌, ◌≤◌, ◌-◌}
+use Prim.Native.Nat.{◌+◌, ◌≤◌}
 use mathlib.Core.Path.{◌≡◌}
 use lib.ListN.{length}
 use Rattle.tables.proofs.Moves.{moved}

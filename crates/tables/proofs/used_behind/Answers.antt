@@ -1,6 +1,5 @@
 -- At k all records before it were made; the first that was not is behind the last.
 use native.Mathlib.Omega.{arith}
-use Prim.Native.Nat.{◌-◌}
 use mathlib.Core.Path.{◌≡◌}
 use lib.ListN.{length}
 use Rattle.tables.proofs.Lookup.{allocs-length, same_count, made-before, unmade-last, used_all}

@@ -6,7 +6,6 @@ use Rattle.definition.specs.Memory.{Memory}
 use Rattle.pointer.specs.Pointer.{thin_pointer_of}
 use Rattle.permission.specs.Codes.{access_kind}
 use Rattle.permission.specs.declared.AccessKind.{AccessKind}
-use Rattle.permission.specs.declared.AccessKind.TheVariants.{Read, Write}
 use Rattle.memory.specs.Access.{access_of, load_of, Made, Loaded}
 use Rattle.memory.specs.Buffers.{HoldsWords}
 use Rattle.memory.proofs.OneKind.{not-both}

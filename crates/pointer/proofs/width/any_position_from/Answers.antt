@@ -1,7 +1,6 @@
 -- What was found so far, or is found among the bytes that are left, is the answer for all of them.
-use Rattle.std.proofs.Common.{◌≡◌, ℕ, ◌+◌, ◌-◌, Bool, ◌||◌, get_or, drop, sym, ap, ◌∙◌, rules}
+use Rattle.std.proofs.Common.{◌≡◌, ℕ, ◌+◌, Bool, ◌||◌, get_or, drop, sym, ap, ◌∙◌, rules}
 use mathlib.Core.Bool.{or_assoc, or-false}
-use Rattle.definition.specs.Request.{position}
 use Rattle.definition.specs.Notation.{any}
 use Rattle.definition.proofs.Any.{any_next, any-end}
 use Rattle.pointer.proofs.width.any_position_from.Goals as goal
