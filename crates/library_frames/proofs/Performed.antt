@@ -12,7 +12,7 @@ use Rattle.definition.specs.Memory.{Provenance, ThinPointer, Answer, named_point
 use Rattle.definition.specs.Frame.{Frame, entries, State, frame_at}
 use Rattle.definition.specs.Frame.Frame.{Open}
 use Rattle.definition.specs.Retag.{ReborrowSettings, retag_without_node, retag}
-use Rattle.definition.specs.Request.{Request, pointer, function_entry, adds_no_node, settings_of}
+use Rattle.definition.specs.Request.{Request, function_entry, adds_no_node, settings_of}
 use Rattle.definition.specs.Run.{retag_with_mask, perform_retag}
 use Rattle.tables.specs.Encoding.{words_of, held}
 use Rattle.retag.specs.Retag.{entered}

@@ -60,12 +60,6 @@ either LeakCheck h = absurd (miss load_or_store 9 tt h)
 either Empty h = absurd (miss load_or_store 10 tt h)
 either Unused h = absurd (miss load_or_store 11 tt h)
 
-abbrev no_store : List ℕ
-no_store = 0 ∷ 1 ∷ 2 ∷ 4 ∷ 5 ∷ 6 ∷ 7 ∷ 8 ∷ 9 ∷ 10 ∷ 11 ∷ []
-
-pub not-a-store : {k : Kind} → OneOf no_store (tag_of the_type k) → k ≡ Store → ⊥
-not-a-store {k} h e = miss no_store 3 tt (subst (λ (k : Kind). OneOf no_store (tag_of the_type k)) e h)
-
 -- ---- from what the core leaves to what the definition says
 module _ {s : State} {q : Request} {ws A P R W C : List ℕ} (h : Asked s q ws (buffers A P R W C)) (kind : (q.kind ≡ Load) ⊎ (q.kind ≡ Store)) where
   pub access-exponent : {exponent : ℕ} → exponent ≡ q.exponent → exponent < 64

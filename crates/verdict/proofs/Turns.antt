@@ -28,7 +28,7 @@ use Rattle.state.proofs.Held.{memory-held}
 use Rattle.judge.proofs.Runs.{LineAdded, advanced, performing-start, performing-next, performing-end, text-behind, text-whole, memory-inside}
 use Rattle.pointer.specs.declared.width.Width.TheVariants.{Bits64}
 use Rattle.verdict.specs.declared.Progress.{Progress}
-use Rattle.verdict.specs.Progress.{lacks, goes_on, at_hand, text_at_hand, most_text, Ready, HasRead, ReadOn, is_long, flushed_as, with_text_to}
+use Rattle.verdict.specs.Progress.{lacks, goes_on, at_hand, text_at_hand, most_text, HasRead, ReadOn, is_long, flushed_as, with_text_to}
 use Rattle.verdict.specs.Came.{MayFollow, advance_in, Came, start_at, Reached, ByTurn, Made, TurnMade, AllMade, TurnsMade, IsPrinted, Printed}
 use Rattle.verdict.specs.Came.Reached.{at_start, after_turn}
 use Rattle.verdict.proofs.Bytes.{same_bytes, hand-length, SameNext, same_next, some-request}

@@ -1,8 +1,7 @@
 -- Before place i the codes are made, the rest of the mask is as it was.
-use Prim.Native.Nat.{◌-◌}
 use mathlib.Core.Path.{refl, ◌∙◌}
 use native.Mathlib.Omega.{arith}
-use lib.ListN.{length, length-set}
+use lib.ListN.{length-set}
 use Rattle.retag.proofs.Codes.{next-made, all_made, codes-chosen}
 use Rattle.retag.proofs.inside_codes.Goals as goal
 

@@ -1,6 +1,5 @@
 -- The end is cut off where the words end, and the start where the part does (Turns).
 use mathlib.Core.Logic.{inl, inr}
-use native.Mathlib.Omega.{arith}
 use Rattle.run.proofs.Turns.{part_cut}
 use Rattle.run.proofs.part.Goals as goal
 use Rattle.run.proofs.part.Goals.{then-words-stop, else-words-stop, then-stop-start, else-stop-start}

@@ -10,11 +10,11 @@ returns-then-request-lt4 c = let ws = c.args.request.now in
 
 pub turn_decoded-requires : goal.turn_decoded-requires
 turn_decoded-requires c = let ws = c.args.request.now in
-    let words = all_words ws (λ i. omega (arith, c.shared_slice_known-1.given i)) in
+    let words = all_words ws (λ i. omega (arith, c.type_inv.request i)) in
     let d = decoded ws words c.of-q.result c.of-q.ensures c.following-following.ensures (omega arith) in record { holds_run = c.requires; by_index = (ws, d) }
 
 pub returns : goal.returns
 returns c = let ws = c.args.request.now in
-    let words = all_words ws (λ i. omega (arith, c.shared_slice_known-1.given i)) in
+    let words = all_words ws (λ i. omega (arith, c.type_inv.request i)) in
     let d = decoded ws words c.of-q.result c.of-q.ensures c.following-following.ensures (omega arith) in
     λ r h. c.turn_decoded.ensures r ws h d

@@ -1,5 +1,5 @@
 -- One record more is counted (Counting).
-use Rattle.std.proofs.Common.{ℕ, ◌≡◌, ◌<◌, true, false, ◌∙◌, ap, arith, length}
+use Rattle.std.proofs.Common.{ℕ, ◌≡◌, ◌<◌, true, length}
 use mathlib.Core.Path.{subst}
 use borrow.Author.Tests.{ltb-true}
 use lib.Dec.{ltb}

@@ -1,7 +1,7 @@
 -- What is kept stands in front, and what is read behind it (Bytes).
 use Rattle.std.proofs.Common.{ℕ, ◌+◌, ◌-◌, ◌≤◌, List, length, arith, length-append, length-take}
 use Rattle.std.proofs.lemmas.Slice.{take-put_mid_below}
-use borrow.Rule.Slice.PartMut.{put_mid, same_len_mid}
+use borrow.Rule.Slice.PartMut.{put_mid}
 use Rattle.verdict.proofs.Bytes.{has-read}
 use Rattle.verdict.proofs.read_more.Goals as goal
 

@@ -23,14 +23,14 @@ slice_bounds-turn_decoded-end-2 c = let k = c.read_words-n.ensures in
 pub turn_decoded-requires : goal.turn_decoded-requires
 turn_decoded-requires c = let k = c.read_words-n.ensures in
     let bytes = c.args.bytes.now in
-    let small : (i : ℕ) → get_or bytes i 0 < 256 = λ i. omega (arith, c.shared_slice_known-1.given i) in
+    let small : (i : ℕ) → get_or bytes i 0 < 256 = λ i. omega (arith, c.type_inv.bytes i) in
     let behind = k.words ∙ ap words_of (take_all (length bytes - 16) (drop 16 bytes) (omega (arith, length-drop 16 bytes))) in
     let d = decoded bytes _ c.args.q (omega arith) small (c.requires.bytes_len_bound.1 (omega arith)) behind in record { holds_run = c.requires.holds_run; by_index = (words_of bytes, d) }
 
 pub returns : goal.returns
 returns c = let k = c.read_words-n.ensures in
     let bytes = c.args.bytes.now in
-    let small : (i : ℕ) → get_or bytes i 0 < 256 = λ i. omega (arith, c.shared_slice_known-1.given i) in
+    let small : (i : ℕ) → get_or bytes i 0 < 256 = λ i. omega (arith, c.type_inv.bytes i) in
     let behind = k.words ∙ ap words_of (take_all (length bytes - 16) (drop 16 bytes) (omega (arith, length-drop 16 bytes))) in
     let d = decoded bytes _ c.args.q (omega arith) small (c.requires.bytes_len_bound.1 (omega arith)) behind in
     λ r h. c.turn_decoded.ensures r (words_of bytes) h d

@@ -1,6 +1,5 @@
 -- 1, 2, or the allocation in the memory that the buffers hold.
 use mathlib.Core.Path.{◌∙◌, sym}
-use borrow.Author.Tests.{not-true, not-false}
 use Rattle.library.proofs.Served.{not-formed, bad-field}
 use Rattle.library.proofs.Performed.{can-enter, allocated}
 use Rattle.library.proofs.allocate.allocate.Goals as goal

@@ -1,6 +1,5 @@
 -- 1, 2, or what `bounds` answers on the memory that the buffers hold.
 use mathlib.Core.Path.{◌∙◌, sym}
-use borrow.Author.Tests.{not-true, not-false}
 use Rattle.tables.proofs.ReadBack.{holds-records}
 use Rattle.wellformed.proofs.AtWidth.{sound-at}
 use Rattle.library.proofs.Served.{not-formed, bad-field}

@@ -1,6 +1,5 @@
 -- 1, 2, or what `bounds` answers on the memory that the buffers hold.
 use mathlib.Core.Path.{◌∙◌, sym, ap}
-use borrow.Author.Tests.{not-true, not-false}
 use mir.Facts.{to_z-of_z}
 use Rattle.tables.proofs.ReadBack.{holds-records}
 use Rattle.wellformed.proofs.AtWidth.{sound-at}

@@ -1,6 +1,5 @@
 -- 1, 2, or the load from the memory that the buffers hold.
 use mathlib.Core.Path.{◌∙◌, sym}
-use borrow.Author.Tests.{not-true, not-false}
 use Rattle.wellformed.proofs.AtWidth.{sound-at}
 use Rattle.parts.proofs.Lent.{holds-trees}
 use Rattle.library.proofs.Served.{not-formed, bad-field}

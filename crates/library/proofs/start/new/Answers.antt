@@ -1,7 +1,6 @@
 -- 1, or all buffers are cleared (Blank).
 use mathlib.Core.Path.{◌≡◌, sym, ◌∙◌}
 use mathlib.Core.Bool.{true}
-use borrow.Author.Tests.{not-true, not-false}
 use Rattle.pointer.specs.Width.{is_width}
 use Rattle.library.proofs.Blank.{not-width, not-lengths, made-new}
 use Rattle.library.proofs.start.new.Goals as goal

@@ -1,6 +1,5 @@
 -- 1, 2, or the store to the memory that the buffers hold.
 use mathlib.Core.Path.{◌∙◌, sym}
-use borrow.Author.Tests.{not-true, not-false}
 use Rattle.wellformed.proofs.AtWidth.{sound-at}
 use Rattle.memory.proofs.Afterwards.{holds-bytes}
 use Rattle.library.proofs.Served.{not-formed, bad-field}

@@ -1,7 +1,6 @@
 -- What is lent is refused with 1, or holds a memory, whose end call is made (LentCall).
 use mathlib.Core.Bool.{true}
 use mathlib.Core.Path.{◌≡◌, sym, ◌∙◌}
-use borrow.Author.Tests.{not-true, not-false}
 use Rattle.tables.specs.Encoding.{Buffers}
 use Rattle.tables.specs.Held.{buffers}
 use Rattle.tables.specs.Decoding.{view}

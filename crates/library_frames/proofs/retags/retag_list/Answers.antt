@@ -1,7 +1,6 @@
 -- 1, 2, or the retag of the memory that is held (Lent).
 use mathlib.Core.Bool.{true}
 use mathlib.Core.Path.{◌≡◌, sym, ◌∙◌}
-use borrow.Author.Tests.{not-true, not-false}
 use Rattle.pointer.specs.Pointer.{thin_pointer_of}
 use Rattle.tables.specs.Encoding.{Buffers}
 use Rattle.tables.specs.Held.{buffers}

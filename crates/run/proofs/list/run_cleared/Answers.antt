@@ -1,9 +1,7 @@
 -- After i turns what is left of the list, from the state that is held, comes to what the whole list does (Turns).
 use Rattle.run.proofs.Turns.{written-length, going_start, going_on, all-ran}
 use Rattle.state.proofs.Held.{state-lengths}
-use lib.ListN.{length}
 use mathlib.Core.Path.{refl, sym, ◌∙◌}
-use Prim.Native.Nat.{◌-◌}
 use borrow.Author.Rules.{rules}
 use native.Mathlib.Omega.{arith}
 use Rattle.run.proofs.list.run_cleared.Goals as goal

@@ -1,6 +1,5 @@
 -- 1 by the lengths; else the list on buffers that were emptied.
 use mathlib.Core.Path.{sym, ◌∙◌}
-use borrow.Author.Tests.{not-true, not-false}
 use Rattle.run.proofs.Turns.{not-lent, list-ran}
 use Rattle.run.proofs.list.run_list.Goals as goal
 
