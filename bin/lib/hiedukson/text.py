@@ -6,6 +6,7 @@
 """
 
 import re
+from itertools import islice
 
 from . import words as w
 from .errors import CardError
@@ -17,6 +18,8 @@ _TOKEN = re.compile(rb"[^\s#]+")
 _STRAY = re.compile(rb"[^0-9a-fA-F]")
 # So much text is taken at a time, so that a long one is never split into words as a whole.
 _PIECE = 1 << 20
+# And so much where one word is looked for in a piece.
+_PART = 1 << 12
 
 
 def without_mark(data):
@@ -46,11 +49,11 @@ def _tokens(data, start, end):
     return piece.split()
 
 
-def _pieces(data):
+def _pieces(data, start=0, behind=None, size=_PIECE):
     """Where pieces of whole lines start and end."""
-    start = 0
-    while start < len(data):
-        end = data.find(b"\n", start + _PIECE) + 1 or len(data)
+    behind = len(data) if behind is None else behind
+    while start < behind:
+        end = data.find(b"\n", start + size, behind) + 1 or behind
         yield start, end
         start = end
 
@@ -91,15 +94,18 @@ def _line_and_column(data, at):
 def place_of(data, word):
     """Line and column of the run's word with this number; of the text's end where there are fewer."""
     left = word
-    for start, end in _pieces(data):
-        here = len(_tokens(data, start, end))
-        if left < here:
-            for at, _ in _placed(data, start, end):
-                if left == 0:
-                    return _line_and_column(data, at)
-                left -= 1
-        left -= here
-    return _line_and_column(data, len(data))
+    start, behind = 0, len(data)
+    for size in (_PIECE, _PART):
+        for start, end in _pieces(data, start, behind, size):
+            here = len(_tokens(data, start, end))
+            if left < here:
+                behind = end
+                break
+            left -= here
+        else:
+            return _line_and_column(data, len(data))
+    at = next(islice(_placed(data, start, behind), left, None))[0]
+    return _line_and_column(data, at)
 
 
 def lines(data):

@@ -23,6 +23,7 @@ Nothing here judges: what is accepted and what is refused is the proved program'
 import sys
 from array import array
 from enum import Enum
+from functools import lru_cache
 from typing import NamedTuple, Optional
 
 from . import layouts
@@ -139,6 +140,8 @@ WITH_BYTES = {kind.number for kind in KINDS if kind.follows is Follows.BYTES}
 WITH_LAYOUT = {kind.number for kind in KINDS if kind.follows is Follows.LAYOUT}
 # The kinds that change what holds before the next request.
 STANDING = {NEW_CALL.number, END_CALL.number, EMPTY.number}
+# The kinds that words may follow.
+FOLLOWED = WITH_BYTES | WITH_LAYOUT
 
 
 # ---- bytes and words
@@ -222,20 +225,29 @@ def requests(run):
         at = end
 
 
+@lru_cache(maxsize=1)
 def request_at(run, index):
     """The request with this index, and what holds before it, if all before are accepted.
-    None for the request where the run has fewer."""
+    None for the request where the run has fewer. The last one is kept: a refusal is asked for twice."""
     words, rest = words_of(run)
     standing = Standing()
+    count = len(words)
     at = 0
     for _ in range(index):
-        end = _end(words, at)
-        if end > len(words):
+        behind = at + 4
+        if behind > count:
             return None, standing
-        if words[at] >> 28 in STANDING:
-            standing.follow(words[at], words[at + 3])
+        first = words[at]
+        number = first >> 28
+        end = behind
+        if number in FOLLOWED:
+            end += following_length(first, words[at + 3])
+            if end > count:
+                return None, standing
+        elif number in STANDING:
+            standing.follow(first, words[at + 3])
         at = end
-    if at >= len(words) and not rest:
+    if at >= count and not rest:
         return None, standing
     return _request(words, rest, index, at, _end(words, at)), standing
 
