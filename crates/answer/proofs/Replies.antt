@@ -1,4 +1,5 @@
 -- The code's answer for the definition's, case by case; and it stands for the definition's, whatever the data are.
+use Rattle.std.specs.Prelude as std
 use Prim.Native.Nat.{ℕ, zero, suc}
 use mathlib.Core.Path.{◌≡◌, refl}
 use mathlib.Core.List.{List}
@@ -6,7 +7,7 @@ use mathlib.Core.Option.{Option, none, some}
 use Rattle.definition.specs.Memory.{refused_with, leak_answer}
 use Rattle.pointer.specs.Pointer.{provenance_of}
 use Rattle.pointer.specs.declared.Provenance.{Provenance}
-use Rattle.pointer.specs.declared.Provenance.TheVariants.{None, Of}
+use Rattle.std.specs.Prelude.{None, Some}
 use Rattle.answer.specs.Answer.{answer_of, Gives, provenance_from, reply_to}
 use Rattle.answer.specs.Answer.Gives.{Nothing}
 use Rattle.answer.specs.declared.Answer.TheVariants.{Refused}
@@ -16,9 +17,9 @@ refused-reply gives zero z = absurd (z refl)
 refused-reply gives (suc n) z = refl
 
 -- a pointer of the code is the one of its provenance
-pub provenance-back : (t : Provenance) → t ≡ provenance_from (provenance_of t)
+pub provenance-back : (t : std.Option Provenance) → t ≡ provenance_from (provenance_of t)
 provenance-back None = refl
-provenance-back (Of allocation node) = refl
+provenance-back (Some t) = refl
 
 -- of a request that gives nothing
 pub plain-answers : (n : ℕ) (words : List ℕ) → answer_of (reply_to Nothing (refused_with n)) words ≡ refused_with n

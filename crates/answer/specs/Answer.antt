@@ -1,11 +1,12 @@
 -- The definition's answer, for every case of the code's; the loaded words are a part of the lent data.
+use Rattle.std.specs.Prelude as std
 use Rattle.std.specs.Prelude.{ℕ, zero, suc, ◌+◌, ◌*◌, min, ◌≡◌, List, length, take, drop}
 use Rattle.std.proofs.Math.Option.{Option, none, some}
 use Rattle.std.specs.Borrow.{Bor}
 use Rattle.definition.specs.Memory as definition
-use Rattle.pointer.specs.Pointer.{provenance_of}
+use Rattle.pointer.specs.Pointer.{via, provenance_of}
 use Rattle.pointer.specs.declared.Provenance.{Provenance}
-use Rattle.pointer.specs.declared.Provenance.TheVariants.{None, Of}
+use Rattle.std.specs.Prelude.{None}
 use Rattle.answer.specs.declared.Answer.{Answer}
 use Rattle.answer.specs.declared.Answer.TheVariants.{Refused, Leak, Accepted, Pointer, Words}
 
@@ -41,9 +42,9 @@ pub data Gives : Type 0 where
   ThePointer : Gives
   TheWords : ℕ → ℕ → Gives
 
-abbrev pub provenance_from : Option definition.Provenance → Provenance
+abbrev pub provenance_from : Option definition.Provenance → std.Option Provenance
 provenance_from none = None
-provenance_from (some t) = Of t.allocation t.node
+provenance_from (some t) = via t.allocation t.node
 
 abbrev pub given : Gives → definition.Answer → Answer
 given Nothing a = Accepted

@@ -3,10 +3,13 @@
 // What a request comes to. specs/Answer.antt gives the definition's answer for every case.
 ghost use Rattle.std.specs.Prelude.{◌≡◌, List, ℕ, min, length, take, drop};
 ghost use Rattle.definition.specs.Memory.{refused_with};
+ghost use Rattle.refusal.specs.Number.{number, refusal_of};
 ghost use Rattle.answer.specs.Answer.{answer_of, word_address, HandsOut, reply_to};
+ghost use Rattle.answer.specs.declared.Answer.TheVariants.{Refused};
 ghost use Rattle.answer.specs.Answer.Gives.{Nothing};
 
 use pointer::Provenance;
+use refusal::Refusal;
 
 #[derive(Clone, Copy)]
 pub enum Answer {
@@ -16,7 +19,7 @@ pub enum Answer {
     Leak(u32),
     Accepted,
     // what an allocation or a retag gives
-    Pointer(Provenance),
+    Pointer(Option<Provenance>),
     // what a load gives: a part of the lent data
     Words { start: usize, len: usize },
 }
@@ -28,37 +31,39 @@ impl Answer {
     {
         match self {
             Answer::Refused(n) => n,
-            Answer::Leak(_) => 25,
-            Answer::Accepted => 0,
-            Answer::Pointer(_) => 0,
-            Answer::Words { start: _, len: _ } => 0,
+            Answer::Leak(_) => Refusal::MemoryLeak.number(),
+            Answer::Accepted | Answer::Pointer(_) | Answer::Words { .. } => 0,
         }
     }
 }
 
-// The answer of a request that gives nothing: 0 is no refusal.
-pub fn refused_with(refusal: u8) -> Answer
-    ensures { result ≡ reply_to Nothing (refused_with refusal) }
-{
-    if refusal == 0 {
-        return Answer::Accepted;
+impl From<Refusal> for Answer {
+    ghost from_gives = { λ refusal answer. answer ≡ Refused (number refusal) };
+
+    fn from(refusal: Refusal) -> Self {
+        Answer::Refused(refusal.number())
     }
-    Answer::Refused(refusal)
+}
+
+// The answer of a request that gives nothing.
+impl From<Result<(), Refusal>> for Answer {
+    ghost from_gives = { λ outcome answer. answer ≡ reply_to Nothing (refused_with (refusal_of outcome)) };
+
+    fn from(outcome: Result<(), Refusal>) -> Self {
+        match outcome {
+            Ok(()) => Answer::Accepted,
+            Err(refusal) => Answer::from(refusal),
+        }
+    }
 }
 
 // ---- what is loaded
-fn smaller(a: usize, b: usize) -> usize
-    ensures { result ≡ min a b }
-{
-    if a < b { a } else { b }
-}
-
 // `len` words from `start` on, as far as there are any.
 fn words_at<'d>(words: &'d [u32], start: usize, len: usize) -> &'d [u32]
     ensures { (result.now ≡ take len (drop start words.now)) × (result.ref_ptr ≡ word_address words.entry (min start (length words.now))) }
 {
-    let from = smaller(start, words.len());
-    let end = from + smaller(len, words.len() - from);
+    let from = start.min(words.len());
+    let end = from + len.min(words.len() - from);
     &words[from..end]
 }
 
@@ -68,9 +73,6 @@ pub fn loaded_words<'d>(answer: Answer, words: &'d [u32]) -> &'d [u32]
 {
     match answer {
         Answer::Words { start, len } => words_at(words, start, len),
-        Answer::Refused(_) => words_at(words, 0, 0),
-        Answer::Leak(_) => words_at(words, 0, 0),
-        Answer::Accepted => words_at(words, 0, 0),
-        Answer::Pointer(_) => words_at(words, 0, 0),
+        _ => words_at(words, 0, 0),
     }
 }

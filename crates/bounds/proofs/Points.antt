@@ -1,21 +1,20 @@
 -- What the records say of a provenance, and of the allocation that a pointer points into; which of them is looked up.
-use Rattle.std.specs.Prelude.{if◌then◌else◌}
-use Prim.Native.Nat.{ℕ, ◌+◌, ◌*◌, ◌^◌, ◌≤◌, ◌<◌}
+use Prim.Native.Nat.{ℕ, ◌+◌, ◌*◌, ◌^◌, ◌<◌}
 use mathlib.Core.Path.{◌≡◌, refl, sym, ap, ◌∙◌}
 use mathlib.Core.Bool.{Bool, true, false, not, ◌&&◌}
 use mathlib.Core.List.{List}
 use mathlib.Core.Option.{Option, some}
 use native.Mathlib.Omega.{arith}
-use borrow.Author.Tests.{eq-eqb, ne_eqb, le-leb, lt-ltb, le-ltb, ltb-true, ltb-false, not-false}
+use borrow.Author.Tests.{eq-eqb, ne_eqb, le-leb, lt-ltb, ltb-true, ltb-false, not-false}
 use lib.Dec.{eqb, leb, ltb}
 use lib.ListN.{length, get_or}
 use Rattle.definition.specs.Notation.{◌when◌}
-use Rattle.definition.specs.Memory.{Provenance, ThinPointer, allocation_of, has_none, is_live, Allocation, size, kind_number, node_count, Memory, allocation_at, was_made, names_never_made, is_outside, check_ptr, target}
+use Rattle.definition.specs.Memory.{Provenance, ThinPointer, has_none, is_live, Allocation, size, kind_number, node_count, Memory, allocation_at, was_made, names_never_made, is_outside, check_ptr, target}
 use Rattle.definition.proofs.ValidMemory.{was-made}
 use Rattle.definition.proofs.Places.{valid-at}
-use Rattle.pointer.specs.Pointer.{provenance_of, thin_pointer_of}
+use Rattle.pointer.specs.Pointer.{via, provenance_of, thin_pointer_of}
 use Rattle.pointer.specs.declared.ThinPointer as pointer
-use Rattle.pointer.specs.declared.Provenance.TheVariants.{None, Of}
+use Rattle.std.specs.Prelude.{None}
 use Rattle.tables.specs.declared.Allocation as code
 use Rattle.tables.specs.Held.{Records}
 use Rattle.tables.proofs.Lookup.{state-at, live_state, kind_at, address-at, size-at, nodes-at, zero-behind, record_at}
@@ -30,9 +29,6 @@ module _ {m : Memory} {A : List ℕ} (h : Records m A) where
       go : (t : Bool) → ltb a (length m) ≡ t → leb (get_or A (a * 9 + 5) 0) n ≡ not (t && ltb n (node_count (allocation_at m a)))
       go true e = ap (λ (k : ℕ). leb k n) (nodes-at h a (ltb-true a (length m) e)) ∙ leb-ltb (node_count (allocation_at m a)) n
       go false e = ap (λ (k : ℕ). leb k n) (zero-behind h (a * 9 + 5) (omega (arith, ltb-false a (length m) e))) ∙ le-leb 0 n (omega arith)
-
-  pub never-past : (a n : ℕ) → 128 ≤ a → not (was_made m (record { allocation = a; node = n })) ≡ true
-  never-past a n l = rw (le-ltb a (length m) (omega (arith, h.valid.bounded.allocations)))
 
 -- ---- 7 to 9, in checking order
 module _ (x : Allocation) (p : ThinPointer) (back ahead : ℕ) where
@@ -81,14 +77,6 @@ module _ {m : Memory} {A : List ℕ} (h : Records m A) {a : ℕ} (made : a < len
   read-space = rw (read-address, read-size) (valid-at m a h.valid made).in_space
 
 -- ---- the record that is looked up
-pub place-small : (t : Option Provenance) → place_of t < 128
-unfolding place_of
-place-small t = go (ltb (allocation_of t) 128) refl
-  where
-    go : (b : Bool) → ltb (allocation_of t) 128 ≡ b → (if b then allocation_of t else 0) < 128
-    go true e = ltb-true (allocation_of t) 128 e
-    go false e = omega arith
-
 -- that of the allocation, where it was made
 pub target-record : {m : Memory} {A : List ℕ} → Records m A → (t : Provenance) → t.allocation < length m → target_in A (some t) ≡ record_at A t.allocation
 unfolding target_in place_of
@@ -115,10 +103,10 @@ unfolding target_in
 target-space h t q = rw q (space-at h (place_of t))
 
 -- ---- a pointer that has provenance
-module _ {m : Memory} {A : List ℕ} (p : pointer.ThinPointer) {a n : ℕ} (e : p.provenance ≡ Of a n) (h : Points m A (provenance_of p.provenance)) where
+module _ {m : Memory} {A : List ℕ} (p : pointer.ThinPointer) {a n : ℕ} (e : p.provenance ≡ via a n) (h : Points m A (provenance_of p.provenance)) where
   pub points-made : a < length m
   points-made =
-      let k : names_never_made m (provenance_of (Of a n)) ≡ false = rw e at h.made in
+      let k : names_never_made m (provenance_of (via a n)) ≡ false = rw e at h.made in
       (was-made m (record { allocation = a; node = n }) (not-false (was_made m (record { allocation = a; node = n })) k)).allocation
 
   pub points-read : {r : code.Allocation} → r ≡ target_in A (provenance_of p.provenance) → r ≡ record_at A a

@@ -28,15 +28,7 @@ leb-ltb a b = sym (rw (ltb-leb b a) (twice (leb a b)))
 
 -- ---- 15, bound by bound
 module _ (m : Memory) (more : Sizes) where
-  pub exceeds-allocations : 128 < length m + more.allocations → exceeds_bounds m more ≡ true
-  unfolding exceeds_bounds
-  exceeds-allocations h = rw (lt-ltb 128 (length m + more.allocations) h)
-
   module _ (a : length m + more.allocations ≤ 128) {w n c : ℕ} (u : Used m w n c) where
-    pub exceeds-words : 4096 < w + more.words → exceeds_bounds m more ≡ true
-    unfolding exceeds_bounds
-    exceeds-words h = rw (le-ltb 128 (length m + more.allocations) a, lt-ltb 4096 (sum_of size m + more.words) (omega (arith, u.words)))
-
     pub exceeds-nodes : w + more.words ≤ 4096 → 1024 < n + more.nodes → exceeds_bounds m more ≡ true
     unfolding exceeds_bounds
     exceeds-nodes k h =

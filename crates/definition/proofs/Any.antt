@@ -10,6 +10,7 @@ use lib.ListN.{length, get_or, drop, drop_of_length-le}
 use lib.Seq.{drop-cons}
 use Rattle.definition.specs.Notation.{map_from, any}
 use Rattle.definition.specs.Valid.{All}
+use Rattle.std.specs.List.{list_any}
 
 -- ---- a loop that looks for one: at i, among those from i on
 module _ {A : Type 0} (test : A → Bool) (d : A) (l : List A) (i : ℕ) where
@@ -80,3 +81,13 @@ pub any-each : {A : Type 0} (test : A → Bool) (f : ℕ → A → A) → ((n : 
 unfolding any map_from
 any-each test f h n [] = refl
 any-each test f h n (x ∷ xs) = ap₂ (λ (b c : Bool). if b then true else c) (h n x) (any-each test f h (suc n) xs)
+
+-- ---- the library's word for it, in which an iterator's `any` answers
+pub any_is_list_any : {A : Type 0} (test : A → Bool) (l : List A) → any test l ≡ list_any test l
+unfolding any
+any_is_list_any test [] = refl
+any_is_list_any test (x ∷ xs) = rw (any_is_list_any test xs) (by (test x))
+  where
+    by : (b : Bool) → (if b then true else list_any test xs) ≡ b || list_any test xs
+    by true = refl
+    by false = refl

@@ -1,13 +1,13 @@
 -- An end call: 4 for all entries, then the releases; and the five buffers, the answer and the frames afterwards.
 use Rattle.std.specs.Prelude.{if◌then◌else◌}
-use Prim.Native.Nat.{ℕ, zero, suc, ◌+◌, ◌-◌, ◌<◌}
+use Prim.Native.Nat.{ℕ, zero, suc, ◌+◌, ◌<◌}
 use mathlib.Core.Path.{◌≡◌, refl, sym, ap, subst, ◌∙◌}
 use mathlib.Core.Bool.{Bool, true, false, not}
-use mathlib.Core.List.{List, [], ◌∷◌, ◌++◌}
+use mathlib.Core.List.{List, [], ◌∷◌}
 use native.Mathlib.Omega.{arith}
 use borrow.Author.Tests.{ne_eqb}
 use lib.Dec.{eqb}
-use lib.ListN.{length, get_or, take, drop, set, replicate}
+use lib.ListN.{length, get_or, drop, set}
 use Rattle.definition.specs.Notation.{◌when◌, ◌or◌, any, mutate_at}
 use Rattle.definition.specs.Refusal.{never_made}
 use Rattle.definition.specs.Memory as definition
@@ -18,16 +18,13 @@ use Rattle.definition.specs.Valid.{All, Valid}
 use Rattle.definition.proofs.Alls.{if-holds, all-imp, none_pass}
 use Rattle.definition.proofs.Booleans.{not-not-false}
 use Rattle.definition.proofs.ValidMemory.{valid-release-all}
-use Rattle.definition.proofs.Parts.{fill-all}
 use Rattle.answer.specs.Answer.{answer_of}
 use Rattle.answer.specs.declared.Answer.{Answer}
 use Rattle.answer.proofs.Replies.{plain-answers}
 use Rattle.tables.specs.Encoding.{parents_of, words_of, held_records, held, encode}
 use Rattle.tables.specs.Held.{buffers, Holds}
 use Rattle.tables.proofs.ReadBack.{holds-allocs, holds-parents, holds-words, encode-of}
-use Rattle.frames.specs.Buffer.{entries_in, FitsEntry, HoldsFrames}
-use Rattle.frames.specs.List.{entries_of}
-use Rattle.frames.specs.declared.Entries.{Entries}
+use Rattle.frames.specs.Buffer.{FitsEntry, HoldsFrames}
 use Rattle.frames.proofs.FromValid.{made-fits}
 use Rattle.parts.specs.Trees.{HoldsMarked}
 use Rattle.end_call.specs.Release.{HoldsNodes, AllMade, unless_refused, ReleasedAll, after_end_call, Checked, Ended}
@@ -53,12 +50,6 @@ all_made m es n = all-imp (λ e. is_unmade m e ≡ false) (λ e. was_made m e �
 -- entries that were made have numbers
 pub all_fit : {m : Memory} (es : List Provenance) {A P R C : List ℕ} → HoldsMarked m A P R C → AllMade m es → All FitsEntry es
 all_fit {m} es h made = all-imp (λ e. was_made m e ≡ true) FitsEntry (λ e w. made-fits m e h.valid w) es made
-
--- the numbers that were written for a list, as a part that is lent
-pub written : (list : Entries) (numbers : List ℕ) → entries_in (take list.count numbers) ≡ entries_of list → entries_in (take (list.count - 0) numbers) ≡ entries_of list
-written list numbers e =
-    let z : list.count - 0 ≡ list.count = omega arith in
-    ap (λ (n : ℕ). entries_in (take n numbers)) z ∙ e
 
 none-unmade : (m : Memory) (es : List Provenance) → AllMade m es → any (is_unmade m) es ≡ false
 unfolding any
@@ -86,9 +77,6 @@ module _ {m : Memory} {es : List Provenance} {R C : List ℕ} where
 
 pub all-released : {m : Memory} {es : List Provenance} {answer : ℕ} {R C : List ℕ} → ReleasedAll m es answer R C → AllMade m es → Checked m es answer R C
 all-released {m} {es} k made = made-released (none-unmade m es made) k
-
-pub all-zero : (n : ℕ) (new old : List ℕ) → length old ≡ n → new ≡ replicate n 0 ++ drop n old → new ≡ replicate n 0
-all-zero n new old l e = e ∙ fill-all n 0 old (omega arith)
 
 -- ---- the five buffers
 module _ {m : Memory} {A P R W C : List ℕ} (h : Holds m (buffers A P R W C)) where

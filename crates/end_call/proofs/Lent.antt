@@ -6,19 +6,20 @@ use mathlib.Core.List.{List}
 use borrow.Rule.Slice.PartMut.{put_mid, put_same}
 use lib.Dec.{eqb}
 use lib.ListN.{length, take, drop}
-use Rattle.definition.specs.Memory.{Allocation, Liveness, Memory, Provenance, allocation_at, is_live}
+use Rattle.definition.specs.Memory.{Allocation, Liveness, Memory, Provenance, allocation_at, is_live, was_made}
 use Rattle.definition.specs.Memory.Liveness.{Live, Dead}
 use Rattle.definition.specs.Frame.{release_refusal_in, release_refusal, after_release_in, after_release}
 use Rattle.definition.proofs.Places.{valid-at}
+use Rattle.definition.proofs.ValidMemory.{was-made}
 use Rattle.definition.proofs.ValidTrees.{released-length}
 use Rattle.tables.specs.declared.Allocation as code
 use Rattle.tables.proofs.Lookup.{record_at}
 use Rattle.bounds.proofs.Points.{read_live, read-dead}
 use Rattle.tree.specs.Requests as tree
 use Rattle.parts.specs.declared.Parts.{Parts}
-use Rattle.parts.specs.Trees.{HoldsMarked, PartsOf, TreeAt}
+use Rattle.parts.specs.Trees.{HoldsMarked, parts_in, PartsOf, TreeAt}
 use Rattle.parts.proofs.Trees.{released-codes}
-use Rattle.parts.proofs.Lent.{records-of, trees-of, tree-at, codes-after, marks-after}
+use Rattle.parts.proofs.Lent.{records-of, trees-of, tree-at, parts-read, codes-after, marks-after}
 use Rattle.end_call.specs.Release.{Released}
 
 is_live_lem : (s : Liveness) → is_live s ≡ true → s ≡ Live
@@ -37,6 +38,11 @@ module _ {m : Memory} {A P R C : List ℕ} (h : HoldsMarked m A P R C) where
 
     pub found-dead : (a.state ≡ 1 → ⊥) → (allocation_at m n).state ≡ Dead
     found-dead t = is-dead (allocation_at m n).state (read-dead (records-of h) made q t)
+
+  -- an entry that was made: its allocation's parts lie where the record says
+  pub entry-tree : (e : Provenance) → was_made m e ≡ true → {a : code.Allocation} → a ≡ record_at A e.allocation → {r : Parts} → r ≡ parts_in a → TreeAt m e.allocation P C r
+  entry-tree e w read is =
+      tree-at (trees-of h) (subst (λ (r : Parts). PartsOf m e.allocation r) (sym is) (parts-read (records-of h) (was-made m e w).allocation read))
 
   module _ (e : Provenance) {r : Parts} (t : PartsOf m e.allocation r) where
     abbrev x : Allocation

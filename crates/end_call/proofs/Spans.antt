@@ -1,16 +1,15 @@
 -- Between which allocations the entries of a list are, and how the marks and codes of these are put back after a refusal: the others stayed
 -- as they were.
 use Rattle.std.specs.Prelude.{if◌then◌else◌}
-use Prim.Native.Nat.{ℕ, ◌+◌, ◌-◌, ◌*◌, ◌/◌, ◌≤◌, ◌<◌}
+use Prim.Native.Nat.{ℕ, min, max, ◌+◌, ◌-◌, ◌*◌, ◌/◌, ◌≤◌, ◌<◌}
 use mathlib.Core.Path.{◌≡◌, refl, sym, ap, ap₂, subst, ◌∙◌}
 use mathlib.Core.Bool.{Bool, true, false}
-use mathlib.Core.List.{List, [], ◌∷◌, ◌++◌, append_assoc, append-nil}
+use mathlib.Core.List.{List, [], ◌∷◌, ◌++◌, append_assoc}
 use native.Mathlib.Numerals.{add-one}
 use native.Mathlib.Omega.{arith}
 use borrow.Author.Tests.{ne_eqb}
-use borrow.Rule.Slice.PartMut.{put_mid, Post-is}
 use lib.Dec.{eqb}
-use lib.ListN.{length, get_or, take, drop, replicate, length-append, length-drop, take-append-drop, drop_of_length-le}
+use lib.ListN.{length, get_or, take, drop, replicate, length-append, length-drop, take-append-drop}
 use lib.Seq.{length-take-le, take_at, drop_at, take-suc, take-add, take-length, drop-drop}
 use Rattle.definition.specs.Memory.{Allocation, Memory, Provenance, was_made}
 use Rattle.definition.specs.Frame.{release_refusal, after_release_in, after_release, release_all_refusal, after_release_all}
@@ -37,26 +36,30 @@ pub record Ranged (numbers : List ℕ) (i least greatest : ℕ) : Type 0 where
   pub among : All (λ w. (least ≤ w) × (w ≤ greatest)) (take i numbers)
   pub one : (n : ℕ) → All (λ w. w < n) numbers → greatest < n
 
-pub ranged-first : (numbers : List ℕ) → 0 < length numbers → Ranged numbers 1 (get_or numbers 0 0) (get_or numbers 0 0)
+pub ranged-first : (numbers : List ℕ) → 0 < length numbers → Ranged numbers 0 (get_or numbers 0 0) (get_or numbers 0 0)
 ranged-first numbers h = record {
   ordered = omega arith;
-  among = rw (take-suc numbers 0 0 h) ((omega arith, omega arith), tt);
+  among = tt;
   one = λ n below. all-at (λ w. w < n) numbers 0 0 below h;
 }
 
-pub ranged-more : (numbers : List ℕ) (i least greatest l g : ℕ) → i < length numbers → Ranged numbers i least greatest
-    → (l ≤ least) × (l ≤ get_or numbers i 0)
-    → (greatest ≤ g) × ((get_or numbers i 0 ≤ g) × ((n : ℕ) → greatest < n → get_or numbers i 0 < n → g < n))
-    → Ranged numbers (i + 1) l g
-ranged-more numbers i least greatest l g h r low high = record {
-  ordered = omega (arith, low.1, high.1.0);
-  among =
-      rw (add-one, take-suc numbers i 0 h)
-      (all_append (λ w. (l ≤ w) × (w ≤ g)) (take i numbers) (get_or numbers i 0 ∷ [])
-      (all-imp (λ w. (least ≤ w) × (w ≤ greatest)) (λ w. (l ≤ w) × (w ≤ g)) (λ w b. (omega (arith, b.0, low.0), omega (arith, b.1, high.0))) (take i numbers) r.among)
-      ((low.1, high.1.0), tt));
-  one = λ n below. high.1.1 n (r.one n below) (all-at (λ w. w < n) numbers i 0 below h);
-}
+pub ranged-more : (numbers : List ℕ) (i least greatest : ℕ) → i < length numbers → Ranged numbers i least greatest
+    → Ranged numbers (i + 1) (min least (get_or numbers i 0)) (max greatest (get_or numbers i 0))
+ranged-more numbers i least greatest h r =
+    let x = get_or numbers i 0 in
+    let l : ℕ = min least x in
+    let g : ℕ = max greatest x in
+    let low : (w : ℕ) → least ≤ w → min least x ≤ w = λ w e. omega arith in
+    let high : (w : ℕ) → w ≤ greatest → w ≤ max greatest x = λ w e. omega arith in
+    record {
+      ordered = omega (arith, r.ordered);
+      among =
+          rw (add-one, take-suc numbers i 0 h)
+          (all_append (λ w. (l ≤ w) × (w ≤ g)) (take i numbers) (x ∷ [])
+          (all-imp (λ w. (least ≤ w) × (w ≤ greatest)) (λ w. (l ≤ w) × (w ≤ g)) (λ w b. (low w b.0, high w b.1)) (take i numbers) r.among)
+          ((omega arith, omega arith), tt));
+      one = λ n below. omega (arith, r.one n below, all-at (λ w. w < n) numbers i 0 below h);
+    }
 
 among_in : (l g : ℕ) (numbers : List ℕ) → All (λ w. (l ≤ w) × (w ≤ g)) numbers → All (λ e. (l / 4096 ≤ e.allocation) × (e.allocation < g / 4096 + 1)) (entries_in numbers)
 among_in l g [] a = tt
@@ -151,22 +154,6 @@ module _ (total : ℕ) (f : Allocation → List ℕ) where
         ∙ sym (ap (drop n) (held-split m a) ∙ drop_at (concat_map f (take a m)) (rest m a) n (sym here))
 
 -- ---- a part is saved before some other numbers, and put back
--- as a callee leaves it that was lent the part of dst
-pub put-part : (start end : ℕ) (dst saved : List ℕ) → start ≤ end → end ≤ length dst → end - start ≤ length saved
-    → {new : List ℕ} → new ≡ take (end - start - 0) saved ++ drop (length (take (end - start - 0) saved)) (take (end - start) (drop start dst))
-    → put_mid start (end - start) dst new ≡ take start dst ++ (take (end - start) saved ++ drop end dst)
-put-part start end dst saved h fits enough {new} e =
-    let n : ℕ = end - start in
-    let z : end - start - 0 ≡ n = omega arith in
-    let long : length (take n saved) ≡ n = length-take-le n saved enough in
-    let short : length (take n (drop start dst)) ≤ n = omega (arith, length-take-le n (drop start dst) (simp length-drop (omega arith))) in
-    let is : new ≡ take n saved =
-    e ∙ ap (λ (k : ℕ). take k saved ++ drop (length (take k saved)) (take n (drop start dst))) z
-    ∙ ap (λ (k : ℕ). take n saved ++ drop k (take n (drop start dst))) long
-    ∙ ap (λ (x : List ℕ). take n saved ++ x) (drop_of_length-le (take n (drop start dst)) short) ∙ append-nil (take n saved)
-    in
-    ap (put_mid start n dst) is ∙ ap (λ (x : List ℕ). take start dst ++ (take n saved ++ x)) (Post-is start end dst h)
-
 restored : (start end : ℕ) (before now others : List ℕ) → start ≤ end → end ≤ length before → take start now ≡ take start before → drop end now ≡ drop end before
     → {saved new : List ℕ} → saved ≡ take (end - start) (drop start before) ++ others → new ≡ take start now ++ (take (end - start) saved ++ drop end now) → new ≡ before
 restored start end before now others h fits front back {saved} {new} is put =

@@ -1,15 +1,13 @@
 -- The 65 numbers of one frame: the frame is told by them, and what they are when it is opened, closed and gets an entry more.
-use Prim.Native.Nat.{ℕ, suc, ◌+◌, ◌-◌, ◌*◌, ◌/◌, ◌%◌, ◌<◌, ◌≤◌}
+use Prim.Native.Nat.{ℕ, suc, ◌+◌, ◌-◌, ◌*◌, ◌/◌, ◌%◌, ◌<◌}
 use mathlib.Core.Path.{◌≡◌, refl, sym, ap, ap₂, ◌∙◌}
-use mathlib.Core.Logic.{◌≢◌}
 use mathlib.Core.Bool.{false, not, false≢true}
 use mathlib.Core.List.{List, [], ◌∷◌, ◌++◌, map, map-append}
-use native.Mathlib.Numerals.{add-one}
 use native.Mathlib.Omega.{arith}
 use borrow.Author.Tests.{ne_eqb}
 use lib.Dec.{eqb}
 use lib.ListN.{length, get_or, take, drop, set, replicate, length-append, length-map, length-replicate, replicate-append-replicate, get_or-map}
-use lib.Seq.{set_at, append_snoc, take_at, take-suc, take-suc-set}
+use lib.Seq.{set_at, append_snoc, take_at}
 use Rattle.definition.specs.Memory.{Provenance}
 use Rattle.definition.specs.Frame.{Frame, is_open, entries}
 use Rattle.definition.specs.Frame.Frame.{Closed, Open}
@@ -47,14 +45,6 @@ number_at numbers i e is = ap provenance_of is ∙ sym (get_or-map (λ (w : ℕ)
 pub numbers-count : (numbers : List ℕ) → length (entries_in numbers) ≡ length numbers
 numbers-count numbers = length-map numbers (λ (w : ℕ). provenance_of (entry_in w))
 
--- one entry more is written as a number
-pub number_more : (numbers : List ℕ) (es : List Provenance) (i : ℕ) (e d : Provenance) → i < length numbers → i < length es → e ≡ get_or es i d → FitsEntry e
-    → entries_in (take i numbers) ≡ take i es → entries_in (take (i + 1) (set numbers i (entry_number e))) ≡ take (i + 1) es
-number_more numbers es i e d h k q fits same =
-    rw (add-one, take-suc-set numbers i (entry_number e) h, take-suc es i d k)
-    (map-append (λ (w : ℕ). provenance_of (entry_in w)) (take i numbers) (entry_number e ∷ [])
-    ∙ ap₂ (λ (l : List Provenance) (x : Provenance). l ++ (x ∷ [])) same (entry-back e fits ∙ q))
-
 -- ---- two frames with the same numbers are equal
 pub frame_same : (f g : Frame) → FitsFrame f → FitsFrame g → frame_numbers f ≡ frame_numbers g → f ≡ g
 unfolding frame_numbers
@@ -73,17 +63,9 @@ pub head-open : (x : Frame) → not (eqb (head_number x) 0) ≡ is_open x
 head-open Closed = refl
 head-open (Open es) = rw (ne_eqb (suc (length es)) 0 (λ e. omega arith))
 
-pub head-none : (x : Frame) → head_number x ≡ 0 → ◌≡◌ {A = ℕ} 0 (length (entries x))
-head-none Closed e = refl
-head-none (Open es) e = absurd (omega arith)
-
-pub head-some : (x : Frame) → head_number x ≢ 0 → head_number x - 1 ≡ length (entries x)
-head-some Closed n = absurd (n refl)
-head-some (Open es) n = omega arith
-
-pub head-bound : (x : Frame) → FitsFrame x → head_number x ≤ 65
-head-bound Closed fits = omega arith
-head-bound (Open es) fits = omega (arith, fits.room)
+pub head-count : (x : Frame) → head_number x - 1 ≡ length (entries x)
+head-count Closed = refl
+head-count (Open es) = omega arith
 
 -- ---- opened, closed, and with an entry more
 pub opened-numbers : (x : Frame) → is_open x ≡ false → set (frame_numbers x) 0 1 ≡ frame_numbers (Open [])

@@ -18,7 +18,7 @@ pub struct Entry {
     pub node: u32,
 }
 
-// A list of entries by value: the first `count` of 64.
+// A list of entries by value: the first `count` of 64. An array with its length beside it, as there is no heap.
 #[derive(Clone, Copy)]
 pub struct Entries {
     pub list: [Entry; 64],
@@ -26,28 +26,6 @@ pub struct Entries {
 }
 
 // ---- by value
-// 64 places without an entry.
-fn blank() -> [Entry; 64]
-    ensures { result ≡ replicate 64 no_entry }
-{
-    let e = Entry {
-        allocation: 0,
-        node: 0,
-    };
-    [e; 64]
-}
-
-// The same list with an entry at a place; past the last one nothing is put in.
-fn with_entry(list: [Entry; 64], i: usize, e: Entry) -> [Entry; 64]
-    ensures { result ≡ set list i e }
-{
-    let mut out = list;
-    if i < 64 {
-        out[i] = e;
-    }
-    out
-}
-
 // The entry at a place of the list.
 pub fn entry_at(entries: Entries, i: usize) -> Entry
     requires { (i < entries.count) × (entries.count ≤ 64) }
@@ -61,14 +39,12 @@ pub fn entry_at(entries: Entries, i: usize) -> Entry
 pub fn load(entries: &[Entry]) -> [Entry; 64]
     ensures { result ≡ loaded entries.now }
 {
-    let mut list = blank();
-    let mut i = 0;
-    while i < entries.len() {
-        let e = entries[i];
-        let next = with_entry(list, i, e);
-        list = next;
-        i = i + 1;
-    }
+    let mut list = [Entry {
+        allocation: 0,
+        node: 0,
+    }; 64];
+    let count = entries.len().min(64);
+    list[..count].copy_from_slice(&entries[..count]);
     list
 }
 
@@ -76,23 +52,23 @@ pub fn load(entries: &[Entry]) -> [Entry; 64]
 pub fn put_if(entries: &mut [Entry], i: usize, e: Entry)
     ensures { entries.new ≡ set entries.old i e }
 {
+    // By `get_mut` the proof did not close: nothing is known of a slice's elements once that borrow is over.
     if i < entries.len() {
         entries[i] = e;
     }
 }
 
 // ---- the frames of a run, in one buffer (specs/Buffer.antt). Frame f has the 65 numbers from f * 65 on.
+// `HoldsFrames` stays a clause of each: callers lend the buffer as a slice, and these public signatures may not change.
 // An entry as one number.
 fn entry_number(e: Entry) -> u32
     requires { FitsEntry (provenance_of e) }
     ensures { result ≡ entry_number (provenance_of e) }
 {
-    let allocation = e.allocation;
-    let node = e.node;
-    allocation * 4096 + node
+    e.allocation * 4096 + e.node
 }
 
-// The entry that a number stands for.
+// The entry that a number stands for. `end_call` has it by this name and clause, so it stays a function and no `From`.
 pub fn entry_in(number: u32) -> Entry
     ensures { result ≡ entry_in number }
 {
@@ -107,13 +83,9 @@ pub fn numbers_of(list: Entries) -> [u32; 64]
     requires { (list.count ≤ 64) × All FitsEntry (entries_of list) }
     ensures { entries_in (take list.count result) ≡ entries_of list }
 {
-    let count = list.count;
-    let mut numbers = [0u32; 64];
-    let mut i = 0;
-    while i < count {
-        let e = entry_at(list, i);
-        numbers[i] = entry_number(e);
-        i = i + 1;
+    let mut numbers = [0; 64];
+    for i in 0..list.count {
+        numbers[i] = entry_number(entry_at(list, i));
     }
     numbers
 }
@@ -122,11 +94,7 @@ pub fn numbers_of(list: Entries) -> [u32; 64]
 pub fn fill_zero(part: &mut [u32])
     ensures { part.new ≡ replicate (length part.old) 0 }
 {
-    let mut k = 0;
-    while k < part.len() {
-        part[k] = 0;
-        k = k + 1;
-    }
+    part.fill(0);
 }
 
 // No frame is open.
@@ -152,11 +120,7 @@ pub fn entry_count(frames: &[u32], f: usize) -> usize
     requires f_bound { f < 32 }
     ensures { (fs : List Frame) → HoldsFrames fs frames.now → result ≡ length (entries_at fs f) }
 {
-    let head = frames[f * 65];
-    if head == 0 {
-        return 0;
-    }
-    (head - 1) as usize
+    frames[f * 65].saturating_sub(1) as usize
 }
 
 // The numbers of a frame's entries.
@@ -165,9 +129,8 @@ pub fn frame_numbers(frames: &[u32], f: usize) -> &[u32]
     requires f_bound { f < 32 }
     ensures { (fs : List Frame) → HoldsFrames fs frames.now → entries_in result.now ≡ entries_at fs f }
 {
-    let count = entry_count(frames, f);
     let start = f * 65 + 1;
-    let end = start + count;
+    let end = start + entry_count(frames, f);
     &frames[start..end]
 }
 

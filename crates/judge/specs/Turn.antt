@@ -3,10 +3,8 @@ use Rattle.std.specs.Prelude.{ℕ, ◌+◌, ◌-◌, min, ◌≡◌, Bool, not, 
 use Rattle.definition.specs.Memory.{Answer}
 use Rattle.definition.specs.Run.{RunState, turn}
 use Rattle.definition.specs.Output.{answer_line}
-use Rattle.tables.specs.Encoding.{Buffers}
-use Rattle.pointer.specs.declared.width.Width.{Width}
-use Rattle.pointer.specs.Width.{width_of}
-use Rattle.state.specs.State.{HoldsRun}
+use Rattle.state.specs.Run.{Holds}
+use Rattle.state.specs.declared.RunState as code
 use Rattle.report.specs.Written.{WrittenInside}
 use Rattle.stream.specs.Stream.{request_size, next_request}
 use Rattle.judge.specs.declared.Advance.{Advance}
@@ -21,16 +19,16 @@ pub record LineWritten (index : ℕ) (a : Answer) (before : List ℕ) (at : ℕ)
   pub told : refused ≡ not (eqb a.refusal 0)
 
 -- the request ws from the run r
-pub record Turned (r : RunState) (ws : List ℕ) (index : ℕ) (before : List ℕ) (at : ℕ) (after : List ℕ) (end : ℕ) (refused : Bool) (width : Width) (b : Buffers) (F : List ℕ) : Type 0 where
-  pub holds : HoldsRun (turn r ws).1 b F (width_of width)
+pub record Turned (r : RunState) (ws : List ℕ) (index : ℕ) (before : List ℕ) (at : ℕ) (after : List ℕ) (end : ℕ) (refused : Bool) (run : code.RunState) : Type 0 where
+  pub holds : Holds (turn r ws).1 run
   pub line : LineWritten index (turn r ws).0 before at after end refused
 
 -- where the request that starts at `from` ends
 abbrev pub request_end : List ℕ → ℕ → ℕ
-request_end run from = from + min (request_size (drop from run)) (length run - from)
+request_end bytes from = from + min (request_size (drop from bytes)) (length bytes - from)
 
 -- the next request of a run, from p to r
-pub record Taken (state : RunState) (run : List ℕ) (p : Advance) (before : List ℕ) (r : Advance) (after : List ℕ) (b : Buffers) (F : List ℕ) : Type 0 where
-  pub turned : Turned state (next_request (drop p.from run)) p.index before p.at after r.at r.refused r.width b F
-  pub from : r.from ≡ request_end run p.from
+pub record Taken (state : RunState) (bytes : List ℕ) (p : Advance) (before : List ℕ) (r : Advance) (after : List ℕ) (run : code.RunState) : Type 0 where
+  pub turned : Turned state (next_request (drop p.from bytes)) p.index before p.at after r.at r.refused run
+  pub from : r.from ≡ request_end bytes p.from
   pub index : r.index ≡ p.index + 1

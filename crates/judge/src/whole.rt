@@ -1,108 +1,84 @@
 // A whole run at hand, and the text of its verdict.
-ghost use Rattle.std.specs.Prelude.{ℕ, ◌+◌, List, ◌≡◌, true, false, leb, length};
-ghost use Rattle.definition.specs.Frame.{empty};
-ghost use Rattle.tables.specs.Held.{buffers};
-ghost use Rattle.state.specs.State.{HoldsState};
+ghost use Rattle.std.specs.Prelude.{◌+◌, ◌≡◌, true, false, leb, length};
+ghost use Rattle.definition.specs.Run.{start};
 ghost use Rattle.state.specs.Lengths.{have_lengths};
+ghost use Rattle.state.specs.Run.{memory_of, Holds, SameBuffers};
 ghost use Rattle.judge.specs.Whole.{goes_on, PerformingIn, JudgedAs};
 
-use crate::{Advance, Judged};
+use crate::{Advance, TooLong};
 use pointer::width::Width;
+use state::RunState;
 
 fn has_room(at: usize, more: usize, room: usize) -> bool
     ensures { result ≡ leb (at + more) room }
 {
-    if room < at {
-        return false;
-    }
-    more <= room - at
+    // the sum could wrap
+    at <= room && more <= room - at
 }
 
 // There is a request left, and room for its line.
 fn goes_on(p: Advance, bytes: usize, room: usize) -> bool
     ensures { result ≡ goes_on p bytes room }
 {
-    !p.refused & (p.from < bytes) & has_room(p.at, 36992, room)
+    !p.refused && p.from < bytes && has_room(p.at, 36992, room)
 }
 
 // All requests, up to the first that is refused.
-fn answer_all(
-    allocs: &mut [u64],
-    parents: &mut [u16],
-    protectors: &mut [u8],
-    words: &mut [u32],
-    codes: &mut [u8],
-    frames: &mut [u32],
-    run: &[u8],
-    request: &mut [u32],
-    out: &mut [u8],
-) -> Advance
-    requires holds_state { HoldsState empty (buffers allocs.old parents.old protectors.old words.old codes.old) frames.old }
-    requires request_len { length request.old ≡ 4100 }
-    ensures performing_in { PerformingIn run.now result out.new
-        (buffers allocs.new parents.new protectors.new words.new codes.new) frames.new }
-    ensures out_after { goes_on result (length run.now) (length out.new) ≡ false }
+fn answer_all(run: &mut RunState, bytes: &[u8], request: &mut [u32], out: &mut [u8]) -> Advance
+    requires holds { Holds start run.old }
+    requires request_words { length request.old ≡ 4100 }
+    ensures performing { PerformingIn bytes.now result out.new run.new }
+    ensures over { goes_on result (length bytes.now) (length out.new) ≡ false }
+    ensures same { SameBuffers run.old run.new }
 {
     let mut p = Advance {
         from: 0,
         at: 0,
         index: 0,
         refused: false,
-        width: Width::Bits64,
     };
-    while goes_on(p, run.len(), out.len()) {
-        let from = p.from;
-        let cut = stream::next_cut(&run[from..]);
-        p = crate::turn::next(
-            allocs, parents, protectors, words, codes, frames, run, request, out, p, cut,
-        );
+    while goes_on(p, bytes.len(), out.len()) {
+        let cut = stream::next_cut(&bytes[p.from..]);
+        p = crate::turn::next(run, bytes, request, out, p, cut);
     }
     p
 }
 
 // The lines of the memory, behind those of the answers.
-fn finish(
-    allocs: &[u64],
-    parents: &[u16],
-    protectors: &[u8],
-    words: &[u32],
-    codes: &[u8],
-    run: &[u8],
-    out: &mut [u8],
-    p: Advance,
-) -> Judged
-    requires by_index { (F : List ℕ) × PerformingIn run.now p out.old (buffers allocs.now parents.now protectors.now words.now codes.now) F }
-    requires out_value { goes_on p (length run.now) (length out.old) ≡ false }
-    ensures { JudgedAs run.now out.old result out.new }
+fn finish(run: &RunState, bytes: &[u8], out: &mut [u8], p: Advance) -> Result<usize, TooLong>
+    requires performing { PerformingIn bytes.now p out.old run.now }
+    requires over { goes_on p (length bytes.now) (length out.old) ≡ false }
+    ensures { JudgedAs bytes.now out.old result out.new }
 {
-    let at = p.at;
-    if (!p.refused & (p.from < run.len())) | !has_room(at, 0x28000, out.len()) {
-        return Judged::TooLong;
+    if (!p.refused && p.from < bytes.len()) || !has_room(p.at, 0x28000, out.len()) {
+        return Err(TooLong);
     }
-    Judged::Text(report::allocations::memory_lines(
-        out, at, allocs, parents, protectors, words, codes,
+    Ok(report::allocations::memory_lines(
+        out,
+        p.at,
+        run.allocs,
+        run.parents,
+        run.protectors,
+        run.words,
+        run.codes,
     ))
 }
 
-// The verdict of a run: what the program prints of it. The buffers may have any contents.
+// The verdict of a run: what the program prints of it. The buffers and the width may be any.
 pub fn judge(
-    allocs: &mut [u64],
-    parents: &mut [u16],
-    protectors: &mut [u8],
-    words: &mut [u32],
-    codes: &mut [u8],
-    frames: &mut [u32],
-    run: &[u8],
+    run: &mut RunState,
+    bytes: &[u8],
     request: &mut [u32],
     out: &mut [u8],
-) -> Judged
-    requires frames_value { have_lengths (buffers allocs.old parents.old protectors.old words.old codes.old) frames.old ≡ true }
-    requires request_len { length request.old ≡ 4100 }
-    ensures { JudgedAs run.now out.old result out.new }
+) -> Result<usize, TooLong>
+    requires lengths { have_lengths (memory_of run.old) run.old.frames.now ≡ true }
+    requires request_words { length request.old ≡ 4100 }
+    ensures judged { JudgedAs bytes.now out.old result out.new }
+    ensures lengths { have_lengths (memory_of run.new) run.new.frames.now ≡ true }
+    ensures same { SameBuffers run.old run.new }
 {
-    state::clear(allocs, parents, protectors, words, codes, frames);
-    let p = answer_all(
-        allocs, parents, protectors, words, codes, frames, run, request, out,
-    );
-    finish(allocs, parents, protectors, words, codes, run, out, p)
+    run.width = Width::Bits64;
+    run.clear();
+    let p = answer_all(run, bytes, request, out);
+    finish(run, bytes, out, p)
 }

@@ -13,8 +13,9 @@ use Rattle.definition.specs.Layout.{FreezeMask, UnsafeCell, LayoutStrategy, Poin
 use Rattle.definition.specs.Layout.LayoutStrategy.{Sized, Slice, TraitObject, Tuple}
 use Rattle.definition.specs.Layout.PointerMeta.{NoMetadata, ElementCount, VTablePointer}
 use Rattle.definition.proofs.Lists.{table-length}
-use Rattle.layout.specs.declared.Mask.{Mask}
-use Rattle.layout.specs.declared.Mask.TheVariants.{WrongLength}
+use Rattle.std.specs.Prelude.{Err, ok_or}
+use Rattle.layout.specs.declared.MaskError.TheVariants.{NoMask, WrongLength}
+use Rattle.std.specs.Prelude as code
 use Rattle.layout.specs.Filled.{tail_mask, fitting, Fills, answered, afterwards}
 use Rattle.layout.proofs.Words.{nested}
 
@@ -77,13 +78,13 @@ mask-bounded (w ∷ ws) = rw (nested 8 (pointer_meta w) ws) (header-bounded (poi
 
 -- ---- what the public function promises: of a buffer of another length, and of one of 4,096 bytes
 module _ (ws buffer : List ℕ) where
-  pub wrong-length : (length buffer ≡ 4096 → ⊥) → (WrongLength ≡ answered ws buffer) × (buffer ≡ afterwards ws buffer)
+  pub wrong-length : (length buffer ≡ 4096 → ⊥) → (Err WrongLength ≡ answered ws buffer) × (buffer ≡ afterwards ws buffer)
   unfolding answered afterwards
   wrong-length n = (rw (ne_eqb (length buffer) 4096 n), rw (ne_eqb (length buffer) 4096 n))
 
-  pub right-length : (r : Mask) (after : List ℕ) → length buffer ≡ 4096 → Fills (freeze_mask ws) buffer r after
-      → (r ≡ answered ws buffer) × (after ≡ afterwards ws buffer)
+  pub right-length : (r : code.Option ℕ) (after : List ℕ) → length buffer ≡ 4096 → Fills (freeze_mask ws) buffer r after
+      → (ok_or r NoMask ≡ answered ws buffer) × (after ≡ afterwards ws buffer)
   unfolding answered afterwards
   right-length r after e f =
       let room : fitting (length buffer) (freeze_mask ws) ≡ freeze_mask ws = rw e (mask-bounded ws) in
-      (rw (eq-eqb (length buffer) 4096 e, ← room) f.answer, rw (eq-eqb (length buffer) 4096 e, ← room) f.contents)
+      (rw (eq-eqb (length buffer) 4096 e, ← room, f.answer) refl, rw (eq-eqb (length buffer) 4096 e, ← room) f.contents)

@@ -1,6 +1,6 @@
 -- Cells: the test that they fit, cell by cell, and a mask that is filled by ones and cleared cell by cell.
-use Prim.Native.Nat.{ℕ, suc, ◌+◌, ◌-◌, ◌%◌, ◌≤◌, ◌<◌}
-use mathlib.Core.Path.{◌≡◌, sym, ap, ◌∙◌}
+use Prim.Native.Nat.{ℕ, zero, suc, ◌+◌, ◌-◌, ◌%◌, ◌≤◌, ◌<◌}
+use mathlib.Core.Path.{◌≡◌, refl, sym, ap, ◌∙◌}
 use mathlib.Core.Bool.{Bool, true, false}
 use mathlib.Core.List.{List, [], ◌∷◌, ◌++◌, map, map-append}
 use native.Mathlib.Nat.{zero-add, add-mod_right, mod-eq_of_lt, mod-lt}
@@ -8,13 +8,15 @@ use native.Mathlib.Numerals.{add-one}
 use native.Mathlib.Decide.{dec_lt}
 use native.Mathlib.Omega.{arith}
 use lib.Dec.{leb}
-use lib.ListN.{length, get_or, take, drop, set, replicate, length-replicate, get_or-replicate, drop_of_length-le, get_or-append}
+use lib.ListN.{length, get_or, take, drop, set, replicate, length-replicate, get_or-replicate, drop_of_length-le, get_or-append, length-drop, take-append-drop}
 use lib.Seq.{drop-cons, take-suc, get_or-take, length-take-le, get_or-set_same, get_or-set_other}
 use borrow.Author.Tests.{le-leb, lt-leb}
+use borrow.Rule.Slice.PartMut.{put_mid}
+use Rattle.std.specs.Prelude.{min}
 use Rattle.definition.specs.Notation.{table, write_at, any, in_range}
 use Rattle.definition.specs.Layout.{UnsafeCell, unsafe_cell, cells_fit, is_freeze}
 use Rattle.definition.proofs.Lists.{table-length, table_at, table-map, is-table}
-use Rattle.definition.proofs.Writes.{write-none, write-length, write-set, before-write, within-write, behind-write}
+use Rattle.definition.proofs.Writes.{write-past, write-length, before-write, within-write, behind-write}
 use Rattle.definition.proofs.Any.{any-more}
 use Rattle.definition.proofs.Ranges.{within-range, below-range, behind-range}
 use Rattle.layout.specs.Filled.{mask_byte, mask_bytes}
@@ -35,16 +37,37 @@ pub fits-end : (end size : ℕ) (ws : List ℕ) (i : ℕ) → length ws ≤ i �
 unfolding cells_fit
 fits-end end size ws i h = rw (drop_of_length-le ws h)
 
--- ---- one byte painted up to an end
-module _ {A : Type 0} (v : A) (end : ℕ) where
-  pub paint-here : (i : ℕ) (xs : List A) → i < end
-      → write_at i (replicate (end - i) v) xs ≡ write_at (i + 1) (replicate (end - (i + 1)) v) (set xs i v)
-  paint-here i xs h =
-      let e : end - i ≡ suc (end - (i + 1)) = omega arith in
-      rw (e, add-one i) (write-set i v (replicate (end - suc i) v) xs)
+-- ---- one byte written to each place of a run, as far as the list goes: `put_mid` at the run's clipped bounds
+module _ {A : Type 0} (v : A) where
+  written-at : (o : ℕ) (ys xs : List A) → o ≤ length xs → write_at o ys xs ≡ take o xs ++ write_at 0 ys (drop o xs)
+  unfolding write_at
+  written-at zero ys xs h = refl
+  written-at (suc o) ys [] h = absurd (omega arith)
+  written-at (suc o) ys (x ∷ xs) h = ap (λ (l : List A). x ∷ l) (written-at o ys xs (omega arith))
 
-  pub paint-end : (i : ℕ) (xs : List A) → end ≤ i → write_at i (replicate (end - i) v) xs ≡ xs
-  paint-end i xs h = let e : end - i ≡ 0 = omega arith in rw e (write-none i xs)
+  written-run : (n k : ℕ) (xs : List A) → k ≤ n → k ≤ length xs → (k < n → k ≡ length xs) → write_at 0 (replicate n v) xs ≡ replicate k v ++ drop k xs
+  unfolding write_at
+  written-run n zero [] h l e = refl
+  written-run n (suc k) [] h l e = absurd (omega arith)
+  written-run zero zero (x ∷ xs) h l e = refl
+  written-run zero (suc k) (x ∷ xs) h l e = absurd (omega arith)
+  written-run (suc n) zero (x ∷ xs) h l e = let z : ◌≡◌ {A = ℕ} 0 (suc (length xs)) = e (omega arith) in absurd (omega arith)
+  written-run (suc n) (suc k) (x ∷ xs) h l e =
+      ap (λ (l : List A). v ∷ l) (written-run n k xs (omega arith) (omega arith) (λ m. let s : suc k ≡ suc (length xs) = e (omega arith) in omega arith))
+
+  pub run-written : (o n start end : ℕ) (xs : List A) → start ≡ min o (length xs) → end ≡ min (start + n) (length xs)
+      → put_mid start (end - start) xs (replicate (end - start) v) ≡ write_at o (replicate n v) xs
+  run-written o n start end xs s e =
+      elim (dec_lt o (length xs)) [
+        | yes h ↦
+            let k : start ≡ o = omega arith in
+            sym (rw (← k) (written-at start (replicate n v) xs (omega arith)
+            ∙ ap (λ (l : List A). take start xs ++ l)
+            (written-run n (end - start) (drop start xs) (omega arith) (omega (arith, length-drop start xs)) (λ m. omega (arith, length-drop start xs)))))
+        | no h ↦
+            let k : end - start ≡ 0 = omega arith in
+            rw (k, write-past o (replicate n v) xs (omega arith)) (take-append-drop start xs)
+      ]
 
 -- ---- a mask of cells
 module _ (cs : List UnsafeCell) (c : UnsafeCell) (b : ℕ) where
@@ -70,27 +93,16 @@ is-mask : (n : ℕ) (f : ℕ → Bool) (l : List ℕ) → length l ≡ n → ((b
 is-mask n f l e h = rw (mask-table n f) (is-table (λ b. mask_byte (f b)) n l 0 e h)
 
 -- without cells all are ones
-pub all_ones : (n : ℕ) (xs : List ℕ) → length xs ≡ n → write_at 0 (replicate (n - 0) 1) xs ≡ mask_bytes (table n (is_freeze []))
+pub all_ones : (n : ℕ) → replicate n 1 ≡ mask_bytes (table n (is_freeze []))
 unfolding is_freeze any
-all_ones n xs e =
-    let k : n - 0 ≡ n = omega arith in
-    rw k
-    (is-mask n (is_freeze []) (write_at 0 (replicate n 1) xs) (write-length 0 (replicate n 1) xs ∙ e)
-    (λ b h. one b h))
-  where
-    one : (b : ℕ) → b < n → get_or (write_at 0 (replicate n 1) xs) b 0 ≡ 1
-    one b h =
-        let w : get_or (write_at 0 (replicate n 1) xs) (0 + b) 0 ≡ get_or (replicate n 1) b 0 = within-write 0 (replicate n 1) xs b 0 (simp length-replicate h) (omega arith) in
-        (rw zero-add at w) ∙ get_or-replicate n b 1 0 h
+all_ones n = is-mask n (is_freeze []) (replicate n 1) (length-replicate n 1) (λ b h. get_or-replicate n b 1 0 h)
 
 -- one cell more is cleared
-pub one_cell : (n : ℕ) (cs : List UnsafeCell) (c : UnsafeCell)
-    → write_at c.offset (replicate (c.offset + c.size - c.offset) 0) (mask_bytes (table n (is_freeze cs))) ≡ mask_bytes (table n (is_freeze (cs ++ (c ∷ []))))
+one_cell : (n : ℕ) (cs : List UnsafeCell) (c : UnsafeCell)
+    → write_at c.offset (replicate c.size 0) (mask_bytes (table n (is_freeze cs))) ≡ mask_bytes (table n (is_freeze (cs ++ (c ∷ []))))
 one_cell n cs c =
-    let k : c.offset + c.size - c.offset ≡ c.size = omega arith in
-    rw k
-    (is-mask n (is_freeze (cs ++ (c ∷ []))) (write_at c.offset zeros old) (write-length c.offset zeros old ∙ mask-length n (is_freeze cs))
-    (λ b h. elim (dec_lt b c.offset) [ yes l ↦ below b h l | no l ↦ elim (dec_lt b (c.offset + c.size)) [ yes m ↦ within b h (omega arith) m | no m ↦ behind b h (omega arith) ] ]))
+    is-mask n (is_freeze (cs ++ (c ∷ []))) (write_at c.offset zeros old) (write-length c.offset zeros old ∙ mask-length n (is_freeze cs))
+    (λ b h. elim (dec_lt b c.offset) [ yes l ↦ below b h l | no l ↦ elim (dec_lt b (c.offset + c.size)) [ yes m ↦ within b h (omega arith) m | no m ↦ behind b h (omega arith) ] ])
   where
     zeros : List ℕ
     zeros = replicate c.size 0
@@ -114,15 +126,13 @@ one_cell n cs c =
         rw (cell_in cs c b (within-range c.offset c.size b l m)) ((rw j at w) ∙ get_or-replicate c.size (b - c.offset) 0 0 k)
 
 -- cell i, by its word
-pub next-cell : (n : ℕ) (ws : List ℕ) (i start len : ℕ) (mask : List ℕ) → i < length ws
+pub next-cell : (n : ℕ) (ws : List ℕ) (i : ℕ) (mask : List ℕ) → i < length ws
     → mask ≡ mask_bytes (table n (is_freeze (map unsafe_cell (take i ws))))
-    → start ≡ (unsafe_cell (get_or ws i 0)).offset
-    → len ≡ (unsafe_cell (get_or ws i 0)).size
-    → write_at start (replicate (start + len - start) 0) mask ≡ mask_bytes (table n (is_freeze (map unsafe_cell (take (i + 1) ws))))
-next-cell n ws i start len mask h m s l =
+    → write_at (unsafe_cell (get_or ws i 0)).offset (replicate (unsafe_cell (get_or ws i 0)).size 0) mask ≡ mask_bytes (table n (is_freeze (map unsafe_cell (take (i + 1) ws))))
+next-cell n ws i mask h m =
     let next : map unsafe_cell (take (i + 1) ws) ≡ map unsafe_cell (take i ws) ++ (unsafe_cell (get_or ws i 0) ∷ []) =
     rw (add-one i, take-suc ws i 0 h) (map-append unsafe_cell (take i ws) (get_or ws i 0 ∷ [])) in
-    rw (m, s, l, next) (one_cell n (map unsafe_cell (take i ws)) (unsafe_cell (get_or ws i 0)))
+    rw (m, next) (one_cell n (map unsafe_cell (take i ws)) (unsafe_cell (get_or ws i 0)))
 
 -- ---- the first elements, repeated
 pub repeat-start : (size b : ℕ) (xs : List ℕ) → b < size → get_or xs b 0 ≡ get_or xs (b % size) 0

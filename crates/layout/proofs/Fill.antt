@@ -13,8 +13,8 @@ use Rattle.definition.specs.Notation.{table_from, table, write_at}
 use Rattle.definition.specs.Layout.{FreezeMask, UnsafeCell, is_freeze, bounded_mask, sized_mask, tuple_mask}
 use Rattle.definition.proofs.Lists.{table-length}
 use Rattle.definition.proofs.Writes.{write-none, write-parts}
-use Rattle.layout.specs.declared.Mask.{Mask}
-use Rattle.layout.specs.declared.Mask.TheVariants.{Of, None, WrongLength}
+use Rattle.std.specs.Prelude.{Some, None}
+use Rattle.std.specs.Prelude as code
 use Rattle.layout.specs.Filled.{mask_byte, mask_bytes, fitting, Fills}
 use Rattle.layout.proofs.Lists.{drop-behind}
 use Rattle.layout.proofs.Cells.{mask-length, elements}
@@ -28,17 +28,17 @@ fit_none n m true h = rw (lt-leb (length m) n h)
 fit_none n m false h = refl
 
 fills-some : (wanted : Option FreezeMask) (before after : List ℕ) (m : FreezeMask) (k : ℕ)
-    → fitting (length before) wanted ≡ some m → k ≡ length m → after ≡ write_at 0 (mask_bytes m) before → Fills wanted before (Of k) after
-fills-some wanted before after m k e l h = record { answer = rw e (ap Of l); contents = rw e h }
+    → fitting (length before) wanted ≡ some m → k ≡ length m → after ≡ write_at 0 (mask_bytes m) before → Fills wanted before (Some k) after
+fills-some wanted before after m k e l h = record { answer = rw e (ap Some l); contents = rw e h }
 
 fills-none : (wanted : Option FreezeMask) (before after : List ℕ) → fitting (length before) wanted ≡ none → after ≡ before → Fills wanted before None after
 fills-none wanted before after e h = record { answer = rw e; contents = rw e h }
 
 -- what is wanted, said otherwise
-pub instead : {v w : Option FreezeMask} {before after : List ℕ} {r : Mask} → w ≡ v → Fills v before r after → Fills w before r after
+pub instead : {v w : Option FreezeMask} {before after : List ℕ} {r : code.Option ℕ} → w ≡ v → Fills v before r after → Fills w before r after
 instead e h = rw e h
 
-pub restated : {w : Option FreezeMask} {before before' after after' : List ℕ} {r r' : Mask} → before ≡ before' → r ≡ r' → after ≡ after'
+pub restated : {w : Option FreezeMask} {before before' after after' : List ℕ} {r r' : code.Option ℕ} → before ≡ before' → r ≡ r' → after ≡ after'
     → Fills w before r after → Fills w before' r' after'
 restated b e a h = rw (← b, ← e, ← a) h
 
@@ -70,7 +70,7 @@ module _ (before : List ℕ) (bound : length before ≤ 4096) (size : ℕ) (f : 
       (fit_none (length before) (table size f) (leb size 4096) (rw (table-length f 0 size) h))
       refl
 
-  pub room : (after : List ℕ) → size ≤ length before → after ≡ mask_bytes (table size f) ++ drop size before → Fills (bounded_mask size f) before (Of size) after
+  pub room : (after : List ℕ) → size ≤ length before → after ≡ mask_bytes (table size f) ++ drop size before → Fills (bounded_mask size f) before (Some size) after
   room after h e =
       fills-some (bounded_mask size f) before after (table size f) size
       (fit-some (length before) (table size f) (leb size 4096) (le-leb size 4096 (omega arith)) (rw (table-length f 0 size) h))
@@ -78,16 +78,16 @@ module _ (before : List ℕ) (bound : length before ≤ 4096) (size : ℕ) (f : 
       (e ∙ (ap (λ (k : ℕ). mask_bytes (table size f) ++ drop k before) (sym (table-length f 0 size))
       ∙ written (table size f) before (rw (table-length f 0 size) h)))
 
-  pub no_bytes : size ≡ 0 → Fills (bounded_mask size f) before (Of 0) before
+  pub no_bytes : size ≡ 0 → Fills (bounded_mask size f) before (Some 0) before
   unfolding mask_bytes table_from
-  no_bytes e = subst (λ (k : ℕ). Fills (bounded_mask size f) before (Of k) before) e (room before (omega arith) (rw e))
+  no_bytes e = subst (λ (k : ℕ). Fills (bounded_mask size f) before (Some k) before) e (room before (omega arith) (rw e))
 
 -- ---- so many elements: the first is filled, and repeated
 module _ (before : List ℕ) (bound : length before ≤ 4096) (size total : ℕ) (cs : List UnsafeCell) where
   pub repeated : (first all : List ℕ) → 0 < size → size ≤ total → total ≤ length before
       → first ≡ mask_bytes (table size (is_freeze cs))
       → all ≡ table (length (take total (first ++ drop size before))) (λ b. get_or (take total (first ++ drop size before)) (b % size) 0)
-      → Fills (bounded_mask total (λ b. is_freeze cs (b % size))) before (Of total) (all ++ drop total (first ++ drop size before))
+      → Fills (bounded_mask total (λ b. is_freeze cs (b % size))) before (Some total) (all ++ drop total (first ++ drop size before))
   repeated first all p l h e a =
       let one : length first ≡ size = ap length e ∙ mask-length size (is_freeze cs) in
       let whole : length (first ++ drop size before) ≡ length before = simp (length-append, length-drop) (omega arith) in
@@ -108,11 +108,11 @@ fitting-some n (some k) t e = go (leb (length k) n) refl e
     go false l e = let s : none ≡ some t = rw l at e in let z : ◌≡◌ {A = ℕ} 0 1 = cc in absurd (omega arith)
 
 -- what a filled tail tells: a mask that fits, with its length and contents; or none
-data Outcome (tail : Option FreezeMask) (before : List ℕ) : Mask → List ℕ → Type 0 where
-  has : (t : FreezeMask) → tail ≡ some t → length t ≤ length before → Outcome tail before (Of (length t)) (write_at 0 (mask_bytes t) before)
+data Outcome (tail : Option FreezeMask) (before : List ℕ) : code.Option ℕ → List ℕ → Type 0 where
+  has : (t : FreezeMask) → tail ≡ some t → length t ≤ length before → Outcome tail before (Some (length t)) (write_at 0 (mask_bytes t) before)
   lacks : fitting (length before) tail ≡ none → Outcome tail before None before
 
-outcome : (tail : Option FreezeMask) (before : List ℕ) (r : Mask) (after : List ℕ) → Fills tail before r after → Outcome tail before r after
+outcome : (tail : Option FreezeMask) (before : List ℕ) (r : code.Option ℕ) (after : List ℕ) → Fills tail before r after → Outcome tail before r after
 outcome tail before r after h = go (fitting (length before) tail) refl
   where
     go : (x : Option FreezeMask) → fitting (length before) tail ≡ x → Outcome tail before r after
@@ -146,7 +146,7 @@ module _ (before : List ℕ) (size : ℕ) (cs : List UnsafeCell) where
     pub tail-over : (after : List ℕ) → Fills tail (drop size before) None after → Fills (tuple_mask (sized_mask size cs) tail) before None (take size before ++ after)
     tail-over after f = go refl (outcome tail (drop size before) None after f)
       where
-        go : {r : Mask} {after : List ℕ} → r ≡ None → Outcome tail (drop size before) r after → Fills (tuple_mask (sized_mask size cs) tail) before None (take size before ++ after)
+        go : {r : code.Option ℕ} {after : List ℕ} → r ≡ None → Outcome tail (drop size before) r after → Fills (tuple_mask (sized_mask size cs) tail) before None (take size before ++ after)
         go n (has t s l) = let z : ◌≡◌ {A = ℕ} 0 1 = cc in absurd (omega arith)
         go n (lacks e) =
             fills-none (tuple_mask (sized_mask size cs) tail) before (take size before ++ drop size before)
@@ -160,15 +160,15 @@ module _ (before : List ℕ) (size : ℕ) (cs : List UnsafeCell) where
                 by true l = let s : some t ≡ none = rw l at e in let z : ◌≡◌ {A = ℕ} 0 1 = cc in absurd (omega arith)
                 by false l = omega (arith, leb-false (length t) (length (drop size before)) l, length-drop size before, table-length (is_freeze cs) 0 size)
 
-    pub tail-filled : (len : ℕ) (after : List ℕ) → length before ≤ 4096 → Fills tail (drop size before) (Of len) after
-        → Fills (tuple_mask (sized_mask size cs) tail) before (Of (size + len)) (mask_bytes (table size (is_freeze cs)) ++ after)
-    tail-filled len after bound f = go refl (outcome tail (drop size before) (Of len) after f)
+    pub tail-filled : (len : ℕ) (after : List ℕ) → length before ≤ 4096 → Fills tail (drop size before) (Some len) after
+        → Fills (tuple_mask (sized_mask size cs) tail) before (Some (size + len)) (mask_bytes (table size (is_freeze cs)) ++ after)
+    tail-filled len after bound f = go refl (outcome tail (drop size before) (Some len) after f)
       where
         head : FreezeMask
         head = table size (is_freeze cs)
 
-        go : {r : Mask} {after : List ℕ} → r ≡ Of len → Outcome tail (drop size before) r after
-            → Fills (tuple_mask (sized_mask size cs) tail) before (Of (size + len)) (mask_bytes head ++ after)
+        go : {r : code.Option ℕ} {after : List ℕ} → r ≡ Some len → Outcome tail (drop size before) r after
+            → Fills (tuple_mask (sized_mask size cs) tail) before (Some (size + len)) (mask_bytes head ++ after)
         go e (lacks l) = let z : ◌≡◌ {A = ℕ} 0 1 = cc in absurd (omega arith)
         go e (has t s l) =
             let k : length t ≡ len = cc in
@@ -178,18 +178,3 @@ module _ (before : List ℕ) (size : ℕ) (cs : List UnsafeCell) where
             (rw (s, le-leb size 4096 (omega arith)) (fit-some (length before) (head ++ t) (leb (length head + length t) 4096) (le-leb (length head + length t) 4096 (omega arith)) (rw (length-append head t) (omega arith))))
             (rw (length-append head t) (omega arith))
             (rw (bytes-append head t) (sym (write-parts (mask_bytes head) (mask_bytes t) before (omega (arith, bytes-length head)) ∙ rw (bytes-length head, size_of))))
-
-pub length-within : (wanted : Option FreezeMask) (before after : List ℕ) (len : ℕ) → Fills wanted before (Of len) after → len ≤ length before
-length-within wanted before after len f = go refl (outcome wanted before (Of len) after f)
-  where
-    go : {r : Mask} {after : List ℕ} → r ≡ Of len → Outcome wanted before r after → len ≤ length before
-    go e (has t s l) = let k : length t ≡ len = cc in omega arith
-    go e (lacks l) = let z : ◌≡◌ {A = ℕ} 0 1 = cc in absurd (omega arith)
-
--- an answer is never that the buffer has a wrong length
-pub never-wrong : (wanted : Option FreezeMask) (before after : List ℕ) → Fills wanted before WrongLength after → ⊥
-never-wrong wanted before after f = go refl (outcome wanted before WrongLength after f)
-  where
-    go : {r : Mask} {after : List ℕ} → r ≡ WrongLength → Outcome wanted before r after → ⊥
-    go e (has t s l) = let z : ◌≡◌ {A = ℕ} 0 1 = cc in omega arith
-    go e (lacks l) = let z : ◌≡◌ {A = ℕ} 0 1 = cc in omega arith

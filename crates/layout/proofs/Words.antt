@@ -2,21 +2,20 @@
 use Rattle.std.specs.Prelude.{if◌then◌else◌}
 use Prim.Native.Nat.{ℕ, zero, suc, ◌-◌, ◌≤◌, ◌<◌}
 use mathlib.Core.Path.{◌≡◌, refl, sym, ap, ap₂, ◌∙◌}
-use mathlib.Core.Bool.{Bool, true, false, not, ◌&&◌, ◌||◌, false≢true}
+use mathlib.Core.Bool.{Bool, true, false, not, ◌&&◌, ◌||◌}
 use mathlib.Core.Option.{Option, none, some}
 use mathlib.Core.List.{List, [], ◌∷◌, map}
 use native.Mathlib.Omega.{arith}
 use lib.Dec.{leb}
 use lib.ListN.{length, get_or, take, drop, length-drop, drop_of_length-le}
 use lib.Seq.{take_all}
-use borrow.Author.Tests.{leb-true}
 use Rattle.definition.specs.Layout.{FreezeMask, UnsafeCell, LayoutStrategy, Header, PointerMeta, unsafe_cell, cells_fit, header, pointer_meta, sized_mask, tuple_mask, layout_mask, header_mask, nested_mask, freeze_mask}
 use Rattle.definition.specs.Layout.LayoutStrategy.{Sized, Slice, TraitObject, Tuple}
-use Rattle.definition.proofs.Booleans.{and_left, ltb-leb}
+use Rattle.definition.proofs.Booleans.{ltb-leb}
 use Rattle.definition.proofs.Parts.{part-rest}
 use Rattle.layout.specs.declared.Header as code
 use Rattle.layout.specs.declared.LayoutStrategy as layout
-use Rattle.layout.specs.Filled.{layout_of, header_of, is_tuple, has_cells, last_mask, tail_mask}
+use Rattle.layout.specs.Filled.{layout_of, header_of, has_cells, last_mask, tail_mask}
 
 pub no_words : (ws : List ℕ) → length ws ≡ 0 → freeze_mask ws ≡ none
 unfolding freeze_mask
@@ -72,39 +71,26 @@ module _ (tuples : ℕ) (meta : PointerMeta) where
     pub bad-header : r ≡ false → nested_mask tuples meta ws ≡ none
     bad-header f = here ∙ rw f
 
-    pub tuple-header : r ≡ true → is_tuple (layout_of h.layout) ≡ true
+    pub tuple-header : r ≡ true → h.layout ≡ layout.TheVariants.Tuple
         → nested_mask tuples meta ws
         ≡ tuple_mask (sized_mask h.size (map unsafe_cell (take h.cells rest))) (tail_mask tuples meta (take (length rest - h.cells) (drop h.cells rest)))
-    tuple-header f t =
-        here
-        ∙ rw (f, part-rest h.cells rest) (go (layout_of h.layout) t)
-      where
-        go : (l : LayoutStrategy) → is_tuple l ≡ true
-            → layout_mask meta (tail_mask tuples meta) (record { layout = l; cells = h.cells; size = h.size }) (map unsafe_cell (take h.cells rest)) (drop h.cells rest)
-            ≡ tuple_mask (sized_mask h.size (map unsafe_cell (take h.cells rest))) (tail_mask tuples meta (drop h.cells rest))
-        go Sized t = absurd (false≢true t)
-        go Slice t = absurd (false≢true t)
-        go TraitObject t = absurd (false≢true t)
-        go Tuple t = refl
+    tuple-header f t = here ∙ rw (f, part-rest h.cells rest, t)
 
-    pub last-header : r ≡ true → is_tuple (layout_of h.layout) ≡ false → nested_mask tuples meta ws ≡ last_mask (header_of h) meta rest
-    last-header f t = here ∙ rw f (go (layout_of h.layout) t)
+    pub last-header : r ≡ true → (h.layout ≡ layout.TheVariants.Tuple → ⊥) → nested_mask tuples meta ws ≡ last_mask (header_of h) meta rest
+    last-header f t = here ∙ rw f (go h.layout t)
       where
-        go : (l : LayoutStrategy) → is_tuple l ≡ false
-            → layout_mask meta (tail_mask tuples meta) (record { layout = l; cells = h.cells; size = h.size }) (map unsafe_cell (take h.cells rest)) (drop h.cells rest)
-            ≡ last_mask (record { layout = l; cells = h.cells; size = h.size }) meta rest
-        go Sized t = refl
-        go Slice t = refl
-        go TraitObject t = refl
-        go Tuple t = absurd (false≢true (sym t))
+        go : (l : layout.LayoutStrategy) → (l ≡ layout.TheVariants.Tuple → ⊥)
+            → layout_mask meta (tail_mask tuples meta) (record { layout = layout_of l; cells = h.cells; size = h.size }) (map unsafe_cell (take h.cells rest)) (drop h.cells rest)
+            ≡ last_mask (record { layout = layout_of l; cells = h.cells; size = h.size }) meta rest
+        go layout.TheVariants.Sized t = refl
+        go layout.TheVariants.Slice t = refl
+        go layout.TheVariants.TraitObject t = refl
+        go layout.TheVariants.Tuple t = absurd (t refl)
 
 -- a tuple's tail, where a tuple may still stand
 pub tail-mask : (tuples : ℕ) (meta : PointerMeta) (ws : List ℕ) → (tuples ≡ 0 → ⊥) → tail_mask tuples meta ws ≡ nested_mask (tuples - 1) meta ws
 tail-mask zero meta ws n = absurd (n refl)
 tail-mask (suc tuples) meta ws n = let e : suc tuples - 1 ≡ tuples = omega arith in rw e
-
-pub cells-within : (cells size : ℕ) (rest : List ℕ) → has_cells cells size rest ≡ true → cells ≤ length rest
-cells-within cells size rest e = leb-true cells (length rest) (and_left (leb cells (length rest)) (cells_fit 0 size (map unsafe_cell (take cells rest))) e)
 
 none_tail : (m : Option FreezeMask) → tuple_mask m none ≡ none
 none_tail none = refl

@@ -1,5 +1,6 @@
 -- What the code's values are in the definition, and how a lent buffer holds a mask.
-use Rattle.std.specs.Prelude.{ℕ, zero, suc, ◌≡◌, Bool, true, false, ◌&&◌, List, map, eqb, leb, length, take, drop, if◌then◌else◌}
+use Rattle.std.specs.Prelude.{ℕ, zero, suc, ◌≡◌, Bool, true, false, ◌&&◌, List, map, eqb, leb, length, take, drop, if◌then◌else◌, Some, None, Result, Err, ok_or}
+use Rattle.std.specs.Prelude as std
 use Rattle.std.proofs.Math.Option.{Option, none, some}
 use Rattle.definition.specs.Notation.{write_at}
 use Rattle.definition.specs.Layout as definition
@@ -7,10 +8,11 @@ use Rattle.definition.specs.Layout.{FreezeMask, UnsafeCell, unsafe_cell, cells_f
 use Rattle.layout.specs.declared.LayoutStrategy.{LayoutStrategy}
 use Rattle.layout.specs.declared.LayoutStrategy.TheVariants.{Sized, Slice, TraitObject, Tuple}
 use Rattle.layout.specs.declared.Header.{Header}
+use Rattle.layout.specs.declared.UnsafeCell as code
 use Rattle.layout.specs.declared.PointerMeta.{PointerMeta}
 use Rattle.layout.specs.declared.PointerMeta.TheVariants.{NoMetadata, ElementCount, VTablePointer}
-use Rattle.layout.specs.declared.Mask.{Mask}
-use Rattle.layout.specs.declared.Mask.TheVariants.{Of, None, WrongLength}
+use Rattle.layout.specs.declared.MaskError.{MaskError}
+use Rattle.layout.specs.declared.MaskError.TheVariants.{NoMask, WrongLength}
 
 abbrev pub layout_of : LayoutStrategy → definition.LayoutStrategy
 layout_of Sized = definition.LayoutStrategy.Sized
@@ -20,6 +22,9 @@ layout_of Tuple = definition.LayoutStrategy.Tuple
 
 abbrev pub header_of : Header → definition.Header
 header_of h = record { layout = layout_of h.layout; cells = h.cells; size = h.size }
+
+abbrev pub cell_of : code.UnsafeCell → UnsafeCell
+cell_of c = record { offset = c.offset; size = c.size }
 
 abbrev pub meta_of : PointerMeta → definition.PointerMeta
 meta_of NoMetadata = definition.PointerMeta.NoMetadata
@@ -39,9 +44,10 @@ abbrev pub fitting : ℕ → Option FreezeMask → Option FreezeMask
 fitting room none = none
 fitting room (some mask) = if leb (length mask) room then some mask else none
 
-abbrev pub length_of : Option FreezeMask → Mask
+-- the bytes of a mask, if there is one
+abbrev pub length_of : Option FreezeMask → std.Option ℕ
 length_of none = None
-length_of (some mask) = Of (length mask)
+length_of (some mask) = Some (length mask)
 
 -- the buffer with the mask at its start, and as before behind the mask; without one it is as before
 abbrev pub filled : Option FreezeMask → List ℕ → List ℕ
@@ -49,17 +55,11 @@ filled none buffer = buffer
 filled (some mask) buffer = write_at 0 (mask_bytes mask) buffer
 
 -- a wanted mask is filled into a buffer that has room for it
-pub record Fills (wanted : Option FreezeMask) (before : List ℕ) (r : Mask) (after : List ℕ) : Type 0 where
+pub record Fills (wanted : Option FreezeMask) (before : List ℕ) (r : std.Option ℕ) (after : List ℕ) : Type 0 where
   pub answer : r ≡ length_of (fitting (length before) wanted)
   pub contents : after ≡ filled (fitting (length before) wanted) before
 
 -- ---- masks by their layout
-abbrev pub is_tuple : definition.LayoutStrategy → Bool
-is_tuple definition.LayoutStrategy.Sized = false
-is_tuple definition.LayoutStrategy.Slice = false
-is_tuple definition.LayoutStrategy.TraitObject = false
-is_tuple definition.LayoutStrategy.Tuple = true
-
 -- of a slice that has an element count
 abbrev pub elements_mask : ℕ → ℕ → List UnsafeCell → Option FreezeMask
 elements_mask count size cells = slice_mask (definition.PointerMeta.ElementCount count) size cells
@@ -78,8 +78,8 @@ tail_mask zero meta ws = none
 tail_mask (suc tuples) meta ws = nested_mask tuples meta ws
 
 -- ---- the public function: what it answers, and what the buffer then holds
-unfoldable pub answered : List ℕ → List ℕ → Mask
-answered words buffer = if eqb (length buffer) mask_bound then length_of (freeze_mask words) else WrongLength
+unfoldable pub answered : List ℕ → List ℕ → Result ℕ MaskError
+answered words buffer = if eqb (length buffer) mask_bound then ok_or (length_of (freeze_mask words)) NoMask else Err WrongLength
 
 unfoldable pub afterwards : List ℕ → List ℕ → List ℕ
 afterwards words buffer = if eqb (length buffer) mask_bound then filled (freeze_mask words) buffer else buffer

@@ -3,4 +3,3 @@ pub mod Fine
 pub mod Performed
 pub mod Again
 pub mod Loads
-pub mod Blank

@@ -8,6 +8,7 @@ ghost use Rattle.library.specs.Fields.{bad_allocation};
 ghost use Rattle.library.specs.Entry.{Served};
 
 use answer::Answer;
+use refusal::Refusal;
 
 // Create a new allocation at a proposed address. The kinds: "0 Stack, 1 Heap, 2 Global, 3 Function, 4 VTable"; the alignment is 2 to the exponent.
 pub fn allocate(
@@ -28,10 +29,10 @@ pub fn allocate(
         (buffers allocs.new parents.now protectors.now words.now codes.new) }
 {
     if !wellformed::at_width::well_formed_at(allocs, parents, protectors, words, codes, width) {
-        return Answer::Refused(1);
+        return Answer::from(Refusal::NotWellFormed);
     }
     if crate::fields::bad_allocation(width, kind, exponent, address) {
-        return Answer::Refused(2);
+        return Answer::from(Refusal::Malformed);
     }
     memory::allocate::allocate(
         allocs,

@@ -9,6 +9,7 @@ ghost use Rattle.library.specs.Entry.{Served};
 
 use answer::Answer;
 use pointer::ThinPointer;
+use refusal::Refusal;
 
 // Remove an allocation: kind, size and alignment are those that it was made with.
 pub fn deallocate(
@@ -29,10 +30,10 @@ pub fn deallocate(
         (buffers allocs.new parents.now protectors.now words.now codes.new) }
 {
     if !wellformed::at_width::well_formed_at(allocs, parents, protectors, words, codes, width) {
-        return Answer::Refused(1);
+        return Answer::from(Refusal::NotWellFormed);
     }
     if crate::fields::bad_allocation(width, kind, exponent, p.addr) {
-        return Answer::Refused(2);
+        return Answer::from(Refusal::Malformed);
     }
     memory::deallocate::deallocate(allocs, parents, protectors, codes, p, kind, len, exponent)
 }

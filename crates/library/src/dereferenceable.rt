@@ -8,6 +8,7 @@ ghost use Rattle.library.specs.Entry.{Served};
 
 use answer::Answer;
 use pointer::ThinPointer;
+use refusal::Refusal;
 
 // Test whether the given pointer is dereferenceable for the given size.
 pub fn dereferenceable(
@@ -26,10 +27,10 @@ pub fn dereferenceable(
         (buffers allocs.now parents.now protectors.now words.now codes.now) }
 {
     if !wellformed::at_width::well_formed_at(allocs, parents, protectors, words, codes, width) {
-        return Answer::Refused(1);
+        return Answer::from(Refusal::NotWellFormed);
     }
     if crate::fields::bad_address(width, p.addr) {
-        return Answer::Refused(2);
+        return Answer::from(Refusal::Malformed);
     }
     bounds::dereferenceable(allocs, p, len)
 }
@@ -51,10 +52,10 @@ pub fn signed_dereferenceable(
         (buffers allocs.now parents.now protectors.now words.now codes.now) }
 {
     if !wellformed::at_width::well_formed_at(allocs, parents, protectors, words, codes, width) {
-        return Answer::Refused(1);
+        return Answer::from(Refusal::NotWellFormed);
     }
     if crate::fields::bad_address(width, p.addr) {
-        return Answer::Refused(2);
+        return Answer::from(Refusal::Malformed);
     }
     bounds::signed_dereferenceable(allocs, p, len)
 }

@@ -5,6 +5,7 @@ ghost use Rattle.library.specs.Fields.{bad_exponent, bad_address, bad_allocation
 ghost use Rattle.library.specs.Entry.{malformed_answer};
 
 use answer::Answer;
+use refusal::Refusal;
 
 pub(crate) fn bad_exponent(exponent: u64) -> bool
     ensures { result ≡ bad_exponent exponent }
@@ -16,48 +17,36 @@ pub(crate) fn bad_exponent(exponent: u64) -> bool
 pub(crate) fn bad_address(width: u64, address: u64) -> bool
     ensures { result ≡ bad_address width address }
 {
-    let width = pointer::width::width_at(width);
-    width.is_too_high(address)
+    pointer::width::width_at(width).is_too_high(address)
 }
 
 // Of an allocation and a deallocation.
+#[tactic(auto, unfolding(crate::specs::Fields::bad_allocation))]
 pub(crate) fn bad_allocation(width: u64, kind: u64, exponent: u64, address: u64) -> bool
     ensures { result ≡ bad_allocation width kind exponent address }
 {
-    if bad_exponent(exponent) {
-        return true;
-    }
-    if kind > 4 {
-        return true;
-    }
-    bad_address(width, address)
+    bad_exponent(exponent) || kind > 4 || bad_address(width, address)
 }
 
+#[tactic(auto, unfolding(crate::specs::Fields::bad_load))]
 pub(crate) fn bad_load(width: u64, exponent: u64, address: u64) -> bool
     ensures { result ≡ bad_load width exponent address }
 {
-    if bad_exponent(exponent) {
-        return true;
-    }
-    bad_address(width, address)
+    bad_exponent(exponent) || bad_address(width, address)
 }
 
+#[tactic(auto, unfolding(crate::specs::Fields::bad_store))]
 pub(crate) fn bad_store(width: u64, bytes: &[u32], exponent: u64, address: u64) -> bool
     ensures { result ≡ bad_store width bytes.now exponent address }
 {
-    if bad_exponent(exponent) {
-        return true;
-    }
-    if pointer::any_bad_byte(bytes) {
-        return true;
-    }
-    if bad_address(width, address) {
-        return true;
-    }
-    pointer::width::any_far_byte(bytes, pointer::width::width_at(width))
+    bad_exponent(exponent)
+        || pointer::any_bad_byte(bytes)
+        || bad_address(width, address)
+        || pointer::width::any_far_byte(bytes, pointer::width::width_at(width))
 }
 
 // What an entry answers where one of its fields falls under 2: 1 comes first.
+#[tactic(auto, unfolding(crate::specs::Entry::malformed_answer))]
 pub fn malformed(
     allocs: &[u64],
     parents: &[u16],
@@ -69,7 +58,7 @@ pub fn malformed(
     ensures { result ≡ malformed_answer width (buffers allocs.now parents.now protectors.now words.now codes.now) }
 {
     if wellformed::at_width::well_formed_at(allocs, parents, protectors, words, codes, width) {
-        return Answer::Refused(2);
+        return Answer::from(Refusal::Malformed);
     }
-    Answer::Refused(1)
+    Answer::from(Refusal::NotWellFormed)
 }

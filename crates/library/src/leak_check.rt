@@ -6,6 +6,7 @@ ghost use Rattle.tables.specs.Held.{buffers};
 ghost use Rattle.library.specs.Entry.{Served};
 
 use answer::Answer;
+use refusal::Refusal;
 
 // Check if there are any memory leaks; the answer names the lowest.
 pub fn leak_check(
@@ -22,7 +23,7 @@ pub fn leak_check(
         (buffers allocs.now parents.now protectors.now words.now codes.now) }
 {
     if !wellformed::at_width::well_formed_at(allocs, parents, protectors, words, codes, width) {
-        return Answer::Refused(1);
+        return Answer::from(Refusal::NotWellFormed);
     }
     bounds::leak_check(allocs)
 }

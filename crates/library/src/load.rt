@@ -9,6 +9,7 @@ ghost use Rattle.library.specs.Entry.{Served, given_by};
 
 use answer::Answer;
 use pointer::ThinPointer;
+use refusal::Refusal;
 
 // The loaded words are a part of the lent data, which the answer names: it starts at the pointer's offset behind the allocation's words, and has
 // the length asked for. `load_view` hands it out.
@@ -32,10 +33,10 @@ pub fn load(
         (buffers allocs.now parents.now protectors.now words.now codes.new) }
 {
     if !wellformed::at_width::well_formed_at(allocs, parents, protectors, words, codes, width) {
-        return Answer::Refused(1);
+        return Answer::from(Refusal::NotWellFormed);
     }
     if crate::fields::bad_load(width, exponent, p.addr) {
-        return Answer::Refused(2);
+        return Answer::from(Refusal::Malformed);
     }
     memory::access::load(allocs, parents, codes, p, len, exponent)
 }

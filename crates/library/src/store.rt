@@ -9,6 +9,7 @@ ghost use Rattle.library.specs.Entry.{Served};
 
 use answer::Answer;
 use pointer::ThinPointer;
+use refusal::Refusal;
 
 // Write some bytes to memory; the length is theirs.
 pub fn store(
@@ -28,10 +29,10 @@ pub fn store(
         (buffers allocs.now parents.now protectors.now words.new codes.new) }
 {
     if !wellformed::at_width::well_formed_at(allocs, parents, protectors, words, codes, width) {
-        return Answer::Refused(1);
+        return Answer::from(Refusal::NotWellFormed);
     }
     if crate::fields::bad_store(width, bytes, exponent, p.addr) {
-        return Answer::Refused(2);
+        return Answer::from(Refusal::Malformed);
     }
     memory::access::store(allocs, parents, words, codes, p, bytes, exponent)
 }

@@ -1,4 +1,5 @@
 -- Which node is entered in the frame: under a protector, that of the pointer which is given.
+use Rattle.std.specs.Prelude as std
 use Prim.Native.Nat.{ℕ}
 use mathlib.Core.Path.{◌≡◌, refl, sym, ap, ap₂, ◌∙◌}
 use mathlib.Core.Bool.{Bool, true, false, not, ◌&&◌, ◌||◌}
@@ -38,7 +39,7 @@ nothing-entered true = refl
 nothing-entered false = refl
 
 -- an answer that gives no pointer
-pub no_pointer : (is_protected : Bool) (words : List ℕ) (a : Answer) → ((t : Provenance) → a ≡ Pointer t → ⊥) → entered_node is_protected (named_pointer (answer_of a words).names) ≡ none
+pub no_pointer : (is_protected : Bool) (words : List ℕ) (a : Answer) → ((t : std.Option Provenance) → a ≡ Pointer t → ⊥) → entered_node is_protected (named_pointer (answer_of a words).names) ≡ none
 no_pointer is_protected words (Refused n) h = nothing-entered is_protected
 no_pointer is_protected words (Leak n) h = nothing-entered is_protected
 no_pointer is_protected words Accepted h = nothing-entered is_protected

@@ -1,4 +1,5 @@
 -- What `served` is, case by case, and a law for each way the entry returns.
+use Rattle.std.specs.Prelude as std
 use Rattle.std.specs.Prelude.{if◌then◌else◌}
 use Prim.Native.Nat.{ℕ, zero, suc, ◌≤◌}
 use mathlib.Core.Path.{◌≡◌, refl, sym, ap, subst⁻¹, ◌∙◌}
@@ -19,7 +20,7 @@ use Rattle.definition.proofs.Booleans.{and_left, and_right}
 use Rattle.definition.proofs.Writes.{write-none}
 use Rattle.pointer.specs.Pointer.{provenance_of}
 use Rattle.pointer.specs.declared.Provenance.{Provenance}
-use Rattle.pointer.specs.declared.Provenance.TheVariants.{None, Of}
+use Rattle.std.specs.Prelude.{None, Some}
 use Rattle.answer.specs.Answer.{answer_of, replied}
 use Rattle.answer.specs.Answer.Gives.{ThePointer}
 use Rattle.answer.specs.declared.Answer.{Answer}
@@ -168,27 +169,27 @@ module _ (width : ℕ) (settings : RetagSettings) (p : definition.ThinPointer) (
       outcome = retag_of settings p layout s
 
       -- the entries, with the node that is entered
-      abbrev entries_with : Provenance → List definition.Provenance
+      abbrev entries_with : std.Option Provenance → List definition.Provenance
       entries_with node = entries (get_or (frames_entered (provenance_of node) s) 0 Closed)
 
       all_first : length (first_of count places) ≡ count
       all_first = first-length count places (omega (arith, lent-places width len count b fine, lent-count width len count b fine))
 
-      left-answer : (answer : Answer) (node : Provenance) → (outcome_of answer node count len).answer.answer ≡ answer
+      left-answer : (answer : Answer) (node : std.Option Provenance) → (outcome_of answer node count len).answer.answer ≡ answer
       left-answer answer None = refl
-      left-answer answer (Of allocation node) = refl
+      left-answer answer (Some t) = refl
 
-      left-places : (answer : Answer) (node : Provenance)
+      left-places : (answer : Answer) (node : std.Option Provenance)
           → set places (outcome_of answer node count len).at (outcome_of answer node count len).entry ≡ write_at 0 (map entry_of (entries_with node)) places
       left-places answer None = set_past places len no_entry (omega arith) ∙ sym (write_same count places)
-      left-places answer (Of allocation node) = sym (write-more count places (record { allocation = allocation; node = node }))
+      left-places answer (Some t) = sym (write-more count places (record { allocation = t.allocation; node = t.node }))
 
-      left-count : (answer : Answer) (node : Provenance) → (outcome_of answer node count len).answer.count ≡ length (entries_with node)
+      left-count : (answer : Answer) (node : std.Option Provenance) → (outcome_of answer node count len).answer.count ≡ length (entries_with node)
       left-count answer None = sym all_first
-      left-count answer (Of allocation node) =
-          omega (arith, all_first, length-append (first_of count places) (record { allocation = allocation; node = node } ∷ []))
+      left-count answer (Some t) =
+          omega (arith, all_first, length-append (first_of count places) (record { allocation = t.allocation; node = t.node } ∷ []))
 
-      module _ {answer : Answer} {A P R C : List ℕ} (k : Performed outcome answer A P R C) (node : Provenance)
+      module _ {answer : Answer} {A P R C : List ℕ} (k : Performed outcome answer A P R C) (node : std.Option Provenance)
           (entering : (words : List ℕ) → provenance_of node ≡ entered_node (protects settings) (named_pointer (answer_of answer words).names)) where
         left-frames : frames_entered (provenance_of node) s ≡ outcome.1.frames
         left-frames =
@@ -219,7 +220,7 @@ module _ (width : ℕ) (settings : RetagSettings) (p : definition.ThinPointer) (
     pub retagged : bad_fields width settings p.address layout ≡ false → {answer : Answer} {A P R C : List ℕ}
         → ((s : State) → HoldsMarked s.memory b.allocs b.parents b.protectors b.codes → count ≡ length (entries (frame_at s 0))
         → Performed (retag_of settings p layout s) answer A P R C)
-        → (node : Provenance) → ((words : List ℕ) → provenance_of node ≡ entered_node (protects settings) (named_pointer (answer_of answer words).names))
+        → (node : std.Option Provenance) → ((words : List ℕ) → provenance_of node ≡ entered_node (protects settings) (named_pointer (answer_of answer words).names))
         → {r : RetagOutcome} → r ≡ outcome_of answer node count len → Promised r (buffers A P R b.words C)
     retagged good {answer} {A} {P} {R} {C} f node entering {r} is =
         subst⁻¹ (λ (r : RetagOutcome). Promised r (buffers A P R b.words C)) is

@@ -1,11 +1,12 @@
 -- What the inner functions of a retag leave.
+use Rattle.std.specs.Prelude as std
 use Rattle.std.specs.Prelude.{ℕ, ◌+◌, ◌≡◌, Bool, true, false, List, if◌then◌else◌}
 use Rattle.std.proofs.Math.Option.{Option, none}
 use Rattle.definition.specs.Refusal.{not_well_formed, malformed}
 use Rattle.definition.specs.Memory as definition
 use Rattle.definition.specs.Frame.{State}
 use Rattle.pointer.specs.declared.Provenance.{Provenance}
-use Rattle.pointer.specs.declared.Provenance.TheVariants.{None, Of}
+use Rattle.std.specs.Prelude.{None, Some}
 use Rattle.answer.specs.Answer.{answer_of, reply_to}
 use Rattle.answer.specs.Answer.Gives.{ThePointer}
 use Rattle.answer.specs.declared.Answer.{Answer}
@@ -28,10 +29,10 @@ entered_node true given = given
 entered_node false given = none
 
 -- the outcome: with so many places, of which so many are taken
-abbrev pub outcome_of : Answer → Provenance → ℕ → ℕ → RetagOutcome
+abbrev pub outcome_of : Answer → std.Option Provenance → ℕ → ℕ → RetagOutcome
 outcome_of answer None count places = record { answer = record { answer = answer; count = count }; at = places; entry = no_entry }
-outcome_of answer (Of allocation node) count places =
-    record { answer = record { answer = answer; count = count + 1 }; at = count; entry = record { allocation = allocation; node = node } }
+outcome_of answer (Some t) count places =
+    record { answer = record { answer = answer; count = count + 1 }; at = count; entry = record { allocation = t.allocation; node = t.node } }
 
 -- the outcome where a field falls under 2, if 1 was passed
 abbrev pub malformed_outcome : (width len count : ℕ) → Buffers → RetagOutcome

@@ -7,6 +7,7 @@ ghost use Rattle.library_frames.specs.EndCall.{is_lent_with_area, EndedLent};
 
 use answer::Answer;
 use frames::{Entries, Entry};
+use refusal::Refusal;
 
 // Not refused with 1: the entries' list, the working area and the buffers have their lengths, and the buffers hold a memory.
 fn is_lent_with_area(
@@ -24,7 +25,7 @@ fn is_lent_with_area(
         (buffers allocs.now parents.now protectors.now words.now codes.now) }
 {
     crate::retags::is_lent(len, count, allocs, parents, protectors, words, codes, width)
-        & (area.len() == 32768)
+        && area.len() == 32768
 }
 
 // The entries are the first `count` of a list of `len` places, of which the first 64 are given. For whatever is lent: 1, and nothing changes; or
@@ -48,7 +49,7 @@ pub fn end_call_list(
     if !is_lent_with_area(
         len, count, area, allocs, parents, protectors, words, codes, width,
     ) {
-        return Answer::Refused(1);
+        return Answer::from(Refusal::NotWellFormed);
     }
     let list = Entries { list, count };
     end_call::end_call_held(allocs, parents, protectors, codes, area, list)

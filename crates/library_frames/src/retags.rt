@@ -1,13 +1,12 @@
 // Kind 4 on a lent memory and so many places of a frame, with nothing asked of the caller. mem.rs: `retag_ptr`.
 // specs/Retag.antt is the promise of `retag_list`; specs/Settings.antt says what its settings are in the definition.
-ghost use Rattle.std.specs.Prelude.{◌≡◌, List, ℕ, ◌≤◌, length, set};
+ghost use Rattle.std.specs.Prelude.{None, ◌≡◌, List, ℕ, ◌≤◌, length, set};
 ghost use Rattle.definition.specs.Layout.{FreezeMask};
 ghost use Rattle.definition.specs.Memory.{Memory, named_pointer};
 ghost use Rattle.definition.specs.Frame.{State, frame_at};
 ghost use Rattle.definition.specs.Frame as frames;
 ghost use Rattle.definition.specs.Request as definition;
 ghost use Rattle.pointer.specs.Pointer.{provenance_of, thin_pointer_of};
-ghost use Rattle.pointer.specs.declared.Provenance.TheVariants.{None};
 ghost use Rattle.answer.specs.Answer.{answer_of};
 ghost use Rattle.permission.specs.Codes as permission;
 ghost use Rattle.tables.specs.Held.{buffers};
@@ -19,9 +18,9 @@ ghost use Rattle.library_frames.specs.Outcome.{Performed, entered_node, outcome_
 
 use answer::Answer;
 use frames::Entry;
-use layout::Mask;
 use permission::Protected;
 use pointer::{Provenance, ThinPointer};
+use refusal::Refusal;
 use retag::ReborrowSettings;
 
 // What is retagged: extra (0 shared reference, 1 mutable reference, 2 box, 3 raw, 4 function, 5 vtable pointer), and the flags. They are read
@@ -50,40 +49,39 @@ pub struct RetagOutcome {
 }
 
 // ---- settings
+// This and `protector` are what `request` says of a request too, whose flags stand in a word: to make that word here would be no plainer.
 // "No node .. for extra 3 to 5 and for a mutable reference that isn't unpin"
 fn adds_no_node(settings: RetagSettings) -> bool
     ensures { result ≡ definition.adds_no_node (fields_of settings) }
 {
-    !(settings.extra < 3) | ((settings.extra == 1) & !settings.unpin)
+    settings.extra >= 3 || (settings.extra == 1 && !settings.unpin)
 }
 
 // 2. The layout is read where a node may be added.
 fn bad_fields(width: u64, settings: RetagSettings, address: u64, layout: &[u32]) -> bool
     ensures { result ≡ bad_fields width settings address layout.now }
 {
-    let width = pointer::width::width_at(width);
-    (settings.extra > 5)
-        | (!adds_no_node(settings) & request::bad_metadata(layout))
-        | width.is_too_high(address)
+    settings.extra > 5
+        || (!adds_no_node(settings) && request::bad_metadata(layout))
+        || pointer::width::width_at(width).is_too_high(address)
 }
 
 fn protector(settings: RetagSettings) -> Protected
     ensures { permission.protector result ≡ definition.protector_of (fields_of settings) }
 {
     if settings.function_entry {
-        return request::entry_protector(request::safe_pointer(settings.extra));
+        request::entry_protector(request::safe_pointer(settings.extra))
+    } else {
+        Protected::No
     }
-    Protected::No
 }
 
 fn reborrow_settings(settings: RetagSettings) -> ReborrowSettings
     ensures { (mask : FreezeMask) → settings_of result mask ≡ definition.settings_of (fields_of settings) mask }
 {
-    let pointer = request::safe_pointer(settings.extra);
-    let protected = protector(settings);
     ReborrowSettings {
-        pointer,
-        protected,
+        pointer: request::safe_pointer(settings.extra),
+        protected: protector(settings),
         freeze: settings.freeze,
     }
 }
@@ -110,30 +108,28 @@ fn retag_held(
         return retag::retag_without_node(allocs, p);
     }
     let mut mask = [0u8; 4096];
-    let found = layout::freeze_mask(layout, &mut mask);
-    match found {
-        Mask::Of(len) => {
+    match layout::freeze_mask(layout, &mut mask) {
+        Ok(len) => {
             let w = reborrow_settings(settings);
             retag::reborrow(
                 allocs, parents, protectors, codes, &mut mask, len, w, p, count,
             )
         }
-        Mask::None => Answer::Refused(3),
-        Mask::WrongLength => Answer::Refused(3), // the mask has that length
+        Err(_) => Answer::from(Refusal::WithoutMask),
     }
 }
 
 // ---- the frame's list
 // A protected node is entered: that of the pointer that is given.
-fn entered_node(answer: Answer, settings: RetagSettings) -> Provenance
+fn entered_node(answer: Answer, settings: RetagSettings) -> Option<Provenance>
     ensures { (words : List ℕ) → provenance_of result ≡ entered_node (protects settings) (named_pointer (answer_of answer words).names) }
 {
-    if adds_no_node(settings) | !settings.function_entry {
-        return Provenance::None;
+    if adds_no_node(settings) || !settings.function_entry {
+        return None;
     }
     match answer {
         Answer::Pointer(provenance) => provenance,
-        _ => Provenance::None,
+        _ => None,
     }
 }
 
@@ -141,38 +137,34 @@ fn entered_node(answer: Answer, settings: RetagSettings) -> Provenance
 fn without_entry(answer: Answer, count: usize, len: usize) -> RetagOutcome
     ensures { result ≡ outcome_of answer None count len }
 {
-    let entry = Entry {
-        allocation: 0,
-        node: 0,
-    };
-    let answer = RetagAnswer { answer, count };
     RetagOutcome {
-        answer,
+        answer: RetagAnswer { answer, count },
         at: len,
-        entry,
+        entry: Entry {
+            allocation: 0,
+            node: 0,
+        },
     }
 }
 
 // A node is entered behind the `count` entries.
-fn with_entry(answer: Answer, node: Provenance, count: usize, len: usize) -> RetagOutcome
+fn with_entry(answer: Answer, node: Option<Provenance>, count: usize, len: usize) -> RetagOutcome
     requires { count ≤ 64 }
     ensures { result ≡ outcome_of answer node count len }
 {
     match node {
-        Provenance::None => without_entry(answer, count, len),
-        Provenance::Of { allocation, node } => {
-            let entry = Entry { allocation, node };
-            let more = count + 1;
-            let answer = RetagAnswer {
+        None => without_entry(answer, count, len),
+        Some(node) => RetagOutcome {
+            answer: RetagAnswer {
                 answer,
-                count: more,
-            };
-            RetagOutcome {
-                answer,
-                at: count,
-                entry,
-            }
-        }
+                count: count + 1,
+            },
+            at: count,
+            entry: Entry {
+                allocation: node.allocation,
+                node: node.node,
+            },
+        },
     }
 }
 
@@ -191,13 +183,9 @@ pub(crate) fn is_lent(
     ensures { result ≡ is_lent width len count
         (buffers allocs.now parents.now protectors.now words.now codes.now) }
 {
-    if len != 64 {
-        return false;
-    }
-    if count > 64 {
-        return false;
-    }
-    wellformed::at_width::well_formed_at(allocs, parents, protectors, words, codes, width)
+    len == 64
+        && count <= 64
+        && wellformed::at_width::well_formed_at(allocs, parents, protectors, words, codes, width)
 }
 
 // What a retag comes to where one of its fields falls under 2: 1 comes first.
@@ -214,10 +202,12 @@ pub fn malformed(
     ensures { result ≡ malformed_outcome width len count
         (buffers allocs.now parents.now protectors.now words.now codes.now) }
 {
-    if is_lent(len, count, allocs, parents, protectors, words, codes, width) {
-        return without_entry(Answer::Refused(2), count, len);
-    }
-    without_entry(Answer::Refused(1), count, len)
+    let refusal = if is_lent(len, count, allocs, parents, protectors, words, codes, width) {
+        Refusal::Malformed
+    } else {
+        Refusal::NotWellFormed
+    };
+    without_entry(Answer::from(refusal), count, len)
 }
 
 // All of a retag but the store into the frame's list, whatever stands there. For whatever is lent: 1 or 2, and nothing changes; or the retag of
@@ -242,10 +232,10 @@ pub fn retag_list(
         (buffers allocs.new parents.new protectors.new words.now codes.new) }
 {
     if !is_lent(len, count, allocs, parents, protectors, words, codes, width) {
-        return without_entry(Answer::Refused(1), count, len);
+        return without_entry(Answer::from(Refusal::NotWellFormed), count, len);
     }
     if bad_fields(width, settings, p.addr, layout) {
-        return without_entry(Answer::Refused(2), count, len);
+        return without_entry(Answer::from(Refusal::Malformed), count, len);
     }
     let answer = retag_held(
         allocs, parents, protectors, codes, layout, p, settings, count,

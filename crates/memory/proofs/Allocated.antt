@@ -1,14 +1,12 @@
 -- The definition's `allocate`, refusal by refusal, and the five buffers after it.
-use Prim.Native.Nat.{ℕ, ◌+◌, ◌-◌, ◌≤◌, ◌<◌}
+use Prim.Native.Nat.{ℕ, ◌≤◌}
 use mathlib.Core.Path.{◌≡◌, refl, sym, ap, subst, ◌∙◌}
 use mathlib.Core.Bool.{Bool, true, false, not}
 use mathlib.Core.Option.{some}
 use mathlib.Core.List.{List}
 use native.Mathlib.Omega.{arith}
-use borrow.Author.Tests.{eq-eqb, ne_eqb, le-leb, lt-leb}
 use lib.ListN.{length}
-use Rattle.definition.specs.Notation.{any}
-use Rattle.definition.specs.Width.{Width, addresses}
+use Rattle.definition.specs.Width.{Width}
 use Rattle.definition.specs.Memory.{Memory, AllocationKind, kind_number, is_misaligned, overlaps, is_pickable, exceeds_bounds, of_allocation, new_allocation, refused_with, gives_pointer, allocate_refusal, accept_allocate, allocate}
 use Rattle.definition.specs.Memory as definition
 use Rattle.definition.proofs.ValidMemory.{valid-allocate}
@@ -16,36 +14,12 @@ use Rattle.answer.specs.Answer.Gives.{ThePointer}
 use Rattle.answer.specs.declared.Answer.{Answer}
 use Rattle.answer.specs.declared.Answer.TheVariants.{Refused, Pointer}
 use Rattle.answer.proofs.Replies.{refused-reply}
-use Rattle.pointer.specs.declared.Provenance.TheVariants.{Of}
+use Rattle.pointer.specs.Pointer.{via}
 use Rattle.tables.specs.Encoding.{codes_of, held_records, held, encode}
 use Rattle.tables.specs.Held.{buffers, Holds, AllocationFits, Appended}
 use Rattle.tables.proofs.Grown.{append-encode}
 use Rattle.tables.proofs.ReadBack.{holds-parents, holds-protectors, holds-words, holds-codes, holds-records, encode-of}
 use Rattle.memory.specs.Allocate.{CanAllocate, Allocated}
-
--- ---- 5, in checking order
-module _ (w : Width) (m : Memory) (len exponent address : ℕ) where
-  pub pick-zero : address ≡ 0 → not (is_pickable w m len exponent address) ≡ true
-  unfolding is_pickable
-  pick-zero e = rw (eq-eqb address 0 e)
-
-  module _ (positive : address ≡ 0 → ⊥) where
-    pub pick-misaligned : is_misaligned address exponent ≡ true → not (is_pickable w m len exponent address) ≡ true
-    unfolding is_pickable
-    pick-misaligned e = rw (ne_eqb address 0 positive, e)
-
-    module _ (aligned : is_misaligned address exponent ≡ false) where
-      pub pick-beyond : addresses w - 1 < address + len → not (is_pickable w m len exponent address) ≡ true
-      unfolding is_pickable
-      pick-beyond h = rw (ne_eqb address 0 positive, aligned, lt-leb (address + len) (addresses w - 1) h)
-
-      pub pick-overlap : address + len ≤ addresses w - 1 → any (overlaps address len) m ≡ not (is_pickable w m len exponent address)
-      unfolding is_pickable
-      pick-overlap h = rw (ne_eqb address 0 positive, aligned, le-leb (address + len) (addresses w - 1) h) (twice (any (overlaps address len) m))
-        where
-          twice : (t : Bool) → t ≡ not (not t)
-          twice true = refl
-          twice false = refl
 
 -- ---- what is asked, and that there is room
 module _ (m : Memory) (k : AllocationKind) {kind exponent : ℕ} where
@@ -88,11 +62,11 @@ module _ (w : Width) (m : Memory) (k : AllocationKind) (len exponent address : �
       exceeds-allocated e = refused-allocated 15 (λ z. omega arith) (allocate-exceeds picked e)
 
       pub accepts-allocated : exceeds_bounds m (of_allocation len) ≡ false → {n : ℕ} {A' C' : List ℕ} → Appended m (new_allocation k len exponent address) n A' C'
-          → Allocated outcome (Pointer (Of n 0)) A' C'
+          → Allocated outcome (Pointer (via n 0)) A' C'
       unfolding accept_allocate
       accepts-allocated e {n} {A'} {C'} a =
-          subst (λ (o : definition.Answer × Memory). Allocated o (Pointer (Of n 0)) A' C') (sym (allocate-accepts picked e))
-          (record { reply = ap (λ (t : ℕ). Pointer (Of t 0)) a.number; answer = λ words. ap (λ (t : ℕ). gives_pointer (some (record { allocation = t; node = 0 }))) a.number; allocs = a.allocs; codes = a.codes })
+          subst (λ (o : definition.Answer × Memory). Allocated o (Pointer (via n 0)) A' C') (sym (allocate-accepts picked e))
+          (record { reply = ap (λ (t : ℕ). Pointer (via t 0)) a.number; answer = λ words. ap (λ (t : ℕ). gives_pointer (some (record { allocation = t; node = 0 }))) a.number; allocs = a.allocs; codes = a.codes })
 
   -- ---- the five buffers
   module _ {A P R W C : List ℕ} (h : Holds m (buffers A P R W C)) where

@@ -11,17 +11,18 @@ use lib.ListN.{length, set}
 use Rattle.definition.specs.Notation.{◌when◌, ◌or◌, mutate_at}
 use Rattle.definition.specs.Refusal.{never_made, dead_allocation, away_from_start, another_kind, another_size, another_alignment}
 use Rattle.definition.specs.Tree.{Visit}
-use Rattle.definition.specs.Memory.{Provenance, ThinPointer, Allocation, AllocationKind, Memory, kind_number, allocation_of, allocation_at, size, unless_refused, was_made, names_never_made, write_all, after_deallocate_in, accept_deallocate, deallocate}
+use Rattle.definition.specs.Memory.{Provenance, ThinPointer, Allocation, AllocationKind, Memory, kind_number, allocation_of, allocation_at, size, refused_with, unless_refused, was_made, names_never_made, write_all, after_deallocate_in, accept_deallocate, deallocate}
 use Rattle.definition.proofs.Booleans.{not-not-false, or_assoc, or_left, when-none}
 use Rattle.definition.proofs.Visits.{visited-length}
 use Rattle.definition.proofs.ValidMemory.{Made, was-made}
 use Rattle.definition.specs.Memory as definition
-use Rattle.pointer.specs.Pointer.{thin_pointer_of}
-use Rattle.pointer.specs.declared.Provenance.TheVariants.{None, Of}
+use Rattle.pointer.specs.Pointer.{provenance_of, thin_pointer_of}
+use Rattle.std.specs.Prelude.{None}
+use Rattle.pointer.specs.Pointer.{via}
 use Rattle.pointer.specs.declared.ThinPointer as code
 use Rattle.answer.specs.Answer.{reply_to}
 use Rattle.answer.specs.Answer.Gives.{Nothing}
-use Rattle.answer.specs.declared.Answer.TheVariants.{Refused, Accepted}
+use Rattle.answer.specs.declared.Answer.TheVariants.{Accepted}
 use Rattle.tables.specs.declared.Starts.{Starts}
 use Rattle.tables.specs.Encoding.{state_number, record_of, codes_of, held_records, held}
 use Rattle.tables.specs.Held.{Records}
@@ -29,8 +30,11 @@ use Rattle.tables.proofs.Lookup.{state-at, live_state, kind_at, exponent-at, add
 use Rattle.tables.proofs.Records.{record-state}
 use Rattle.tables.specs.declared.Allocation as lent_record
 use Rattle.tree.specs.Requests as tree
+use Rattle.bounds.specs.Bounds.{target_in}
+use Rattle.bounds.proofs.Points.{target-record}
 use Rattle.parts.specs.Trees.{HoldsMarked, after_visit, TreeVisited}
-use Rattle.memory.specs.Deallocate.{record_refusal, refusal_through, NodeIn, WrittenAll, Deallocated}
+use Rattle.parts.proofs.Lent.{records-of}
+use Rattle.memory.specs.Deallocate.{record_refusal, refusal_through, FoundMarked, NodeIn, WrittenAll, Deallocated}
 use Rattle.memory.proofs.OneTree.{same_parts, visited-part}
 
 or-five : (a b c d e f : ℕ) → ((a or b or c or d or e) or f) ≡ (a or b or c or d or e or f)
@@ -46,13 +50,12 @@ through address t = record { address = address; provenance = some t }
 pub made-node : (m : Memory) (t : Provenance) → names_never_made m (some t) ≡ false → NodeIn m t.allocation t.node
 made-node m t e = let made : Made m t = was-made m t (not-not-false (was_made m t) e) in record { made = made.allocation; in_tree = made.node }
 
-pub node_made : (t : Provenance) (at of_kind len alignment : ℕ) (m : Memory) (r : ℕ) → r ≡ refusal_through t at of_kind len alignment m → r ≡ 0 → NodeIn m t.allocation t.node
+pub node_made : (t : Provenance) (at of_kind len alignment : ℕ) (m : Memory) → 0 ≡ refusal_through t at of_kind len alignment m → NodeIn m t.allocation t.node
 unfolding refusal_through
-node_made t at of_kind len alignment m r q z =
-    let e : refusal_through t at of_kind len alignment m ≡ 0 = sym q ∙ z in
+node_made t at of_kind len alignment m e =
     let a : Allocation = allocation_at m t.allocation in
     let rest = record_refusal (state_number a.state) (kind_number a.kind) a.exponent a.address (size a) at of_kind len alignment in
-    made-node m t (when-none 3 (names_never_made m (some t)) (or_left (never_made when names_never_made m (some t)) rest e))
+    made-node m t (when-none 3 (names_never_made m (some t)) (or_left (never_made when names_never_made m (some t)) rest (sym e)))
 
 -- the record as it is read
 pub record-read : {m : Memory} {A : List ℕ} → Records m A → {n : ℕ} → n < length m → {r : lent_record.Allocation} → r ≡ record_at A n → (at of_kind len alignment : ℕ) → {answer : ℕ}
@@ -69,7 +72,7 @@ module _ (p : ThinPointer) (k : AllocationKind) (len exponent : ℕ) (m : Memory
   performed r e = ap (λ (n : ℕ). unless_refused n m (accept_deallocate p m)) e
 
   pub deallocate-refused : {A P R C : List ℕ} (r : ℕ) → (r ≡ 0 → ⊥) → HoldsMarked m A P R C → {C' : List ℕ} → C' ≡ held 32768 codes_of m
-      → definition.deallocate_refusal m p k len exponent ≡ r → Deallocated p k len exponent m (Refused r) A C'
+      → definition.deallocate_refusal m p k len exponent ≡ r → Deallocated p k len exponent m (reply_to Nothing (refused_with r)) A C'
   deallocate-refused zero z h c e = absurd (z refl)
   deallocate-refused (suc r) z h c e =
       let o = performed (suc r) e in
@@ -150,7 +153,7 @@ module _ (p : ThinPointer) {m : Memory} {A P R C : List ℕ} (h : HoldsMarked m 
   -- by what the tree's write leaves
   module _ (k : AllocationKind) (len exponent r refused : ℕ) {C' : List ℕ} (w : TreeVisited m n refused (write_all p (allocation_at m n)) r C')
       (e : definition.deallocate_refusal m p k len exponent ≡ refused) where
-    pub tree-refused : (r ≡ 0 → ⊥) → Deallocated p k len exponent m (Refused r) A C'
+    pub tree-refused : (r ≡ 0 → ⊥) → Deallocated p k len exponent m (reply_to Nothing (refused_with r)) A C'
     tree-refused z =
         let f : eqb refused 0 ≡ false = ne_eqb refused 0 (λ q. z (w.refusal ∙ q)) in
         deallocate-refused p k len exponent m r z h (w.codes ∙ rw f) (e ∙ sym w.refusal)
@@ -162,32 +165,43 @@ module _ (p : ThinPointer) {m : Memory} {A P R C : List ℕ} (h : HoldsMarked m 
         deallocate-accepted k len exponent (w.codes ∙ rw f) (e ∙ q)
 
 -- ---- a pointer of the code, through node `node` of allocation n
-module _ (p : code.ThinPointer) {n node : ℕ} (e : p.provenance ≡ Of n node) (k : AllocationKind) {kind len exponent : ℕ} (q : kind ≡ kind_number k)
+module _ (p : code.ThinPointer) {n node : ℕ} (e : p.provenance ≡ via n node) (A : List ℕ) {a : lent_record.Allocation} (q : a ≡ target_in A (provenance_of p.provenance)) where
+  pub target-through : a ≡ target_in A (some (record { allocation = n; node = node }))
+  target-through = rw e at q
+
+  pub found-through : {m : Memory} {P R C : List ℕ} → HoldsMarked m A P R C → n < length m → FoundMarked m n a P R C
+  found-through h made = record {
+    records = A;
+    trees = h;
+    read = target-through ∙ target-record (records-of h) (record { allocation = n; node = node }) made;
+  }
+
+module _ (p : code.ThinPointer) {n node : ℕ} (e : p.provenance ≡ via n node) (k : AllocationKind) {kind len exponent : ℕ} (q : kind ≡ kind_number k)
     {m : Memory} {A P R C : List ℕ} (h : HoldsMarked m A P R C) where
   pub refused-through : (r : ℕ) → r ≡ refusal_through (record { allocation = n; node = node }) p.addr kind len exponent m → (r ≡ 0 → ⊥)
-      → Deallocated (thin_pointer_of p) k len exponent m (Refused r) A C
+      → Deallocated (thin_pointer_of p) k len exponent m (reply_to Nothing (refused_with r)) A C
   refused-through r f z =
       let t : Provenance = record { allocation = n; node = node } in
       rw e
       (deallocate-refused (through p.addr t) k len exponent m r z h h.trees.codes (refused-before p.addr t k len exponent m r (rw q at f) z))
 
-  module _ (passed : ℕ) (f : passed ≡ refusal_through (record { allocation = n; node = node }) p.addr kind len exponent m) (g : passed ≡ 0) {r : ℕ} {C' : List ℕ} (w : WrittenAll m n node r C') where
-    pub prevented-through : (r ≡ 0 → ⊥) → Deallocated (thin_pointer_of p) k len exponent m (Refused r) A C'
+  module _ (f : 0 ≡ refusal_through (record { allocation = n; node = node }) p.addr kind len exponent m) {r : ℕ} {C' : List ℕ} (w : WrittenAll m n node r C') where
+    pub prevented-through : (r ≡ 0 → ⊥) → Deallocated (thin_pointer_of p) k len exponent m (reply_to Nothing (refused_with r)) A C'
     prevented-through z =
         let t : Provenance = record { allocation = n; node = node } in
         rw e
-        (tree-refused (through p.addr t) h (node_made t p.addr kind len exponent m passed f g).made k len exponent r _ w
-        (refused-in-tree p.addr t k len exponent m (sym (rw q at f) ∙ g)) z)
+        (tree-refused (through p.addr t) h (node_made t p.addr kind len exponent m f).made k len exponent r _ w
+        (refused-in-tree p.addr t k len exponent m (sym (rw q at f))) z)
 
     pub accepted-through : r ≡ 0 → Deallocated (thin_pointer_of p) k len exponent m Accepted (set A (n * 9) 2) C'
     accepted-through z =
         let t : Provenance = record { allocation = n; node = node } in
         rw e
-        (tree-accepted (through p.addr t) h (node_made t p.addr kind len exponent m passed f g).made k len exponent r _ w
-        (refused-in-tree p.addr t k len exponent m (sym (rw q at f) ∙ g)) z)
+        (tree-accepted (through p.addr t) h (node_made t p.addr kind len exponent m f).made k len exponent r _ w
+        (refused-in-tree p.addr t k len exponent m (sym (rw q at f))) z)
 
 pub missing-through : (p : code.ThinPointer) → p.provenance ≡ None → (k : AllocationKind) (len exponent : ℕ) {m : Memory} {A P R C : List ℕ} → HoldsMarked m A P R C
-    → Deallocated (thin_pointer_of p) k len exponent m (Refused 7) A C
+    → Deallocated (thin_pointer_of p) k len exponent m (reply_to Nothing (refused_with 7)) A C
 missing-through p e k len exponent {m} h =
     rw e
     (deallocate-refused (record { address = p.addr; provenance = none }) k len exponent m 7 (λ z. omega arith) h h.trees.codes (missing-refused p.addr k len exponent m))

@@ -1,6 +1,5 @@
 pub mod OneTree
 pub mod Allocated
-pub mod OneKind
 pub mod LoadStore
 pub mod Deallocation
 pub mod Afterwards

@@ -20,8 +20,7 @@ use Rattle.definition.specs.Valid.{Valid}
 use Rattle.definition.proofs.Booleans.{and_left, and_right, not-not-false, or_assoc, or_left, or_right, when-none}
 use Rattle.definition.proofs.ValidMemory.{Made, was-made}
 use Rattle.definition.proofs.Accesses.{after_none, after_one}
-use Rattle.pointer.specs.Pointer.{thin_pointer_of}
-use Rattle.pointer.specs.declared.Provenance.TheVariants.{Of}
+use Rattle.pointer.specs.Pointer.{via, provenance_of, thin_pointer_of}
 use Rattle.pointer.specs.declared.ThinPointer as code
 use Rattle.answer.specs.Answer.{answer_of, reply_to}
 use Rattle.answer.specs.Answer.Gives.{Nothing}
@@ -29,23 +28,23 @@ use Rattle.answer.specs.declared.Answer.{Answer}
 use Rattle.answer.specs.declared.Answer.TheVariants.{Refused, Accepted, Words}
 use Rattle.answer.proofs.Replies.{refused-reply}
 use Rattle.tables.specs.Encoding.{words_of, codes_of, held}
-use Rattle.tables.specs.Held.{start_of, Records}
+use Rattle.tables.specs.Held.{start_of}
 use Rattle.tables.proofs.Parts.{write-paste}
 use Rattle.tables.proofs.Focus.{focus-used, focus-paste}
 use Rattle.tables.proofs.Sizes.{words-fit}
 use Rattle.tables.specs.declared.Allocation as lent_record
 use Rattle.tables.proofs.Lookup.{record_at, read-starts}
-use Rattle.bounds.proofs.Points.{read-address}
+use Rattle.bounds.specs.Bounds.{target_in}
+use Rattle.bounds.proofs.Points.{read-address, points-read}
 use Rattle.parts.specs.Trees.{HoldsTrees, after_visit, TreeVisited}
-use Rattle.memory.specs.Access.{access_of, load_of, store_of, pointer_refusal, Checked, Reached, visit_at, words_start, Accessed, words_given, Loaded, Stored}
+use Rattle.memory.specs.Access.{access_of, load_of, store_of, pointer_refusal, Checked, Found, Reached, visit_at, words_start, Accessed, words_given, Loaded, Stored}
 use Rattle.memory.proofs.OneTree.{same_parts, focus-load, visited-part}
 
 -- ---- what the tests leave
 module _ (p : ThinPointer) (len exponent : ℕ) (m : Memory) where
-  pub checked : (r : ℕ) → r ≡ pointer_refusal p len exponent m → r ≡ 0 → Checked m p len
+  pub checked : pointer_refusal p len exponent m ≡ 0 → Checked m p len
   unfolding pointer_refusal
-  checked r q z =
-      let e : pointer_refusal p len exponent m ≡ 0 = sym q ∙ z in
+  checked e =
       let never = never_made when names_never_made m p.provenance in
       let away = misaligned when is_misaligned p.address exponent in
       let outside = check_ptr (target m p) p 0 len in
@@ -136,7 +135,7 @@ module _ (x : MemoryAccess) (m : Memory) where
 
   -- an accepted access passed the tests
   accepted-checked : access_refusal x m ≡ 0 → Checked m x.pointer x.len
-  accepted-checked e = checked x.pointer x.len x.exponent m _ refl (or_left before (if eqb x.len 0 then 0 else in_tree) (sym refusal-split ∙ e))
+  accepted-checked e = checked x.pointer x.len x.exponent m (or_left before (if eqb x.len 0 then 0 else in_tree) (sym refusal-split ∙ e))
 
   pub accessed-checked : {r : ℕ} {C : List ℕ} → Accessed x m r C → r ≡ 0 → Checked m x.pointer x.len
   accessed-checked k z = accepted-checked (sym k.refusal ∙ z)
@@ -153,7 +152,7 @@ module _ (x : MemoryAccess) {m : Memory} {A P C : List ℕ} (h : HoldsTrees m A 
   unfolding after_access_in codes_of
   visited-accessed {r} {C'} e z t =
       let n = allocation_of x.pointer.provenance in
-      let k : Reached m n (node_of x.pointer.provenance) x.pointer.address x.len = reached (checked x.pointer x.len x.exponent m _ refl e) z in
+      let k : Reached m n (node_of x.pointer.provenance) x.pointer.address x.len = reached (checked x.pointer x.len x.exponent m e) z in
       record { refusal = t.refusal ∙ sym f; codes = t.codes ∙ go (in_tree x m) f k.made }
     where
       f : access_refusal x m ≡ in_tree x m
@@ -221,22 +220,40 @@ module _ {m : Memory} {p : ThinPointer} (bytes : List ℕ) (exponent : ℕ) (v :
           → words_of (after_access_in (store_of p bytes exponent) (target m p)) ≡ paste (target m p).words (offset (target m p) p) bytes (length bytes)
       written fits = write-paste (offset (target m p) p) bytes (target m p).words fits
 
--- ---- a pointer of the code, through node `node` of allocation n
-module _ (p : code.ThinPointer) {n node : ℕ} (e : p.provenance ≡ Of n node) {m : Memory} {len : ℕ} (z : len ≡ 0 → ⊥) where
-  pub reached-through : Checked m (thin_pointer_of p) len → Reached m n node p.addr len
-  reached-through h = rw e at (reached h z)
+-- ---- a pointer of the code that passed the tests, via node `node` of allocation n, whose record is a; some bytes are accessed
+module _ (p : code.ThinPointer) {n node : ℕ} (e : p.provenance ≡ via n node) {m : Memory} {len : ℕ} (exponent : ℕ) (filled : 0 < len)
+    (passed : 0 ≡ pointer_refusal (thin_pointer_of p) len exponent m) {A P C : List ℕ} (h : HoldsTrees m A P C) {a : lent_record.Allocation}
+    (target : a ≡ target_in A (provenance_of p.provenance)) where
+  not_empty : len ≡ 0 → ⊥
+  not_empty z = omega arith
 
-  pub accessed-through : (kind : AccessKind) (exponent : ℕ) (bytes : List ℕ) {A P C : List ℕ} → HoldsTrees m A P C
-      → (passed : ℕ) → passed ≡ pointer_refusal (thin_pointer_of p) len exponent m → passed ≡ 0 → {r : ℕ} {C' : List ℕ}
+  passes : Checked m (thin_pointer_of p) len
+  passes = checked (thin_pointer_of p) len exponent m (sym passed)
+
+  pub reached-through : Reached m n node p.addr len
+  reached-through = rw e at (reached passes not_empty)
+
+  own : a ≡ record_at A n
+  own = points-read p e (record { records = h.records; made = passes.made }) target
+
+  pub found-through : Found m n a P C
+  found-through = record { records = A; trees = h; read = own }
+
+  pub accessed-through : (kind : AccessKind) (bytes : List ℕ) {r : ℕ} {C' : List ℕ}
       → TreeVisited m n (visit_refusal (visit_at kind m n node p.addr len) (allocation_at m n).nodes) (visit_at kind m n node p.addr len) r C'
       → Accessed (access_of kind (thin_pointer_of p) len exponent bytes) m r C'
-  accessed-through kind exponent bytes h passed q f t = visited-accessed (access_of kind (thin_pointer_of p) len exponent bytes) h (sym q ∙ f) z (rw e t)
+  accessed-through kind bytes t = visited-accessed (access_of kind (thin_pointer_of p) len exponent bytes) h (sym passed) not_empty (rw e t)
 
-  pub start-through : {A : List ℕ} → Records m A → Checked m (thin_pointer_of p) len → {r : lent_record.Allocation} → r ≡ record_at A n
-      → r.starts.words + (p.addr - r.address) ≡ words_start (thin_pointer_of p) len m
-  start-through h k q =
-      rw (e, (read-starts h (reached-through k).made q).words, read-address h (reached-through k).made q)
-      (sym (start-some (record { address = p.addr; provenance = some (record { allocation = n; node = node }) }) len m z))
+  pub above-start : a.address ≤ p.addr
+  above-start = omega (arith, read-address h.records reached-through.made own, reached-through.above)
+
+  pub start-through : a.starts.words + (p.addr - a.address) ≡ words_start (thin_pointer_of p) len m
+  start-through =
+      rw (e, (read-starts h.records reached-through.made own).words, read-address h.records reached-through.made own)
+      (sym (start-some (record { address = p.addr; provenance = some (record { allocation = n; node = node }) }) len m not_empty))
+
+  pub start-fits : a.starts.words + (p.addr - a.address) + len ≤ 4096
+  start-fits = omega (arith, start-through, words-in h.records.valid passes)
 
 -- ---- a load's answer
 loaded-words : (p : ThinPointer) (len exponent : ℕ) (a : Allocation) → loaded_words (load_of p len exponent) a ≡ take len (drop (offset a p) a.words)

@@ -15,15 +15,23 @@ use Rattle.definition.specs.Valid.{Valid}
 use Rattle.definition.proofs.Places.{valid-at}
 use Rattle.tables.specs.Encoding.{codes_of, held}
 use Rattle.tables.specs.Held.{start_of}
+use Rattle.tables.specs.declared.Allocation as lent_record
 use Rattle.tables.proofs.Focus.{focus-part, focus-mutate}
 use Rattle.tables.proofs.Sizes.{codes_at}
 use Rattle.tree.specs.Requests.{Visited, deallocate_refusal, Deallocated}
 use Rattle.parts.specs.declared.Parts.{Parts}
-use Rattle.parts.specs.Trees.{TreeAt, after_visit, TreeVisited}
+use Rattle.parts.specs.Trees.{parts_in, TreeAt, after_visit, TreeVisited}
 use Rattle.parts.proofs.Trees.{codes-rows, visited-codes}
-use Rattle.parts.proofs.Lent.{tree-visited}
-use Rattle.memory.specs.Access.{visit_at}
-use Rattle.memory.specs.Deallocate.{WrittenAll}
+use Rattle.parts.proofs.Lent.{trees-of, tree-at, parts-read, tree-visited}
+use Rattle.memory.specs.Access.{Found, visit_at}
+use Rattle.memory.specs.Deallocate.{FoundMarked, WrittenAll}
+
+-- ---- an allocation that was found: its parts lie where its record says
+pub found-tree : {m : Memory} {n : ℕ} {a : lent_record.Allocation} {P C : List ℕ} → Found m n a P C → n < length m → {r : Parts} → r ≡ parts_in a → TreeAt m n P C r
+found-tree {m} {n} {a} {P} {C} f made e = subst (λ (r : Parts). TreeAt m n P C r) (sym e) (tree-at f.trees (parts-read f.trees.records made f.read))
+
+pub marked-tree : {m : Memory} {n : ℕ} {a : lent_record.Allocation} {P R C : List ℕ} → FoundMarked m n a P R C → n < length m → {r : Parts} → r ≡ parts_in a → TreeAt m n P C r
+marked-tree f made e = found-tree (record { records = f.records; trees = trees-of f.trees; read = f.read }) made e
 
 -- ---- its part of the codes comes back
 module _ {m : Memory} {n : ℕ} {P C : List ℕ} {r : Parts} (h : TreeAt m n P C r) where

@@ -9,7 +9,6 @@ use Rattle.definition.specs.Memory.{ThinPointer, Memory, MemoryAccess, allocatio
 use Rattle.answer.specs.Answer.{answer_of, Gives, reply_to}
 use Rattle.answer.specs.Answer.Gives.{Nothing, TheWords}
 use Rattle.answer.specs.declared.Answer.{Answer}
-use Rattle.definition.specs.Valid.{Valid}
 use Rattle.tables.specs.Encoding.{words_of, codes_of, held}
 use Rattle.tables.specs.Held.{start_of}
 use Rattle.tables.specs.declared.Allocation as lent_record
@@ -66,12 +65,6 @@ words_start p len m =
 pub record Accessed (x : MemoryAccess) (m : Memory) (answer : ℕ) (C : List ℕ) : Type 0 where
   pub refusal : answer ≡ access_refusal x m
   pub codes : C ≡ held 32768 codes_of (perform_access x m).1
-
--- with it, where the bytes start; of a memory that stands
-pub record Made (x : MemoryAccess) (m : Memory) (refusal start : ℕ) (C : List ℕ) : Type 0 where
-  pub valid : Valid m
-  pub accessed : Accessed x m refusal C
-  pub at : refusal ≡ 0 → start ≡ words_start x.pointer x.len m
 
 -- what a load gives: the part of the data where the pointer points, of the length asked for
 abbrev pub words_given : MemoryAccess → Memory → Gives

@@ -6,7 +6,7 @@ ghost use Rattle.parts.specs.Trees.{parts_in};
 
 use tables::Allocation;
 
-// From one place on and before another.
+// From one place on and before another. The library's `Range` is not `Copy`, which the parts are.
 #[derive(Clone, Copy)]
 pub struct Span {
     pub start: usize,
@@ -26,20 +26,15 @@ pub fn parts_of(a: Allocation) -> Parts
     requires { (a.starts.nodes + a.nodes ≤ 1024) × (a.starts.codes + a.nodes * a.size ≤ 32768) }
     ensures { result ≡ parts_in a }
 {
-    let count = a.nodes;
-    let width = a.size;
-    let starts = a.starts;
-    let node = starts.nodes;
-    let code = starts.codes;
     Parts {
         nodes: Span {
-            start: node,
-            end: node + count,
+            start: a.starts.nodes,
+            end: a.starts.nodes + a.nodes,
         },
         codes: Span {
-            start: code,
-            end: code + count * width,
+            start: a.starts.codes,
+            end: a.starts.codes + a.nodes * a.size,
         },
-        width,
+        width: a.size,
     }
 }

@@ -1,6 +1,7 @@
 -- The requests to the memory alone: from what a core leaves, by the values that it was handed, to what the definition's `perform` says of the request.
 use Prim.Native.Nat.{ℕ, ◌<◌}
 use mathlib.Core.Path.{◌≡◌, refl, sym, ap, subst, subst⁻¹, ◌∙◌}
+use mathlib.Core.Logic.{◌⊎◌, inl, inr}
 use mathlib.Core.Bool.{false, false≢true}
 use mathlib.Core.List.{List}
 use native.Mathlib.Omega.{arith}
@@ -23,7 +24,7 @@ use Rattle.memory.specs.Deallocate.{Deallocated}
 use Rattle.memory.proofs.Allocated.{can-allocate, allocate-encode}
 use Rattle.memory.proofs.Afterwards.{load-encode, store-encode, deallocate-encode}
 use Rattle.request.specs.declared.Kind.{Kind}
-use Rattle.request.specs.declared.Kind.TheVariants.{Allocate, Deallocate, Load, Store, Dereferenceable, SignedDereferenceable, LeakCheck, Unused}
+use Rattle.request.specs.declared.Kind.TheVariants.{Allocate, Deallocate, Load, Store, Retag, NewCall, EndCall, Dereferenceable, SignedDereferenceable, LeakCheck, Empty, Unused}
 use Rattle.request.specs.declared.Request.{Request}
 use Rattle.request.specs.Fields.{kind_of, request_of}
 use Rattle.request.proofs.WellFormed.{allocate-bounds, deallocate-bounds, load-bound, store-parts, kind-number, not-unused}
@@ -106,8 +107,15 @@ module _ {s : State} {q : Request} {ws A P R W C : List ℕ} (h : Asked s q ws (
   leak-left w e f = left w e refl f h.holds.equal
 
   -- ---- those that are not asked
-  pub not-alone : {k : Kind} → q.kind ≡ k → is_in_memory k ≡ false → ⊥
+  not-alone : {k : Kind} → q.kind ≡ k → is_in_memory k ≡ false → ⊥
   not-alone e f = false≢true (sym f ∙ ap is_in_memory (sym e) ∙ h.alone)
 
-  pub not-a-kind : q.kind ≡ Unused → ⊥
+  not-a-kind : q.kind ≡ Unused → ⊥
   not-a-kind e = not-unused s (request_of q ws) (fine e)
+
+  pub not-asked : (q.kind ≡ Retag) ⊎ (q.kind ≡ NewCall) ⊎ (q.kind ≡ EndCall) ⊎ (q.kind ≡ Empty) ⊎ (q.kind ≡ Unused) → ⊥
+  not-asked (inl e) = not-alone e refl
+  not-asked (inr (inl e)) = not-alone e refl
+  not-asked (inr (inr (inl e))) = not-alone e refl
+  not-asked (inr (inr (inr (inl e)))) = not-alone e refl
+  not-asked (inr (inr (inr (inr e)))) = not-a-kind e

@@ -2,23 +2,18 @@
 ghost use Rattle.definition.specs.Memory.{accepted};
 ghost use Rattle.definition.specs.Frame.{State};
 ghost use Rattle.definition.specs.Frame as definition;
-ghost use Rattle.tables.specs.Held.{buffers};
 ghost use Rattle.perform.specs.Performed.{Left};
 ghost use Rattle.state.specs.State.{HoldsState};
+ghost use Rattle.state.specs.Run.{memory_of, Kept};
 
 use answer::Answer;
+use state::RunState;
 
-pub(crate) fn empty(
-    allocs: &mut [u64],
-    parents: &mut [u16],
-    protectors: &mut [u8],
-    words: &mut [u32],
-    codes: &mut [u8],
-    frames: &mut [u32],
-) -> Answer
-    requires { (s : State) × HoldsState s (buffers allocs.old parents.old protectors.old words.old codes.old) frames.old }
-    ensures { Left (accepted, definition.empty) result (buffers allocs.new parents.new protectors.new words.new codes.new) frames.new }
+pub(crate) fn empty(run: &mut RunState) -> Answer
+    requires { (s : State) × HoldsState s (memory_of run.old) run.old.frames.now }
+    ensures left { Left (accepted, definition.empty) result (memory_of run.new) run.new.frames.now }
+    ensures kept { Kept run.old run.new }
 {
-    state::clear(allocs, parents, protectors, words, codes, frames);
+    run.clear();
     Answer::Accepted
 }

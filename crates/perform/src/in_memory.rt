@@ -10,13 +10,8 @@ ghost use Rattle.perform.specs.Performed.{outcome_of, Asked, LeftMemory};
 use answer::Answer;
 use permission::AccessKind;
 use pointer::width::Width;
+use refusal::Refusal;
 use request::{Kind, Request};
-
-fn wide(x: u32) -> u64
-    ensures { result ≡ x }
-{
-    x as u64
-}
 
 // A load reads, a store writes.
 fn access_kind(kind: Kind) -> AccessKind
@@ -43,15 +38,13 @@ pub(crate) fn in_memory(
     ensures { (s : State) → Asked s q following.now (buffers allocs.old parents.now protectors.now words.old codes.old)
         → LeftMemory (outcome_of (width_of width) s q following.now) result (buffers allocs.new parents.now protectors.now words.new codes.new) }
 {
-    let kind = q.kind;
-    let extra = wide(q.extra);
-    let len = wide(q.fourth);
-    let exponent = wide(q.exponent);
-    let address = q.address;
+    let extra = u64::from(q.extra);
+    let len = u64::from(q.fourth);
+    let exponent = u64::from(q.exponent);
     let p = q.pointer();
-    match kind {
+    match q.kind {
         Kind::Allocate => memory::allocate::allocate(
-            allocs, codes, width, extra, len, exponent, address,
+            allocs, codes, width, extra, len, exponent, q.address,
         ),
         Kind::Deallocate => memory::deallocate::deallocate(
             allocs, parents, protectors, codes, p, extra, len, exponent,
@@ -61,7 +54,7 @@ pub(crate) fn in_memory(
             parents,
             words,
             codes,
-            access_kind(kind),
+            access_kind(q.kind),
             p,
             len,
             exponent,
@@ -71,10 +64,8 @@ pub(crate) fn in_memory(
         Kind::SignedDereferenceable => bounds::signed_dereferenceable(allocs, p, q.signed_length()),
         Kind::LeakCheck => bounds::leak_check(allocs),
         // no such kind is asked
-        Kind::Retag => Answer::Refused(2),
-        Kind::NewCall => Answer::Refused(2),
-        Kind::EndCall => Answer::Refused(2),
-        Kind::Empty => Answer::Refused(2),
-        Kind::Unused => Answer::Refused(2),
+        Kind::Retag | Kind::NewCall | Kind::EndCall | Kind::Empty | Kind::Unused => {
+            Answer::from(Refusal::Malformed)
+        }
     }
 }

@@ -4,47 +4,52 @@
 // specs/Performed.antt says what is asked and what is left; what comes out is the definition's `perform`.
 ghost use Rattle.definition.specs.Frame.{State};
 ghost use Rattle.pointer.specs.Width.{width_of};
-ghost use Rattle.tables.specs.Held.{buffers};
 ghost use Rattle.perform.specs.Performed.{Formed, outcome_of, Left};
 ghost use Rattle.state.specs.State.{HoldsState};
+ghost use Rattle.state.specs.Run.{memory_of, Kept};
 
 use answer::Answer;
-use pointer::width::Width;
 use request::{Kind, Request};
+use state::RunState;
 
 mod calls;
 mod emptying;
 mod in_memory;
 mod retags;
 
-// Every kind. Those that need no frame go to `in_memory`.
-pub fn perform(
-    allocs: &mut [u64],
-    parents: &mut [u16],
-    protectors: &mut [u8],
-    words: &mut [u32],
-    codes: &mut [u8],
-    frames: &mut [u32],
-    width: Width,
-    q: Request,
-    following: &[u32],
-) -> Answer
-    requires { (s : State) × (HoldsState s (buffers allocs.old parents.old protectors.old words.old codes.old) frames.old × Formed s q following.now) }
-    ensures { (s : State) → HoldsState s (buffers allocs.old parents.old protectors.old words.old codes.old) frames.old
+// Every kind. Those that need no frame go to `in_memory`. A part is lent the buffers that its kind reads, and as `&mut` those that it may change.
+pub fn perform(run: &mut RunState, q: Request, following: &[u32]) -> Answer
+    requires { (s : State) × (HoldsState s (memory_of run.old) run.old.frames.now × Formed s q following.now) }
+    ensures left { (s : State) → HoldsState s (memory_of run.old) run.old.frames.now
         → Formed s q following.now
-        → Left (outcome_of (width_of width) s q following.now) result (buffers allocs.new parents.new protectors.new words.new codes.new) frames.new }
+        → Left (outcome_of (width_of run.old.width) s q following.now) result (memory_of run.new) run.new.frames.now }
+    ensures kept { Kept run.old run.new }
 {
-    let kind = q.kind;
+    let width = run.width;
     let f = q.frame_used();
-    match kind {
-        Kind::Retag => crate::retags::retag(
-            allocs, parents, protectors, codes, frames, q, following,
+    match q.kind {
+        Kind::Retag => retags::retag(
+            run.allocs,
+            run.parents,
+            run.protectors,
+            run.codes,
+            run.frames,
+            q,
+            following,
         ),
-        Kind::NewCall => crate::calls::new_call(frames, f),
-        Kind::EndCall => crate::calls::end_call(allocs, parents, protectors, codes, frames, f),
-        Kind::Empty => { crate::emptying::empty(allocs, parents, protectors, words, codes, frames) }
-        _ => crate::in_memory::in_memory(
-            allocs, parents, protectors, words, codes, width, q, following,
-        ),
+        Kind::NewCall => calls::new_call(run.frames, f),
+        Kind::EndCall => {
+            let allocs = &mut *run.allocs;
+            let parents = &mut *run.parents;
+            calls::end_call(allocs, parents, run.protectors, run.codes, run.frames, f)
+        }
+        Kind::Empty => emptying::empty(run),
+        _ => {
+            let parents = &mut *run.parents;
+            let protectors = &mut *run.protectors;
+            in_memory::in_memory(
+                run.allocs, parents, protectors, run.words, run.codes, width, q, following,
+            )
+        }
     }
 }

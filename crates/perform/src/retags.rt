@@ -21,9 +21,9 @@ ghost use Rattle.perform.specs.Entered.{CanEnter};
 
 use answer::Answer;
 use frames::Entry;
-use layout::Mask;
 use permission::Protected;
 use pointer::Provenance;
+use refusal::Refusal;
 use request::Request;
 use retag::ReborrowSettings;
 
@@ -31,55 +31,24 @@ use retag::ReborrowSettings;
 fn settings(q: Request) -> ReborrowSettings
     ensures { (mask : FreezeMask) (ws : List ℕ) → settings_of result mask ≡ definition.settings_of (request_of q ws) mask }
 {
-    let pointer = request::safe_pointer(q.extra);
-    let protected = q.protector();
-    let freeze = q.freeze();
     ReborrowSettings {
-        pointer,
-        protected,
-        freeze,
+        pointer: request::safe_pointer(q.extra),
+        protected: q.protector(),
+        freeze: q.freeze(),
     }
 }
 
-// A node of an allocation is entered in frame f, if it is protected.
-fn enter_node(frames: &mut [u32], f: usize, protected: Protected, allocation: u32, node: u32)
-    requires can_enter { (fs : List Frame) × CanEnter (protector protected) f (some (record { allocation = allocation; node = node })) fs frames.old }
-    requires f_bound { f < 32 }
-    ensures { (fs : List Frame) → HoldsFrames fs frames.old
-        → frames.new ≡ frames_held (entered (protector protected) f (some (record { allocation = allocation; node = node })) fs) }
-{
-    let e = Entry { allocation, node };
-    match protected {
-        Protected::No => {}
-        Protected::Weak => frames::push_entry(frames, f, e),
-        Protected::Strong => frames::push_entry(frames, f, e),
-    }
-}
-
-// What a retag gives is entered, if it has provenance.
-fn enter_pointer(frames: &mut [u32], f: usize, protected: Protected, provenance: Provenance)
-    requires can_enter { (fs : List Frame) × CanEnter (protector protected) f (provenance_of provenance) fs frames.old }
-    requires f_bound { f < 32 }
-    ensures { (fs : List Frame) → HoldsFrames fs frames.old → frames.new ≡ frames_held (entered (protector protected) f (provenance_of provenance) fs) }
-{
-    match provenance {
-        Provenance::None => {}
-        Provenance::Of { allocation, node } => enter_node(frames, f, protected, allocation, node),
-    }
-}
-
-// A retag that is refused gives none.
+// The node that a retag gives is entered in frame f, if it is protected. One that is refused, or without provenance, gives none.
 fn enter(frames: &mut [u32], f: usize, protected: Protected, answer: Answer)
     requires can_enter { (fs : List Frame) × CanEnter (protector protected) f (named_pointer (answer_of answer []).names) fs frames.old }
     requires f_bound { f < 32 }
     ensures { (fs : List Frame) → HoldsFrames fs frames.old → frames.new ≡ frames_held (entered (protector protected) f (named_pointer (answer_of answer []).names) fs) }
 {
-    match answer {
-        Answer::Pointer(provenance) => enter_pointer(frames, f, protected, provenance),
-        Answer::Refused(_) => {}
-        Answer::Leak(_) => {}
-        Answer::Accepted => {}
-        Answer::Words { start: _, len: _ } => {}
+    if matches!(protected, Protected::No) {
+        return;
+    }
+    if let Answer::Pointer(Some(Provenance { allocation, node })) = answer {
+        frames::push_entry(frames, f, Entry { allocation, node });
     }
 }
 
@@ -105,8 +74,7 @@ fn reborrow_entered(
     let w = settings(q);
     let count = frames::entry_count(frames, f);
     let answer = retag::reborrow(allocs, parents, protectors, codes, mask, len, w, p, count);
-    let protected = w.protected;
-    enter(frames, f, protected, answer);
+    enter(frames, f, w.protected, answer);
     answer
 }
 
@@ -126,13 +94,11 @@ fn retag_with_mask(
         result allocs.new parents.new protectors.new codes.new frames.new }
 {
     let mut mask = [0u8; 4096];
-    let made = layout::freeze_mask(following, &mut mask);
-    match made {
-        Mask::Of(len) => reborrow_entered(
+    match layout::freeze_mask(following, &mut mask) {
+        Ok(len) => reborrow_entered(
             allocs, parents, protectors, codes, frames, &mut mask, len, q,
         ),
-        Mask::None => Answer::Refused(3),
-        Mask::WrongLength => Answer::Refused(3), // the buffer has its length
+        Err(_) => Answer::from(Refusal::WithoutMask),
     }
 }
 

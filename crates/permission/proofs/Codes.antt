@@ -1,6 +1,6 @@
 -- The functions of a code: at a permission's code they are the definition's; from 15 on nothing changes. And what an outcome tells.
 use Prim.Native.Nat.{ℕ, ◌≤◌}
-use mathlib.Core.Path.{◌≡◌, refl, ap, subst}
+use mathlib.Core.Path.{◌≡◌, refl, sym, ap, subst}
 use mathlib.Core.Bool.{Bool, true, false, not, ◌&&◌}
 use mathlib.Core.Option.{Option, none, some}
 use native.Mathlib.Decide.{dec_lt}
@@ -13,32 +13,28 @@ use Rattle.definition.specs.Permission.NodeRelation.{Local, Foreign}
 use Rattle.definition.proofs.Permissions.{permission-code, code-small}
 use Rattle.definition.proofs.Booleans.{T-left, T-right, every, in-range}
 use Rattle.definition.specs.Permission as definition
-use Rattle.permission.specs.declared.Outcome.{Outcome}
-use Rattle.permission.specs.declared.Outcome.TheVariants.{Stays, Becomes, Refused}
-use Rattle.permission.specs.Codes.{outcome_code, by_code, transition_code, refusal_code, next_code, is_protected_code, unprotected_code, end_access_code, prevents_code, init_access_code}
+use Rattle.std.specs.Prelude.{Some, None, Ok, Err, unwrap_or}
+use Rattle.std.specs.Prelude as std
+use Rattle.permission.specs.Codes.{Outcome, outcome_code, by_code, transition_code, refusal_code, next_code, is_protected_code, unprotected_code, end_access_code, prevents_code, init_access_code}
 
 -- ---- Boolean equality of what the arms answer
 abbrev pub same_outcome : Outcome → Outcome → Bool
-same_outcome Stays Stays = true
-same_outcome Stays (Becomes y) = false
-same_outcome Stays (Refused y) = false
-same_outcome (Becomes x) Stays = false
-same_outcome (Becomes x) (Becomes y) = eqb x y
-same_outcome (Becomes x) (Refused y) = false
-same_outcome (Refused x) Stays = false
-same_outcome (Refused x) (Becomes y) = false
-same_outcome (Refused x) (Refused y) = eqb x y
+same_outcome (Ok None) (Ok None) = true
+same_outcome (Ok None) (Ok (Some y)) = false
+same_outcome (Ok (Some x)) (Ok None) = false
+same_outcome (Ok (Some x)) (Ok (Some y)) = eqb x y
+same_outcome (Ok x) (Err y) = false
+same_outcome (Err x) (Ok y) = false
+same_outcome (Err x) (Err y) = eqb x y
 
 pub same_outcome_lem : (x y : Outcome) → T (same_outcome x y) → x ≡ y
-same_outcome_lem Stays Stays t = refl
-same_outcome_lem Stays (Becomes y) t = absurd t
-same_outcome_lem Stays (Refused y) t = absurd t
-same_outcome_lem (Becomes x) Stays t = absurd t
-same_outcome_lem (Becomes x) (Becomes y) t = ap Becomes (eqb→eq x y t)
-same_outcome_lem (Becomes x) (Refused y) t = absurd t
-same_outcome_lem (Refused x) Stays t = absurd t
-same_outcome_lem (Refused x) (Becomes y) t = absurd t
-same_outcome_lem (Refused x) (Refused y) t = ap Refused (eqb→eq x y t)
+same_outcome_lem (Ok None) (Ok None) t = refl
+same_outcome_lem (Ok None) (Ok (Some y)) t = absurd t
+same_outcome_lem (Ok (Some x)) (Ok None) t = absurd t
+same_outcome_lem (Ok (Some x)) (Ok (Some y)) t = ap (λ (c : ℕ). Ok (Some c)) (eqb→eq x y t)
+same_outcome_lem (Ok x) (Err y) t = absurd t
+same_outcome_lem (Err x) (Ok y) t = absurd t
+same_outcome_lem (Err x) (Err y) t = ap Err (eqb→eq x y t)
 
 abbrev pub same_bool : Bool → Bool → Bool
 same_bool true true = true
@@ -106,15 +102,15 @@ pub init-access-code : (p : Permission) → init_access_code (code p) ≡ init_a
 unfolding init_access_code
 init-access-code p = at_code init_access none p
 
-pub transition-past : (a : definition.AccessKind) (r : definition.NodeRelation) (c : ℕ) → 15 ≤ c → Stays ≡ transition_code a r c
+pub transition-past : (a : definition.AccessKind) (r : definition.NodeRelation) (c : ℕ) → 15 ≤ c → Ok None ≡ transition_code a r c
 unfolding transition_code
-transition-past a r c h = at-past (λ p. outcome_code c (transition a r p)) Stays c h
+transition-past a r c h = at-past (λ p. outcome_code c (transition a r p)) (Ok None) c h
 
 -- ---- what an outcome tells of the refusal and the next code: a test, computed
 abbrev told_by : Outcome → ℕ → ℕ → ℕ → Bool
-told_by Stays refused next c = eqb refused 0 && eqb next c
-told_by (Becomes d) refused next c = eqb refused 0 && eqb next d
-told_by (Refused n) refused next c = eqb refused n && (eqb next c && not (eqb n 0))
+told_by (Ok None) refused next c = eqb refused 0 && eqb next c
+told_by (Ok (Some d)) refused next c = eqb refused 0 && eqb next d
+told_by (Err n) refused next c = eqb refused n && (eqb next c && not (eqb n 0))
 
 module _ (a : definition.AccessKind) (r : definition.NodeRelation) where
   abbrev told : ℕ → Bool
@@ -135,17 +131,22 @@ module _ (a : definition.AccessKind) (r : definition.NodeRelation) (c : ℕ) whe
     | no ge ↦ rw (le-ltb c 15 (omega arith), eq-eqb c c refl) tt
   ]
 
-  pub stays-told : transition_code a r c ≡ Stays → (refusal_code (some a) r c ≡ 0) × (next_code (some a) r c ≡ c)
+  pub stays-told : transition_code a r c ≡ Ok None → (refusal_code (some a) r c ≡ 0) × (next_code (some a) r c ≡ c)
   stays-told e =
       let t = subst (λ (o : Outcome). T (told_by o (refusal_code (some a) r c) (next_code (some a) r c) c)) e tells in
       (eqb→eq _ 0 (T-left (eqb (refusal_code (some a) r c) 0) (eqb (next_code (some a) r c) c) t), eqb→eq _ c (T-right (eqb (refusal_code (some a) r c) 0) (eqb (next_code (some a) r c) c) t))
 
-  pub becomes-told : (d : ℕ) → transition_code a r c ≡ Becomes d → (refusal_code (some a) r c ≡ 0) × (next_code (some a) r c ≡ d)
+  pub becomes-told : (d : ℕ) → transition_code a r c ≡ Ok (Some d) → (refusal_code (some a) r c ≡ 0) × (next_code (some a) r c ≡ d)
   becomes-told d e =
       let t = subst (λ (o : Outcome). T (told_by o (refusal_code (some a) r c) (next_code (some a) r c) c)) e tells in
       (eqb→eq _ 0 (T-left (eqb (refusal_code (some a) r c) 0) (eqb (next_code (some a) r c) d) t), eqb→eq _ d (T-right (eqb (refusal_code (some a) r c) 0) (eqb (next_code (some a) r c) d) t))
 
-  module _ (n : ℕ) (e : transition_code a r c ≡ Refused n) where
+  -- where it is not refused
+  pub accepted-next : (next : std.Option ℕ) → Ok next ≡ transition_code a r c → unwrap_or next c ≡ next_code (some a) r c
+  accepted-next None e = sym (stays-told (sym e)).1
+  accepted-next (Some d) e = sym (becomes-told d (sym e)).1
+
+  module _ (n : ℕ) (e : transition_code a r c ≡ Err n) where
     refused-tells : T (eqb (refusal_code (some a) r c) n && (eqb (next_code (some a) r c) c && not (eqb n 0)))
     refused-tells = subst (λ (o : Outcome). T (told_by o (refusal_code (some a) r c) (next_code (some a) r c) c)) e tells
 

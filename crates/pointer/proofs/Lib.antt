@@ -1,3 +1,4 @@
 pub mod Signed
 pub mod Bytes
 pub mod Widths
+pub mod Folds

@@ -1,14 +1,18 @@
 -- What the code's values are in the definition.
-use Rattle.std.specs.Prelude.{ℕ, suc, ℤ, pos, negsuc}
+use Rattle.std.specs.Prelude.{ℕ, suc, ℤ, pos, negsuc, None, Some}
+use Rattle.std.specs.Prelude as std
 use Rattle.std.proofs.Math.Option.{Option, none, some}
 use Rattle.definition.specs.Memory as definition
 use Rattle.pointer.specs.declared.Provenance.{Provenance}
-use Rattle.pointer.specs.declared.Provenance.TheVariants.{None, Of}
 use Rattle.pointer.specs.declared.ThinPointer.{ThinPointer}
 
-abbrev pub provenance_of : Provenance → Option definition.Provenance
+abbrev pub provenance_of : std.Option Provenance → Option definition.Provenance
 provenance_of None = none
-provenance_of (Of allocation node) = some (record { allocation = allocation; node = node })
+provenance_of (Some t) = some (record { allocation = t.allocation; node = t.node })
+
+-- via a node of an allocation
+abbrev pub via : ℕ → ℕ → std.Option Provenance
+via allocation node = Some (record { allocation = allocation; node = node })
 
 abbrev pub thin_pointer_of : ThinPointer → definition.ThinPointer
 thin_pointer_of p = record { address = p.addr; provenance = provenance_of p.provenance }

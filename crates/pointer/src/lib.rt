@@ -14,17 +14,18 @@ use crate::width::Width;
 
 pub mod width;
 
-// What a pointer may access: nothing, or an allocation, through one of its nodes.
+// What a pointer may access: an allocation, through one of its nodes.
 #[derive(Clone, Copy)]
-pub enum Provenance {
-    None,
-    Of { allocation: u32, node: u32 },
+pub struct Provenance {
+    pub allocation: u32,
+    pub node: u32,
 }
 
+// Without provenance it may access nothing.
 #[derive(Clone, Copy)]
 pub struct ThinPointer {
     pub addr: u64,
-    pub provenance: Provenance,
+    pub provenance: Option<Provenance>,
 }
 
 impl ThinPointer {
@@ -32,19 +33,15 @@ impl ThinPointer {
     pub fn wrapping_offset(self, offset: i64, width: Width) -> ThinPointer
         ensures { thin_pointer_of result ≡ wrapping_offset (width_of width) (thin_pointer_of self) (back offset) (ahead offset) }
     {
-        let raised = std::num::wrapping_add_u64(self.addr, bytes_ahead(offset));
-        let lowered = std::num::wrapping_sub_u64(raised, bytes_back(offset));
-        let addr = width.wrapped(lowered);
-        let provenance = self.provenance;
-        ThinPointer { addr, provenance }
+        let addr = width.wrapped(self.addr.wrapping_add_signed(offset));
+        ThinPointer { addr, ..self }
     }
 
     // The same address, with another provenance.
-    pub fn with_provenance(self, provenance: Provenance) -> ThinPointer
+    pub fn with_provenance(self, provenance: Option<Provenance>) -> ThinPointer
         ensures { thin_pointer_of result ≡ record { address = (thin_pointer_of self).address; provenance = provenance_of provenance } }
     {
-        let addr = self.addr;
-        ThinPointer { addr, provenance }
+        ThinPointer { provenance, ..self }
     }
 }
 
@@ -52,45 +49,34 @@ impl ThinPointer {
 pub fn bytes_back(offset: i64) -> u64
     ensures { result ≡ back offset }
 {
-    if offset < 0 {
-        (-1 - offset) as u64 + 1
-    } else {
-        0
-    }
+    offset.min(0).unsigned_abs()
 }
 
 // How many bytes a signed number reaches ahead.
 pub fn bytes_ahead(offset: i64) -> u64
     ensures { result ≡ ahead offset }
 {
-    if offset < 0 { 0 } else { offset as u64 }
+    offset.max(0).unsigned_abs()
 }
 
 // ---- a byte is a word (specs/Byte.antt)
 // A word that is no byte: "An uninitialised byte is 0; without provenance the middle fields are 0."
+#[tactic(auto, unfolding(definition::specs::Request::bad_byte))]
 fn bad_byte(word: u32) -> bool
     ensures { result ≡ bad_byte word }
 {
-    if !is_initialised(word) {
-        return word != 0;
+    if is_initialised(word) {
+        !has_provenance(word) && (word >> 8) % 0x40_0000 != 0
+    } else {
+        word != 0
     }
-    if has_provenance(word) {
-        return false;
-    }
-    (word >> 8) % 0x40_0000 != 0
 }
 
-// Every byte is looked at, with no way out of the loop: several are tested at a time.
+// Every byte is looked at, with no way out, as `any` has one: several are tested at a time.
 pub fn any_bad_byte(bytes: &[u32]) -> bool
     ensures { result ≡ any bad_byte bytes.now }
 {
-    let mut bad = false;
-    let mut i = 0;
-    while i < bytes.len() {
-        bad = bad | bad_byte(bytes[i]);
-        i += 1;
-    }
-    bad
+    bytes.iter().fold(false, |bad, byte| bad | bad_byte(*byte))
 }
 
 fn is_initialised(word: u32) -> bool

@@ -3,33 +3,49 @@ ghost use Rattle.std.specs.Prelude.{◌≡◌, ◌-◌, ◌%◌, leb, nat_le};
 ghost use Rattle.definition.specs.Notation.{any};
 ghost use Rattle.definition.specs.Width.{bits, addresses, pointer_bytes};
 ghost use Rattle.definition.specs.Request.{position, is_too_high, is_too_far};
-ghost use Rattle.pointer.specs.Width.{width_of, is_width, width_at};
+ghost use Rattle.pointer.specs.Width.{width_of, is_width, width_at, IsWidthOf};
 
 #[derive(Clone, Copy)]
 pub enum Width {
-    Bits16,
-    Bits32,
-    Bits64,
+    Bits16 = 16,
+    Bits32 = 32,
+    Bits64 = 64,
+}
+
+// A number that is no width.
+#[derive(Clone, Copy, Debug, PartialEq, Eq)]
+pub struct NoWidth(pub u64);
+
+// The width with so many bits.
+impl TryFrom<u64> for Width {
+    type Error = NoWidth;
+
+    ghost try_from_gives = { IsWidthOf };
+
+    fn try_from(number: u64) -> Result<Self, NoWidth> {
+        match number {
+            16 => Ok(Width::Bits16),
+            32 => Ok(Width::Bits32),
+            64 => Ok(Width::Bits64),
+            _ => Err(NoWidth(number)),
+        }
+    }
 }
 
 impl Width {
     pub fn bits(self) -> u64
         ensures { result ≡ bits (width_of self) }
     {
-        match self {
-            Width::Bits16 => 16,
-            Width::Bits32 => 32,
-            Width::Bits64 => 64,
-        }
+        self as u64
     }
 
     pub fn last_address(self) -> u64
         ensures { result ≡ addresses (width_of self) - 1 }
     {
         match self {
-            Width::Bits16 => 0xffff,
-            Width::Bits32 => 0xffff_ffff,
-            Width::Bits64 => 0xffff_ffff_ffff_ffff,
+            Width::Bits16 => u16::MAX as u64,
+            Width::Bits32 => u32::MAX as u64,
+            Width::Bits64 => u64::MAX,
         }
     }
 
@@ -37,11 +53,7 @@ impl Width {
     fn pointer_bytes(self) -> u32
         ensures { result ≡ pointer_bytes (width_of self) }
     {
-        match self {
-            Width::Bits16 => 2,
-            Width::Bits32 => 4,
-            Width::Bits64 => 8,
-        }
+        self as u32 / 8
     }
 
     // An address in the bits that the width has.
@@ -69,16 +81,13 @@ fn position_from(word: u32, bound: u32) -> bool
     bound <= (word >> 27) % 8
 }
 
+// With no way out either.
 fn any_position_from(bytes: &[u32], bound: u32) -> bool
     ensures { result ≡ any (λ b. leb bound (position b)) bytes.now }
 {
-    let mut far = false;
-    let mut i = 0;
-    while i < bytes.len() {
-        far = far | position_from(bytes[i], bound);
-        i += 1;
-    }
-    far
+    bytes
+        .iter()
+        .fold(false, |far, byte| far | position_from(*byte, bound))
 }
 
 // "An .. position too big for the width". At 64 bits there is none.
@@ -95,24 +104,12 @@ pub fn any_far_byte(bytes: &[u32], width: Width) -> bool
 pub fn is_width(number: u64) -> bool
     ensures { result ≡ is_width number }
 {
-    if number == 16 {
-        return true;
-    }
-    if number == 32 {
-        return true;
-    }
-    number == 64
+    Width::try_from(number).is_ok()
 }
 
 // 64 bits for a number that is no width.
 pub fn width_at(number: u64) -> Width
     ensures { width_of result ≡ width_at number }
 {
-    if number == 16 {
-        return Width::Bits16;
-    }
-    if number == 32 {
-        return Width::Bits32;
-    }
-    Width::Bits64
+    Width::try_from(number).unwrap_or(Width::Bits64)
 }

@@ -5,8 +5,9 @@ use mathlib.Core.Path.{◌≡◌, ap, ap₂, ◌∙◌}
 use native.Mathlib.Decide.{dec_lt}
 use native.Mathlib.Omega.{arith}
 use lib.Bits.{bit_and, bit_or, and_block, and_mask, and_zero_r, or_block, or_lt, or_mod, or_zero_l, or_zero_r}
+use Rattle.std.specs.Int.{w64, to_le_bytes}
 use Rattle.definition.specs.Output.{digit, word, hexadecimal}
-use Rattle.report.specs.Lanes.{four_lanes, eight_lanes, byte_lanes, digit_lanes, eight_bytes}
+use Rattle.report.specs.Lanes.{four_lanes, eight_lanes, byte_lanes, digit_lanes}
 use Rattle.report.proofs.Numbers.{digit_low, digit-high}
 
 -- ---- `&` lane by lane
@@ -220,10 +221,10 @@ characters-step a b c d e f g h ha hb hc hd he hf hg hh =
 
 -- ---- the bytes of numbers side by side are those numbers
 eight-bytes : (a b c d e f g h : ℕ) → a < 256 → b < 256 → c < 256 → d < 256 → e < 256 → f < 256 → g < 256 → h < 256
-    → eight_bytes (eight_lanes a b c d e f g h) ≡ h ∷ g ∷ f ∷ e ∷ d ∷ c ∷ b ∷ a ∷ []
+    → to_le_bytes w64 (eight_lanes a b c d e f g h) ≡ h ∷ g ∷ f ∷ e ∷ d ∷ c ∷ b ∷ a ∷ []
 eight-bytes a b c d e f g h ha hb hc hd he hf hg hh =
     let n : ℕ = eight_lanes a b c d e f g h in
-    let a' : n / 72057594037927936 ≡ a = omega arith in
+    let a' : n / 72057594037927936 % 256 ≡ a = omega arith in
     let b' : n / 281474976710656 % 256 ≡ b = omega arith in
     let c' : n / 1099511627776 % 256 ≡ c = omega arith in
     let d' : n / 4294967296 % 256 ≡ d = omega arith in
@@ -233,7 +234,7 @@ eight-bytes a b c d e f g h ha hb hc hd he hf hg hh =
     let h' : n % 256 ≡ h = omega arith in
     cc
 
-pub word_bytes : (w : ℕ) → eight_bytes (digit_lanes digit w) ≡ word w
+pub word_bytes : (w : ℕ) → to_le_bytes w64 (digit_lanes digit w) ≡ word w
 unfolding hexadecimal
 word_bytes w =
     let i : w % 16 ≡ w / 1 % 16 = omega arith in

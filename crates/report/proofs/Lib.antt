@@ -2,7 +2,6 @@
 pub mod Writes
 pub mod Numbers
 pub mod Lines
-pub mod Names
 pub mod Rows
 pub mod Parts
 pub mod Held

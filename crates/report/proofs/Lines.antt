@@ -1,42 +1,41 @@
 -- The fields of a line, one after the other.
-use Prim.Native.Nat.{ℕ, ◌+◌, ◌*◌, ◌^◌, ◌≤◌, ◌<◌}
+use Prim.Native.Nat.{ℕ, ◌+◌, ◌*◌, ◌≤◌, ◌<◌}
 use mathlib.Core.List.{List, [], ◌∷◌, ◌++◌, map, append_assoc}
 use mathlib.Core.Path.{◌≡◌, refl, ap, ◌∙◌}
 use native.Mathlib.Omega.{arith}
+use mathlib.Core.Bool.{true, false}
+use borrow.Author.Tests.{eqb-true}
+use lib.Dec.{eqb}
 use lib.ListN.{length, drop, get_or, length-append}
 use lib.Seq.{drop-length}
 use Rattle.definition.specs.Memory.{Provenance}
 use Rattle.definition.specs.Output.{Text, ascii, decimal, word, words, pointed, ended}
 use Rattle.definition.proofs.Parts.{drop-next}
-use Rattle.report.specs.Written.{Room, Written}
+use Rattle.report.specs.declared.page.Page.{Page}
+use Rattle.report.specs.Page.{Puts}
 use Rattle.report.proofs.Numbers.{decimal-length, hex-length}
-use Rattle.report.proofs.Writes.{Left, room_next, less-left}
+use Rattle.report.proofs.Writes.{puts_both}
 
--- ---- the fields that are left of a line, and its end
-module _ {before : List ℕ} {at : ℕ} {whole out : List ℕ} {p : ℕ} where
-  pub field_room : {f : Text} (fs : List Text) → Left before at whole out p (ended (f ∷ fs)) → Room out p (ascii " " ++ f)
+-- ---- a line, field by field
+module _ {p : Page} where
+  -- a field, and the others behind it
+  pub field_put : {f : Text} (fs : List Text) {q r : Page} → Puts p (ascii " " ++ f) q → Puts q (ended fs) r → Puts p (ended (f ∷ fs)) r
   unfolding ended
-  field_room {f} fs l = room_next (ascii " " ++ f) (ended fs) l
+  field_put fs v w = puts_both v w
 
-  -- a field was written
-  pub field-left : {f : Text} (fs : List Text) {out' : List ℕ} {p' : ℕ}
-      → Left before at whole out p (ended (f ∷ fs)) → Written out p (ascii " " ++ f) out' p' → Left before at whole out' p' (ended fs)
+  -- its end
+  pub end_put : {q : Page} → Puts p (ascii "\n") q → Puts p (ended []) q
   unfolding ended
-  field-left {f} fs l w = less-left (ascii " " ++ f) (ended fs) l w
-
-  -- only the end is
-  pub end-left : Left before at whole out p (ended []) → Left before at whole out p (ascii "\n")
-  unfolding ended
-  end-left l = l
+  end_put w = w
 
 -- ---- words
-pub words-none : (ws : List ℕ) → length ws ≡ 0 → ascii " -\n" ≡ ended (words ws)
+pub words-none : (ws : List ℕ) → eqb (length ws) 0 ≡ true → ascii " -\n" ≡ ended (words ws)
 unfolding ended
 words-none [] e = refl
-words-none (w ∷ ws) e = absurd (omega arith)
+words-none (w ∷ ws) e = absurd (omega (arith, eqb-true (length (w ∷ ws)) 0 e))
 
-pub words-some : (ws : List ℕ) → (length ws ≡ 0 → ⊥) → ended (words ws) ≡ ended (map word ws)
-words-some [] e = absurd (e refl)
+pub words-some : (ws : List ℕ) → eqb (length ws) 0 ≡ false → ended (words ws) ≡ ended (map word ws)
+words-some [] e = cc
 words-some (w ∷ ws) e = refl
 
 pub words-next : (ws : List ℕ) (i : ℕ) → i < length ws
@@ -73,17 +72,8 @@ unfolding ended
 words-length [] = omega arith
 words-length (w ∷ ws) = omega (arith, all-words-length (w ∷ ws))
 
-pub number-length : (n : ℕ) → n < 2 ^ 64 → length (ended (decimal n ∷ [])) ≤ 22
-number-length n h = omega (arith, field-length (decimal n) [], end-length, decimal-length n h)
+-- how long the fields of a line are
+pub ruleset fields = (field-length, end-length)
 
-pub pointed-length : (t : Provenance) → t.allocation < 2 ^ 64 → t.node < 2 ^ 64 → length (ended (pointed t ∷ [])) ≤ 43
-unfolding pointed
-pointed-length t h k =
-    omega (
-      arith,
-      field-length (pointed t) [],
-      end-length,
-      decimal-length t.allocation h,
-      decimal-length t.node k,
-      length-append (decimal t.allocation) (ascii "." ++ decimal t.node),
-    )
+-- how long its numbers are
+pub ruleset numbers = (field-length, end-length, decimal-length, words-length)

@@ -9,16 +9,18 @@ use native.Mathlib.Omega.{arith}
 use borrow.Author.Tests.{lt-ltb, le-ltb}
 use lib.ListN.{length, length-append}
 use Rattle.definition.specs.Output.{digit, decimal_within, decimal, hexadecimal}
-use Rattle.report.specs.Digits.{two, four, eight}
+use Rattle.report.specs.Digits.{two}
 
 -- ---- a digit
 pub digit_low : (n : ℕ) → n < 10 → n + 48 ≡ digit n
 unfolding digit
 digit_low n h = rw (lt-ltb n 10 h) (omega arith)
 
-pub digit-high : (n : ℕ) → 10 ≤ n → n + 87 ≡ digit n
+pub digit-high : (n : ℕ) → 10 ≤ n → n - 10 + 97 ≡ digit n
 unfolding digit
 digit-high n h = rw (le-ltb n 10 h) (omega arith)
+
+pub ruleset digits = (digit_low, digit-high)
 
 -- ---- decimal
 -- the digits before the last, if there are any
@@ -73,30 +75,6 @@ more-two n h =
     ∙ ap (λ (q : ℕ). decimal q ++ (digit (n / 10 % 10) ∷ digit (n % 10) ∷ [])) e
     ∙ ap (λ (q : ℕ). decimal (n / 100) ++ (digit q ∷ digit (n % 10) ∷ [])) d
     ∙ ap (λ (q : ℕ). decimal (n / 100) ++ (digit (n % 100 / 10) ∷ digit q ∷ [])) f
-
-pub more-four : (n : ℕ) → 10000 ≤ n → decimal n ≡ decimal (n / 10000) ++ four (n % 10000)
-more-four n h =
-    let e : n / 100 / 100 ≡ n / 10000 = omega arith in
-    let d : n / 100 % 100 ≡ n % 10000 / 100 = omega arith in
-    let f : n % 100 ≡ n % 10000 % 100 = omega arith in
-    more-two n (omega arith)
-    ∙ ap (λ (t : List ℕ). t ++ two (n % 100)) (more-two (n / 100) (omega arith))
-    ∙ append_assoc (decimal (n / 100 / 100)) (two (n / 100 % 100)) (two (n % 100))
-    ∙ ap (λ (q : ℕ). decimal q ++ (two (n / 100 % 100) ++ two (n % 100))) e
-    ∙ ap (λ (q : ℕ). decimal (n / 10000) ++ (two q ++ two (n % 100))) d
-    ∙ ap (λ (q : ℕ). decimal (n / 10000) ++ (two (n % 10000 / 100) ++ two q)) f
-
-pub more-eight : (n : ℕ) → 100000000 ≤ n → decimal n ≡ decimal (n / 100000000) ++ eight (n % 100000000)
-more-eight n h =
-    let e : n / 10000 / 10000 ≡ n / 100000000 = omega arith in
-    let d : n / 10000 % 10000 ≡ n % 100000000 / 10000 = omega arith in
-    let f : n % 10000 ≡ n % 100000000 % 10000 = omega arith in
-    more-four n (omega arith)
-    ∙ ap (λ (t : List ℕ). t ++ four (n % 10000)) (more-four (n / 10000) (omega arith))
-    ∙ append_assoc (decimal (n / 10000 / 10000)) (four (n / 10000 % 10000)) (four (n % 10000))
-    ∙ ap (λ (q : ℕ). decimal q ++ (four (n / 10000 % 10000) ++ four (n % 10000))) e
-    ∙ ap (λ (q : ℕ). decimal (n / 100000000) ++ (four q ++ four (n % 10000))) d
-    ∙ ap (λ (q : ℕ). decimal (n / 100000000) ++ (four (n % 100000000 / 10000) ++ four q)) f
 
 -- a number below 10 to the k + 1 has at most k + 1 digits
 decimal-short : (k n : ℕ) → n < 10 ^ suc k → length (decimal n) ≤ suc k

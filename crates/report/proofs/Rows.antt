@@ -5,6 +5,9 @@ use mathlib.Core.Path.{◌≡◌, refl, ap, ap₂, ◌∙◌}
 use native.Mathlib.Nat.{suc-mul}
 use native.Mathlib.Numerals.{add-one}
 use native.Mathlib.Omega.{arith}
+use mathlib.Core.Bool.{true, false}
+use borrow.Author.Tests.{eqb-true}
+use lib.Dec.{eqb}
 use lib.ListN.{length, take, drop, get_or}
 use lib.Seq.{drop-drop, drop-length}
 use Rattle.definition.proofs.Permissions.{code-permission}
@@ -16,18 +19,18 @@ use Rattle.tables.specs.Decoding.{nodes_in}
 use Rattle.report.specs.Memory.{node_of}
 
 -- ---- a row
-pub codes-none : (row : List ℕ) → length row ≡ 0 → ascii " -" ≡ ascii " " ++ codes (map permission row)
+pub codes-none : (row : List ℕ) → eqb (length row) 0 ≡ true → ascii " -" ≡ ascii " " ++ codes (map permission row)
 unfolding codes
 codes-none [] e = refl
-codes-none (c ∷ row) e = absurd (omega arith)
+codes-none (c ∷ row) e = absurd (omega (arith, eqb-true (length (c ∷ row)) 0 e))
 
 digits : (row : List ℕ) → All (λ (c : ℕ). c < 15) row → map (λ q. digit (code q)) (map permission row) ≡ map digit row
 digits [] h = refl
 digits (c ∷ row) h = ap₂ ◌∷◌ (ap digit (code-permission c h.0)) (digits row h.1)
 
-pub codes-some : (row : List ℕ) → All (λ (c : ℕ). c < 15) row → (length row ≡ 0 → ⊥) → codes (map permission row) ≡ map digit row
+pub codes-some : (row : List ℕ) → All (λ (c : ℕ). c < 15) row → eqb (length row) 0 ≡ false → codes (map permission row) ≡ map digit row
 unfolding codes
-codes-some [] h e = absurd (e refl)
+codes-some [] h e = cc
 codes-some (c ∷ row) h e = digits (c ∷ row) h
 
 pub codes-next : (row : List ℕ) (i : ℕ) → i < length row → map digit (drop i row) ≡ (digit (get_or row i 0) ∷ []) ++ map digit (drop (i + 1) row)
@@ -48,9 +51,6 @@ module _ (a size : ℕ) (P R C : List ℕ) where
       let e : length P - k ≡ suc (length P - (k + 1)) = omega arith in
       rw (e, get_d-first P k 0, get_d-first R k 0, drop-drop 1 k P, drop-drop 1 k R, drop-drop size start C, ← add-one k)
 
-  pub nodes-all : lines_from a size P R C 0 0 ≡ node_lines a 0 (nodes_in (length P) size P R C)
-  nodes-all = let z : length P - 0 ≡ length P = omega arith in rw z
-
   -- with the row as the code takes it
   pub nodes-step : (k start : ℕ) → k < length P
       → lines_from a size P R C k start
@@ -62,9 +62,6 @@ module _ (a size : ℕ) (P R C : List ℕ) where
   nodes-end k start e = let z : length P - k ≡ 0 = omega arith in rw z
 
 -- ---- the rows stand within the codes: so many are left behind node k
-pub rows_start : (n size : ℕ) (C : List ℕ) → length C ≡ n * size → 0 + (n - 0) * size ≡ length C
-rows_start n size C e = let z : n - 0 ≡ n = omega arith in rw z (omega (arith, e))
-
 pub rows_next : (n k size start total : ℕ) → k < n → start + (n - k) * size ≡ total → start + size + (n - (k + 1)) * size ≡ total
 rows_next n k size start total h e =
     let z : n - k ≡ suc (n - (k + 1)) = omega arith in

@@ -1,5 +1,5 @@
 -- Numbers side by side in one: 0x0a07 is 10 and 7, 8 bits each.
-use Rattle.std.specs.Prelude.{ℕ, ◌+◌, ◌*◌, ◌/◌, ◌%◌, ◌^◌, List, [], ◌∷◌}
+use Rattle.std.specs.Prelude.{ℕ, ◌+◌, ◌*◌, ◌/◌, ◌%◌, ◌^◌}
 
 -- 16 bits each
 abbrev pub four_lanes : ℕ → ℕ → ℕ → ℕ → ℕ
@@ -26,16 +26,3 @@ digit_lanes f w =
     (f (w / 1048576 % 16))
     (f (w / 16777216 % 16))
     (f (w / 268435456 % 16))
-
--- the bytes of a number below 2 to the 64, the lowest first
-abbrev pub eight_bytes : ℕ → List ℕ
-eight_bytes n =
-    n % 256
-    ∷ n / 256 % 256
-    ∷ n / 65536 % 256
-    ∷ n / 16777216 % 256
-    ∷ n / 4294967296 % 256
-    ∷ n / 1099511627776 % 256
-    ∷ n / 281474976710656 % 256
-    ∷ n / 72057594037927936
-    ∷ []

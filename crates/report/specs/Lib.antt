@@ -3,3 +3,4 @@ pub mod Answer
 pub mod Memory
 pub mod Digits
 pub mod Lanes
+pub mod Page

@@ -4,131 +4,114 @@ ghost use Rattle.definition.specs.Memory.{Memory, allocation_at};
 ghost use Rattle.definition.specs.Output.{ascii, decimal, ended, liveness_name, kind_name, allocation_lines, memory_lines};
 ghost use Rattle.tables.specs.Decoding.{liveness, allocation_kind};
 ghost use Rattle.tables.specs.Held.{buffers, Holds, WellFormed};
-ghost use Rattle.report.specs.Written.{Room, Written};
+ghost use Rattle.report.specs.Page.{HasRoom, Puts};
+ghost use Rattle.report.specs.Written.{Written};
 ghost use Rattle.report.specs.Memory.{Nodes, LinesFit, allocation_of, record_line, words_line};
 
-use crate::decimal::put_number;
-use crate::nodes::node_lines;
-use crate::text::{put_byte, put_bytes};
-use crate::word::put_words;
+use crate::page::Page;
 use tables::Allocation;
 
-// "live or dead"
-fn put_liveness(out: &mut [u8], at: usize, state: u64) -> usize
-    requires { Room out.old at (ascii " " ++ liveness_name (liveness state)) }
-    ensures { Written out.old at (ascii " " ++ liveness_name (liveness state)) out.new result }
+// "live or dead", behind the field's space. This and the next by the number that the record holds (`tables::Allocation`).
+#[tactic(auto, unfolding(definition::specs::Output::liveness_name))]
+fn liveness_name(state: u64) -> &'static [u8]
+    ensures { result.now ≡ ascii " " ++ liveness_name (liveness state) }
 {
-    if state == 1 {
-        return put_bytes(out, at, b" live");
+    match state {
+        1 => b" live",
+        _ => b" dead",
     }
-    put_bytes(out, at, b" dead")
 }
 
-// "kind in lower case"
-fn put_kind(out: &mut [u8], at: usize, kind: u64) -> usize
-    requires { Room out.old at (ascii " " ++ kind_name (allocation_kind kind)) }
-    ensures { Written out.old at (ascii " " ++ kind_name (allocation_kind kind)) out.new result }
+// "kind in lower case", behind the field's space.
+#[tactic(auto, unfolding(definition::specs::Output::kind_name))]
+fn kind_name(kind: u64) -> &'static [u8]
+    ensures { result.now ≡ ascii " " ++ kind_name (allocation_kind kind) }
 {
     match kind {
-        1 => put_bytes(out, at, b" heap"),
-        2 => put_bytes(out, at, b" global"),
-        3 => put_bytes(out, at, b" function"),
-        4 => put_bytes(out, at, b" vtable"),
-        _ => put_bytes(out, at, b" stack"),
+        1 => b" heap",
+        2 => b" global",
+        3 => b" function",
+        4 => b" vtable",
+        _ => b" stack",
     }
 }
 
-// "address, size, exponent", and the line's end.
-fn put_place(out: &mut [u8], at: usize, address: u64, size: u64, exponent: u64) -> usize
-    requires { Room out.old at (ended (decimal address ∷ decimal size ∷ decimal exponent ∷ [])) }
-    ensures { Written out.old at (ended (decimal address ∷ decimal size ∷ decimal exponent ∷ [])) out.new result }
-{
-    let p = put_number(out, at, address);
-    let q = put_number(out, p, size);
-    let r = put_number(out, q, exponent);
-    put_byte(out, r, b'\n')
-}
+impl Page<'_> {
+    // The line `a`: "allocation, live or dead, kind in lower case, address, size, exponent".
+    #[tactic(auto, using(crate::proofs::Lines::fields))]
+    fn record_line(&mut self, a: u64, x: Allocation)
+        requires { HasRoom self.old (record_line a x) }
+        ensures { Puts self.old (record_line a x) self.new }
+    {
+        self.put_byte(b'a');
+        self.put_number(a);
+        self.put_bytes(liveness_name(x.state));
+        self.put_bytes(kind_name(x.kind));
+        self.put_number(x.address);
+        self.put_number(x.size as u64);
+        self.put_number(x.exponent);
+        self.put_byte(b'\n');
+    }
 
-// The line `a`.
-fn record_line(out: &mut [u8], at: usize, a: u64, x: Allocation) -> usize
-    requires { Room out.old at (record_line a x) }
-    ensures { Written out.old at (record_line a x) out.new result }
-{
-    let p = put_byte(out, at, b'a');
-    let q = put_number(out, p, a);
-    let r = put_liveness(out, q, x.state);
-    let s = put_kind(out, r, x.kind);
-    put_place(out, s, x.address, x.size as u64, x.exponent)
-}
+    // The line `d`.
+    #[tactic(auto, using(crate::proofs::Lines::fields))]
+    fn words_line(&mut self, a: u64, words: &[u32])
+        requires { HasRoom self.old (words_line a words.now) }
+        ensures { Puts self.old (words_line a words.now) self.new }
+    {
+        self.put_byte(b'd');
+        self.put_number(a);
+        self.put_words(words);
+    }
 
-// The line `d`.
-fn words_line(out: &mut [u8], at: usize, a: u64, words: &[u32]) -> usize
-    requires { Room out.old at (words_line a words.now) }
-    ensures { Written out.old at (words_line a words.now) out.new result }
-{
-    let p = put_byte(out, at, b'd');
-    let q = put_number(out, p, a);
-    put_words(out, q, words)
-}
-
-// One allocation: its record, and its parts of the other buffers.
-fn put_allocation(
-    out: &mut [u8],
-    at: usize,
-    a: u64,
-    x: Allocation,
-    words: &[u32],
-    parents: &[u16],
-    protectors: &[u8],
-    codes: &[u8],
-) -> usize
-    requires words_len { length words.now ≡ x.size }
-    requires nodes { Nodes (length words.now) parents.now protectors.now codes.now }
-    requires room { Room out.old at (allocation_lines a (allocation_of x words.now parents.now protectors.now codes.now)) }
-    ensures { Written out.old at
-        (allocation_lines a (allocation_of x words.now parents.now protectors.now codes.now))
-        out.new result }
-{
-    let p = record_line(out, at, a, x);
-    let q = words_line(out, p, a, words);
-    node_lines(out, q, a, words.len(), parents, protectors, codes)
-}
-
-// Allocation a of the memory that the buffers hold.
-fn allocation_lines(
-    out: &mut [u8],
-    at: usize,
-    allocs: &[u64],
-    parents: &[u16],
-    protectors: &[u8],
-    words: &[u32],
-    codes: &[u8],
-    a: usize,
-) -> usize
-    requires { (m : Memory) × LinesFit m (buffers allocs.now parents.now protectors.now words.now codes.now) a out.old at }
-    ensures { (m : Memory)
-        → Holds m (buffers allocs.now parents.now protectors.now words.now codes.now)
-        → Written out.old at (allocation_lines a (allocation_at m a)) out.new result }
-{
-    let x = tables::allocation_at(allocs, a);
-    let start = tables::starts_at(allocs, a);
-    let end = tables::starts_at(allocs, a + 1);
-    let word = start.words;
-    let word_end = end.words;
-    let node = start.nodes;
-    let node_end = end.nodes;
-    let code = start.codes;
-    let code_end = end.codes;
-    put_allocation(
-        out,
-        at,
-        a as u64,
-        x,
-        &words[word..word_end],
-        &parents[node..node_end],
-        &protectors[node..node_end],
-        &codes[code..code_end],
+    // One allocation: its record, and its parts of the other buffers.
+    #[tactic(auto, using(crate::proofs::Parts::parts))]
+    fn put_allocation(
+        &mut self,
+        a: u64,
+        x: Allocation,
+        words: &[u32],
+        parents: &[u16],
+        protectors: &[u8],
+        codes: &[u8],
     )
+        requires words_len { length words.now ≡ x.size }
+        requires nodes { Nodes (length words.now) parents.now protectors.now codes.now }
+        requires room { HasRoom self.old (allocation_lines a (allocation_of x words.now parents.now protectors.now codes.now)) }
+        ensures { Puts self.old (allocation_lines a (allocation_of x words.now parents.now protectors.now codes.now)) self.new }
+    {
+        self.record_line(a, x);
+        self.words_line(a, words);
+        self.node_lines(a, words.len(), parents, protectors, codes);
+    }
+
+    // Allocation a of the memory that the buffers hold.
+    fn allocation_lines(
+        &mut self,
+        allocs: &[u64],
+        parents: &[u16],
+        protectors: &[u8],
+        words: &[u32],
+        codes: &[u8],
+        a: usize,
+    )
+        requires { (m : Memory) × LinesFit m (buffers allocs.now parents.now protectors.now words.now codes.now) a self.old.out.now self.old.at }
+        ensures { (m : Memory)
+            → Holds m (buffers allocs.now parents.now protectors.now words.now codes.now)
+            → Puts self.old (allocation_lines a (allocation_at m a)) self.new }
+    {
+        let x = tables::allocation_at(allocs, a);
+        let start = tables::starts_at(allocs, a);
+        let end = tables::starts_at(allocs, a + 1);
+        self.put_allocation(
+            a as u64,
+            x,
+            &words[start.words..end.words],
+            &parents[start.nodes..end.nodes],
+            &protectors[start.nodes..end.nodes],
+            &codes[start.codes..end.codes],
+        );
+    }
 }
 
 // The whole memory that the buffers hold: "Per allocation: `a`, `d`, then nodes in order of making."
@@ -147,12 +130,9 @@ pub fn memory_lines(
         → Holds m (buffers allocs.now parents.now protectors.now words.now codes.now)
         → Written out.old at (memory_lines 0 m) out.new result }
 {
-    let count = tables::made_count(allocs);
-    let mut p = at;
-    let mut a: usize = 0;
-    while a < count {
-        p = allocation_lines(out, p, allocs, parents, protectors, words, codes, a);
-        a += 1;
+    let mut page = Page { out, at };
+    for a in 0..tables::made_count(allocs) {
+        page.allocation_lines(allocs, parents, protectors, words, codes, a);
     }
-    p
+    page.at
 }

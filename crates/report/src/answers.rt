@@ -3,72 +3,65 @@ ghost use Rattle.std.specs.Prelude.{◌∷◌, [], ◌+◌, ◌*◌, ◌≤◌, 
 ghost use Rattle.definition.specs.Memory.Named.{Pointer};
 ghost use Rattle.definition.specs.Output.{decimal, pointed, given, ended, answer_line};
 ghost use Rattle.pointer.specs.Pointer.{provenance_of};
+ghost use Rattle.report.specs.Page.{Puts};
 ghost use Rattle.report.specs.Written.{WrittenInside};
 ghost use Rattle.report.specs.Answer.{giving};
 
-use crate::decimal::{put_decimal, put_number};
-use crate::text::put_byte;
-use crate::word::put_words;
+use crate::page::Page;
 use answer::Answer;
 use pointer::Provenance;
 
-// The last field is the allocation that 25 names, and the line's end.
-fn put_leak(out: &mut [u8], at: usize, a: u64) -> usize
-    requires { at + 22 ≤ length out.old }
-    ensures { WrittenInside out.old at (ended (decimal a ∷ [])) out.new result }
-{
-    let p = put_number(out, at, a);
-    put_byte(out, p, b'\n')
-}
-
-// It is a pointer. "A pointer without provenance prints `-`."
-fn put_pointer(out: &mut [u8], at: usize, pointer: Provenance, loaded: &[u32]) -> usize
-    requires { at + 43 + 9 * length loaded.now ≤ length out.old }
-    ensures { WrittenInside out.old at (ended (given (Pointer (provenance_of pointer)) loaded.now)) out.new result }
-{
-    match pointer {
-        Provenance::None => put_words(out, at, loaded),
-        Provenance::Of { allocation, node } => put_provenance(
-            out,
-            at,
-            allocation as u64,
-            node as u64,
-        ),
+impl Page<'_> {
+    // The last field is the allocation that 25 names, and the line's end.
+    #[tactic(auto, using(crate::proofs::Lines::numbers))]
+    fn put_leak(&mut self, a: u64)
+        requires { self.old.at + 22 ≤ length self.old.out.now }
+        ensures puts { Puts self.old (ended (decimal a ∷ [])) self.new }
+        ensures fits { self.new.at ≤ length self.new.out.now }
+    {
+        self.put_number(a);
+        self.put_byte(b'\n');
     }
-}
 
-// "allocation.node"
-fn put_provenance(out: &mut [u8], at: usize, allocation: u64, node: u64) -> usize
-    requires { at + 43 ≤ length out.old }
-    ensures { WrittenInside out.old at (ended (pointed (record { allocation = allocation; node = node }) ∷ [])) out.new result }
-{
-    let p = put_number(out, at, allocation);
-    let q = put_byte(out, p, b'.');
-    let r = put_decimal(out, q, node);
-    put_byte(out, r, b'\n')
-}
+    // "allocation.node"
+    #[tactic(auto, using(crate::proofs::Lines::numbers))]
+    fn put_provenance(&mut self, provenance: Provenance)
+        requires { self.old.at + 43 ≤ length self.old.out.now }
+        ensures puts { Puts self.old (ended (pointed (record { allocation = provenance.allocation; node = provenance.node }) ∷ [])) self.new }
+        ensures fits { self.new.at ≤ length self.new.out.now }
+    {
+        self.put_number(provenance.allocation as u64);
+        self.put_byte(b'.');
+        self.put_decimal(provenance.node as u64);
+        self.put_byte(b'\n');
+    }
 
-fn put_given(out: &mut [u8], at: usize, answer: Answer, loaded: &[u32]) -> usize
-    requires { at + 43 + 9 * length loaded.now ≤ length out.old }
-    ensures { WrittenInside out.old at (ended (given (giving answer loaded.now).names loaded.now)) out.new result }
-{
-    match answer {
-        Answer::Refused(_) => put_words(out, at, loaded),
-        Answer::Leak(a) => put_leak(out, at, a as u64),
-        Answer::Accepted => put_words(out, at, loaded),
-        Answer::Pointer(p) => put_pointer(out, at, p, loaded),
-        Answer::Words { start: _, len: _ } => put_words(out, at, loaded),
+    // "A pointer without provenance prints `-`", as an answer that gives nothing does.
+    #[tactic(auto, using(crate::proofs::Lines::numbers))]
+    fn put_given(&mut self, answer: Answer, loaded: &[u32])
+        requires { self.old.at + 43 + 9 * length loaded.now ≤ length self.old.out.now }
+        ensures puts { Puts self.old (ended (given (giving answer loaded.now).names loaded.now)) self.new }
+        ensures fits { self.new.at ≤ length self.new.out.now }
+    {
+        match answer {
+            Answer::Leak(a) => self.put_leak(a as u64),
+            Answer::Pointer(Some(provenance)) => self.put_provenance(provenance),
+            Answer::Pointer(None) => self.put_words(loaded),
+            Answer::Refused(_) | Answer::Accepted | Answer::Words { .. } => self.put_words(loaded),
+        }
     }
 }
 
 // "request index, refusal or 0, then allocation.node, loaded words, the allocation that 25 names, or `-`." `loaded` is what
 // `load_view` hands out: none but for a load.
+#[tactic(auto, using(crate::proofs::Lines::numbers))]
 pub fn answer_line(out: &mut [u8], at: usize, index: u64, answer: Answer, loaded: &[u32]) -> usize
     requires { at + 128 + 9 * length loaded.now ≤ length out.old }
     ensures { WrittenInside out.old at (answer_line index (giving answer loaded.now)) out.new result }
 {
-    let refusal = answer.refusal();
-    let p = put_decimal(out, at, index);
-    let q = put_number(out, p, refusal as u64);
-    put_given(out, q, answer, loaded)
+    let mut page = Page { out, at };
+    page.put_decimal(index);
+    page.put_number(answer.refusal() as u64);
+    page.put_given(answer, loaded);
+    page.at
 }

@@ -1,10 +1,10 @@
 // Words in hexadecimal: the eight digits of a word at once, each in a byte of one number, in the order of memory: the first digit is the lowest byte.
 ghost use Rattle.std.specs.Prelude.{◌≡◌, ◌++◌, ◌+◌, ◌≤◌, length};
 ghost use Rattle.definition.specs.Output.{ascii, digit, word, words, ended};
-ghost use Rattle.report.specs.Written.{Room, Written};
-ghost use Rattle.report.specs.Lanes.{byte_lanes, digit_lanes, eight_bytes};
+ghost use Rattle.report.specs.Page.{HasRoom, Puts};
+ghost use Rattle.report.specs.Lanes.{byte_lanes, digit_lanes};
 
-use crate::text::{put_byte, put_bytes};
+use crate::page::Page;
 
 // The bytes of a word, 16 bits each, the highest byte in the lowest bits. The other three are there three times, 24 bits apart (this sum is one
 // multiplication), and the mask leaves each of them once.
@@ -33,44 +33,28 @@ fn characters(w: u32) -> u64
     digits + 0x3030_3030_3030_3030 + letters * 39
 }
 
-// The bytes of a number, the lowest first.
-fn put_eight_bytes(out: &mut [u8], at: usize, n: u64) -> usize
-    requires { at + 8 ≤ length out.old }
-    ensures { Written out.old at (eight_bytes n) out.new result }
-{
-    let a = put_byte(out, at, (n % 256) as u8);
-    let b = put_byte(out, a, ((n >> 8) % 256) as u8);
-    let c = put_byte(out, b, ((n >> 16) % 256) as u8);
-    let d = put_byte(out, c, ((n >> 24) % 256) as u8);
-    let e = put_byte(out, d, ((n >> 32) % 256) as u8);
-    let f = put_byte(out, e, ((n >> 40) % 256) as u8);
-    let g = put_byte(out, f, ((n >> 48) % 256) as u8);
-    put_byte(out, g, (n >> 56) as u8)
-}
-
-// A field that is a word. The space comes last, so that the eight bytes before it are one store.
-fn put_word(out: &mut [u8], at: usize, w: u32) -> usize
-    requires { Room out.old at (ascii " " ++ word w) }
-    ensures { Written out.old at (ascii " " ++ word w) out.new result }
-{
-    let p = put_eight_bytes(out, at + 1, characters(w));
-    out[at] = b' ';
-    p
-}
-
-// The words of a line, and its end.
-pub(crate) fn put_words(out: &mut [u8], at: usize, ws: &[u32]) -> usize
-    requires { Room out.old at (ended (words ws.now)) }
-    ensures { Written out.old at (ended (words ws.now)) out.new result }
-{
-    if ws.len() == 0 {
-        return put_bytes(out, at, b" -\n");
+impl Page<'_> {
+    // A field that is a word.
+    fn put_word(&mut self, w: u32)
+        requires { HasRoom self.old (ascii " " ++ word w) }
+        ensures { Puts self.old (ascii " " ++ word w) self.new }
+    {
+        self.put_byte(b' ');
+        self.put_bytes(&characters(w).to_le_bytes());
     }
-    let mut p = at;
-    let mut i: usize = 0;
-    while i < ws.len() {
-        p = put_word(out, p, ws[i]);
-        i += 1;
+
+    // The words of a line, and its end.
+    pub(crate) fn put_words(&mut self, ws: &[u32])
+        requires { HasRoom self.old (ended (words ws.now)) }
+        ensures { Puts self.old (ended (words ws.now)) self.new }
+    {
+        if ws.is_empty() {
+            self.put_bytes(b" -\n");
+            return;
+        }
+        for w in ws {
+            self.put_word(*w);
+        }
+        self.put_byte(b'\n');
     }
-    put_byte(out, p, b'\n')
 }

@@ -1,4 +1,3 @@
 pub mod Matches
-pub mod Calls
 pub mod Signed
 pub mod WellFormed

@@ -22,7 +22,7 @@ use permission::{Protected, SafePointer};
 use pointer::width::{Width, any_far_byte};
 use pointer::{Provenance, ThinPointer};
 
-#[derive(Clone, Copy)]
+#[derive(Clone, Copy, PartialEq, Eq)]
 pub enum Kind {
     Allocate,
     Deallocate,
@@ -38,7 +38,8 @@ pub enum Kind {
     Unused,
 }
 
-// The fields of a request's first four words. The words that follow stay where they are lent (`following`).
+// The fields of a request's first four words. The words that follow stay where they are lent (`following`). No `Option` of a provenance: an
+// allocation and a node without one are read all the same, and fall under 2 (`stray_name`).
 #[derive(Clone, Copy)]
 pub struct Request {
     pub kind: Kind,
@@ -56,46 +57,45 @@ pub struct Request {
 fn word_at(words: &[u32], i: usize) -> u32
     ensures { result ≡ get_or words.now i 0 }
 {
-    if i < words.len() { words[i] } else { 0 }
+    words.get(i).copied().unwrap_or(0)
 }
 
-fn kind_at(number: u32) -> Kind
-    ensures { kind_of result ≡ get_or request_kinds number Unused }
-{
-    match number {
-        0 => Kind::Allocate,
-        1 => Kind::Deallocate,
-        2 => Kind::Load,
-        3 => Kind::Store,
-        4 => Kind::Retag,
-        5 => Kind::NewCall,
-        6 => Kind::EndCall,
-        7 => Kind::Dereferenceable,
-        8 => Kind::SignedDereferenceable,
-        9 => Kind::LeakCheck,
-        15 => Kind::Empty,
-        _ => Kind::Unused,
+// Every number has a kind.
+impl From<u32> for Kind {
+    ghost from_gives = { λ number kind. kind_of kind ≡ get_or request_kinds number Unused };
+
+    fn from(number: u32) -> Kind {
+        match number {
+            0 => Kind::Allocate,
+            1 => Kind::Deallocate,
+            2 => Kind::Load,
+            3 => Kind::Store,
+            4 => Kind::Retag,
+            5 => Kind::NewCall,
+            6 => Kind::EndCall,
+            7 => Kind::Dereferenceable,
+            8 => Kind::SignedDereferenceable,
+            9 => Kind::LeakCheck,
+            15 => Kind::Empty,
+            _ => Kind::Unused,
+        }
     }
 }
 
 fn address_of(high: u32, low: u32) -> u64
     ensures { result ≡ high * 2 ^ 32 + low }
 {
-    (high as u64) * 0x1_0000_0000 + (low as u64)
+    high as u64 * 0x1_0000_0000 + low as u64
 }
 
 // The words behind the fourth: a store's bytes, a retag's layout.
 pub fn following(words: &[u32]) -> &[u32]
     ensures { result.now ≡ drop 4 words.now }
 {
-    let n = words.len();
-    if n < 4 {
-        return &words[n..];
-    }
-    &words[4..]
+    words.get(4..).unwrap_or(&[])
 }
 
-// The safe pointer of a number, read where the pointer is safe.
+// The safe pointer of a number, read where the pointer is safe. No `From`: the type is another crate's.
 pub fn safe_pointer(extra: u32) -> SafePointer
     ensures { (q : definition.Request) → q.extra ≡ extra → permission.safe_pointer result ≡ safe_pointer q }
 {
@@ -106,104 +106,94 @@ pub fn safe_pointer(extra: u32) -> SafePointer
     }
 }
 
-// The width of a number, read where it is one of the list.
-fn chosen_width(extra: u32) -> Width
-    ensures { (q : definition.Request) → q.extra ≡ extra → width_of result ≡ chosen_width q }
-{
-    match extra {
-        0 => Width::Bits16,
-        1 => Width::Bits32,
-        _ => Width::Bits64,
-    }
-}
-
 // "Box at function entry is weak, references strong."
 pub fn entry_protector(p: SafePointer) -> Protected
     ensures { permission.protector result ≡ entry_protector (permission.safe_pointer p) }
 {
     match p {
-        SafePointer::SharedRef => Protected::Strong,
-        SafePointer::MutableRef => Protected::Strong,
+        SafePointer::SharedRef | SafePointer::MutableRef => Protected::Strong,
         SafePointer::Box => Protected::Weak,
     }
 }
 
 impl Request {
+    #[tactic(auto, unfolding(definition::specs::Request::request))]
     pub fn of(words: &[u32]) -> Request
         ensures { request_of result (drop 4 words.now) ≡ request words.now }
     {
         let first = word_at(words, 0);
-        let kind = kind_at(first >> 28);
-        let address = address_of(word_at(words, 1), word_at(words, 2));
-        let fourth = word_at(words, 3);
         Request {
-            kind,
+            kind: Kind::from(first >> 28),
             allocation: (first >> 21) % 0x80,
             node: (first >> 9) % 0x1000,
             has_provenance: (first >> 8) % 2 == 1,
             exponent: (first >> 3) % 0x20,
             extra: first % 8,
-            address,
-            fourth,
+            address: address_of(word_at(words, 1), word_at(words, 2)),
+            fourth: word_at(words, 3),
         }
     }
 
     pub fn pointer(self) -> ThinPointer
         ensures { thin_pointer_of result ≡ pointer (fields_of self) }
     {
-        let addr = self.address;
-        if self.has_provenance {
-            let provenance = Provenance::Of {
+        let provenance = if self.has_provenance {
+            Some(Provenance {
                 allocation: self.allocation,
                 node: self.node,
-            };
-            return ThinPointer { addr, provenance };
+            })
+        } else {
+            None
+        };
+        ThinPointer {
+            addr: self.address,
+            provenance,
         }
-        let provenance = Provenance::None;
-        ThinPointer { addr, provenance }
     }
 
     // ---- a retag's fourth word
+    // Bit n, counted from the least significant.
+    fn bit(self, n: u32) -> bool
+        requires { n < 32 }
+        ensures { result ≡ bit n self.fourth }
+    {
+        (self.fourth >> n) % 2 == 1
+    }
+
     fn function_entry(self) -> bool
         ensures { result ≡ function_entry (fields_of self) }
     {
-        let fourth = self.fourth;
-        (fourth >> 31) % 2 == 1
+        self.bit(31)
     }
 
     fn unpin(self) -> bool
         ensures { result ≡ unpin (fields_of self) }
     {
-        let fourth = self.fourth;
-        (fourth >> 30) % 2 == 1
+        self.bit(30)
     }
 
     pub fn freeze(self) -> bool
         ensures { result ≡ freeze (fields_of self) }
     {
-        let fourth = self.fourth;
-        (fourth >> 29) % 2 == 1
+        self.bit(29)
     }
 
     fn zero_bit(self) -> bool
         ensures { result ≡ bit 28 self.fourth }
     {
-        let fourth = self.fourth;
-        (fourth >> 28) % 2 == 1
+        self.bit(28)
     }
 
     pub fn frame_number(self) -> usize
         ensures { result ≡ frame_number (fields_of self) }
     {
-        let fourth = self.fourth;
-        ((fourth >> 23) % 0x20) as usize
+        ((self.fourth >> 23) % 0x20) as usize
     }
 
     fn layout_length(self) -> usize
         ensures { result ≡ layout_length (fields_of self) }
     {
-        let fourth = self.fourth;
-        (fourth % 0x80_0000) as usize
+        (self.fourth % 0x80_0000) as usize
     }
 
     // ---- a retag's pointer
@@ -218,49 +208,40 @@ impl Request {
     fn is_pinned(self) -> bool
         ensures { result ≡ is_pinned (fields_of self) }
     {
-        (self.extra == 1) & !self.unpin()
+        self.extra == 1 && !self.unpin()
     }
 
     pub fn adds_no_node(self) -> bool
         ensures { result ≡ adds_no_node (fields_of self) }
     {
-        !self.is_safe() | self.is_pinned()
+        !self.is_safe() || self.is_pinned()
     }
 
     pub fn protector(self) -> Protected
         ensures { permission.protector result ≡ protector_of (fields_of self) }
     {
         if self.function_entry() {
-            return entry_protector(safe_pointer(self.extra));
+            entry_protector(safe_pointer(self.extra))
+        } else {
+            Protected::No
         }
-        Protected::No
     }
 
     // ---- a signed length, "in two's complement"
     pub fn signed_length(self) -> i64
         ensures { (back result ≡ bytes_back self.fourth) × (ahead result ≡ bytes_ahead self.fourth) }
     {
-        let fourth = self.fourth;
-        if fourth < 0x8000_0000 {
-            return fourth as i64;
-        }
-        (fourth as i64) - 0x1_0000_0000
+        self.fourth.cast_signed() as i64
     }
 
     // ---- how many words follow the fourth, and which frame is used
+    #[tactic(auto, unfolding(definition::specs::Request::following_length))]
     pub fn following_length(self) -> usize
         ensures { ((ws : List ℕ) → result ≡ following_length (request_of self ws)) × (result < 2 ^ 32) }
     {
-        let kind = self.kind;
-        match kind {
+        match self.kind {
             Kind::Store => self.fourth as usize,
-            Kind::Retag => {
-                if self.is_safe() {
-                    self.layout_length()
-                } else {
-                    0
-                }
-            }
+            Kind::Retag if self.is_safe() => self.layout_length(),
             _ => 0,
         }
     }
@@ -269,32 +250,32 @@ impl Request {
     pub fn frame_used(self) -> usize
         ensures { (result ≡ frame_used self) × (result < 32) }
     {
-        let kind = self.kind;
-        match kind {
+        match self.kind {
             Kind::Retag => self.frame_number(),
             _ => (self.fourth % 32) as usize,
         }
     }
 
-    // The width that a run has after this request, if it is not refused: an emptying chooses it.
-    fn width_by(self, width: Width) -> Width
-        ensures { (ws : List ℕ) → width_of result ≡ width_by (kind_of self.kind) (request_of self ws) (width_of width) }
+    // The width that an emptying chooses, read where its number is one of the list. No `From`: the type is another crate's.
+    fn chosen_width(self) -> Width
+        ensures { width_of result ≡ chosen_width (fields_of self) }
     {
-        let kind = self.kind;
-        match kind {
-            Kind::Empty => chosen_width(self.extra),
-            _ => width,
+        match self.extra {
+            0 => Width::Bits16,
+            1 => Width::Bits32,
+            _ => Width::Bits64,
         }
     }
 
-    // The same, whether it is refused or not.
+    // The width that a run has after this request: an emptying that is not refused chooses it.
+    #[tactic(auto, unfolding(definition::specs::Run::width_after))]
     pub fn width_after(self, refused: bool, width: Width) -> Width
         ensures { (a : Answer) (ws : List ℕ) → refused ≡ not (eqb a.refusal 0) → width_of result ≡ width_after a (request_of self ws) (width_of width) }
     {
-        if refused {
-            return width;
+        match self.kind {
+            Kind::Empty if !refused => self.chosen_width(),
+            _ => width,
         }
-        self.width_by(width)
     }
 }
 
@@ -306,157 +287,99 @@ pub fn is_miscounted(q: Request, count: usize) -> bool
     count != q.following_length()
 }
 
-// ---- 2, field by field. Tests are joined by `|` and `&`, which evaluate both sides: a function then has one way through.
+// ---- 2, field by field
 fn any_name(q: Request) -> bool
     ensures { result ≡ any_name (fields_of q) }
 {
-    (q.allocation != 0) | (q.node != 0) | q.has_provenance
+    q.allocation != 0 || q.node != 0 || q.has_provenance
 }
 
 fn stray_name(q: Request) -> bool
     ensures { result ≡ stray_name (fields_of q) }
 {
-    !q.has_provenance & ((q.allocation != 0) | (q.node != 0))
+    !q.has_provenance && (q.allocation != 0 || q.node != 0)
 }
 
 fn any_field(q: Request) -> bool
     ensures { result ≡ any_field (fields_of q) }
 {
-    any_name(q) | (q.exponent != 0) | (q.extra != 0) | (q.address != 0)
+    any_name(q) || q.exponent != 0 || q.extra != 0 || q.address != 0
 }
 
+#[tactic(auto, unfolding(definition::specs::Request::bad_settings))]
 fn bad_settings(q: Request, opened: bool) -> bool
     ensures { (s : State) (ws : List ℕ) → open_in s (frame_number (fields_of q)) ≡ opened → result ≡ bad_settings s (request_of q ws) }
 {
-    if q.function_entry() {
-        return q.zero_bit() | !opened;
-    }
-    q.zero_bit() | (q.frame_number() != 0)
+    let bad_frame = if q.function_entry() {
+        !opened
+    } else {
+        q.frame_number() != 0
+    };
+    q.zero_bit() || bad_frame
 }
 
+#[tactic(auto, unfolding(definition::specs::Request::bad_metadata))]
 pub fn bad_metadata(following: &[u32]) -> bool
     ensures { result ≡ bad_metadata following.now }
 {
-    if following.len() == 0 {
+    let Some(&word) = following.first() else {
         return false;
-    }
-    let word = following[0];
+    };
     let kind = word >> 30;
-    (kind == 3) | ((kind != 1) & (word % 0x4000_0000 != 0))
+    kind == 3 || kind != 1 && word % 0x4000_0000 != 0
 }
 
+#[tactic(auto, unfolding(definition::specs::Request::bad_retag))]
 fn bad_retag(q: Request, following: &[u32], opened: bool) -> bool
     ensures { (s : State) → open_in s (frame_number (fields_of q)) ≡ opened → result ≡ bad_retag s (request_of q following.now) }
 {
     if q.is_safe() {
-        return bad_settings(q, opened) | (!q.is_pinned() & bad_metadata(following));
+        bad_settings(q, opened) || !q.is_pinned() && bad_metadata(following)
+    } else {
+        q.fourth != 0
     }
-    q.fourth != 0
 }
 
 fn bad_call(q: Request) -> bool
     ensures { result ≡ bad_call (fields_of q) }
 {
-    any_field(q) | !(q.fourth < 32)
+    any_field(q) || q.fourth >= 32
 }
 
 // ---- 2, kind by kind
-fn malformed_allocate(q: Request) -> bool
-    ensures { (s : State) (ws : List ℕ) → result ≡ is_malformed Allocate s (request_of q ws) }
-{
-    any_name(q) | (q.exponent > 29) | (q.extra > 4)
-}
-
-fn malformed_deallocate(q: Request) -> bool
-    ensures { (s : State) (ws : List ℕ) → result ≡ is_malformed Deallocate s (request_of q ws) }
-{
-    stray_name(q) | (q.exponent > 29) | (q.extra > 4)
-}
-
-fn malformed_load(q: Request) -> bool
-    ensures { (s : State) (ws : List ℕ) → result ≡ is_malformed Load s (request_of q ws) }
-{
-    stray_name(q) | (q.exponent > 29) | (q.extra != 0)
-}
-
-fn malformed_store(q: Request, following: &[u32]) -> bool
-    ensures { (s : State) → result ≡ is_malformed Store s (request_of q following.now) }
-{
-    malformed_load(q) | pointer::any_bad_byte(following)
-}
-
-fn malformed_retag(q: Request, following: &[u32], opened: bool) -> bool
-    ensures { (s : State) → open_in s (frame_number (fields_of q)) ≡ opened → result ≡ is_malformed Retag s (request_of q following.now) }
-{
-    stray_name(q) | (q.exponent != 0) | (q.extra > 5) | bad_retag(q, following, opened)
-}
-
-fn malformed_new_call(q: Request, opened: bool) -> bool
-    ensures { (s : State) (ws : List ℕ) → open_in s (q.fourth % 32) ≡ opened → result ≡ is_malformed NewCall s (request_of q ws) }
-{
-    bad_call(q) | opened
-}
-
-fn malformed_end_call(q: Request, opened: bool) -> bool
-    ensures { (s : State) (ws : List ℕ) → open_in s (q.fourth % 32) ≡ opened → result ≡ is_malformed EndCall s (request_of q ws) }
-{
-    bad_call(q) | !opened
-}
-
-// Of both dereference tests.
-fn malformed_dereferenceable(q: Request) -> bool
-    ensures { (s : State) (ws : List ℕ) → result ≡ is_malformed Dereferenceable s (request_of q ws) }
-{
-    stray_name(q) | (q.exponent != 0) | (q.extra != 0)
-}
-
-fn malformed_leak_check(q: Request) -> bool
-    ensures { (s : State) (ws : List ℕ) → result ≡ is_malformed LeakCheck s (request_of q ws) }
-{
-    any_field(q) | (q.fourth != 0)
-}
-
-fn malformed_empty(q: Request) -> bool
-    ensures { (s : State) (ws : List ℕ) → result ≡ is_malformed Empty s (request_of q ws) }
-{
-    any_name(q) | (q.exponent != 0) | (q.extra > 2) | (q.address != 0) | (q.fourth != 0)
-}
-
 // Whether the request falls under 2, its number of words and the width apart. `opened` says whether the frame that it uses is open.
+#[tactic(auto, unfolding(definition::specs::Request::is_malformed))]
 pub fn is_malformed(q: Request, following: &[u32], opened: bool) -> bool
     ensures { (s : State) → open_in s (frame_used q) ≡ opened → result ≡ is_malformed (kind_of q.kind) s (request_of q following.now) }
 {
-    let kind = q.kind;
-    match kind {
-        Kind::Allocate => malformed_allocate(q),
-        Kind::Deallocate => malformed_deallocate(q),
-        Kind::Load => malformed_load(q),
-        Kind::Store => malformed_store(q, following),
-        Kind::Retag => malformed_retag(q, following, opened),
-        Kind::NewCall => malformed_new_call(q, opened),
-        Kind::EndCall => malformed_end_call(q, opened),
-        Kind::Dereferenceable => malformed_dereferenceable(q),
-        Kind::SignedDereferenceable => malformed_dereferenceable(q),
-        Kind::LeakCheck => malformed_leak_check(q),
-        Kind::Empty => malformed_empty(q),
+    match q.kind {
+        Kind::Allocate => any_name(q) || q.exponent > 29 || q.extra > 4,
+        Kind::Deallocate => stray_name(q) || q.exponent > 29 || q.extra > 4,
+        Kind::Load => stray_name(q) || q.exponent > 29 || q.extra != 0,
+        Kind::Store => {
+            stray_name(q) || q.exponent > 29 || q.extra != 0 || pointer::any_bad_byte(following)
+        }
+        Kind::Retag => {
+            stray_name(q) || q.exponent != 0 || q.extra > 5 || bad_retag(q, following, opened)
+        }
+        Kind::NewCall => bad_call(q) || opened,
+        Kind::EndCall => bad_call(q) || !opened,
+        Kind::Dereferenceable | Kind::SignedDereferenceable => {
+            stray_name(q) || q.exponent != 0 || q.extra != 0
+        }
+        Kind::LeakCheck => any_field(q) || q.fourth != 0,
+        Kind::Empty => {
+            any_name(q) || q.exponent != 0 || q.extra > 2 || q.address != 0 || q.fourth != 0
+        }
         Kind::Unused => true,
     }
 }
 
 // ---- 2 by the width
-fn any_far_stored(kind: Kind, following: &[u32], width: Width) -> bool
-    ensures { result ≡ any (is_too_far (width_of width)) (stored_bytes (kind_of kind) following.now) }
-{
-    match kind {
-        Kind::Store => any_far_byte(following, width),
-        _ => false,
-    }
-}
-
 // "An address or position too big for the width falls under 2."
+#[tactic(auto, unfolding(definition::specs::Request::is_too_big))]
 pub fn is_too_big(q: Request, following: &[u32], width: Width) -> bool
     ensures { result ≡ is_too_big (width_of width) (request_of q following.now) }
 {
-    let kind = q.kind;
-    width.is_too_high(q.address) | any_far_stored(kind, following, width)
+    width.is_too_high(q.address) || q.kind == Kind::Store && any_far_byte(following, width)
 }

@@ -25,15 +25,14 @@ use Rattle.definition.proofs.Visits.{visited-length}
 use Rattle.definition.proofs.Retags.{reads_refusal, reads_visit, reads-at-once, child-readable, settings_after_init, reads-refusal-after, reads-visit-after, retag-refusal, reborrowed-in}
 use Rattle.definition.proofs.Writes.{write-none}
 use Rattle.permission.specs.Codes.{protector, safe_pointer}
-use Rattle.pointer.specs.Pointer.{thin_pointer_of}
+use Rattle.pointer.specs.Pointer.{via, thin_pointer_of}
 use Rattle.pointer.specs.declared.ThinPointer as pointer
-use Rattle.pointer.specs.declared.Provenance.TheVariants.{Of}
 use Rattle.tables.specs.Encoding.{protector_number, codes_of, held}
 use Rattle.tables.specs.Held.{with_node, Trees, NodeFits}
 use Rattle.retag.specs.declared.ReborrowSettings as code
 use Rattle.retag.specs.Settings.{settings_of, inside_codes, place_in, child_at}
 use Rattle.parts.specs.Trees.{HoldsMarked, after_visit, TreeVisited}
-use Rattle.parts.proofs.Afterwards.{there-after, made_after, room_after}
+use Rattle.parts.proofs.Afterwards.{there-after, made_after, room_after, holds_after}
 use Rattle.retag.specs.Retag.{bounds_refusal, reads_at, after_reads, Fits, Passed, Tested, Added, Asked}
 use Rattle.retag.proofs.Codes.{inside-length, inside-permissions, row-of-child, row-long}
 use Rattle.retag.proofs.Tests.{pointer_at, points-at, placed, refusal-split, or-first, passed-at}
@@ -101,7 +100,7 @@ module _ (settings : code.ReborrowSettings) (mask : FreezeMask) {codes : List �
         (mutate-twice n (with_node child) (after_visit reads) m ∙ mutate-same (λ x. with_node child (after_visit reads x)) (after_reborrow_in w p) no_allocation m n both) t
 
 -- of a pointer as the code has it
-pub added : (settings : code.ReborrowSettings) (mask : FreezeMask) {codes : List ℕ} (e : codes ≡ inside_codes settings mask) (q : pointer.ThinPointer) {n node : ℕ} → q.provenance ≡ Of n node
+pub added : (settings : code.ReborrowSettings) (mask : FreezeMask) {codes : List ℕ} (e : codes ≡ inside_codes settings mask) (q : pointer.ThinPointer) {n node : ℕ} → q.provenance ≡ via n node
     → (m : Memory) (valid : Valid m) (h : Passed m n node q.addr (length codes)) {from : ℕ} (place : from ≡ place_in (allocation_at m n).address q.addr (length codes))
     → {bytes : ℕ} (long : bytes ≡ size (allocation_at m n)) {number : ℕ} (last : number ≡ node_count (allocation_at m n)) {A P R C : List ℕ}
     → Trees (mutate_at n (with_node (child_at (settings_after_init (settings_of settings mask)) node from bytes)) (after_reads m n node q.addr codes)) A P R C
@@ -116,9 +115,6 @@ added settings mask e q {n} {node} at m valid h place long last {A} {P} {R} {C} 
 
 -- ---- what the tests and the reads leave
 module _ {m : Memory} {n node addr : ℕ} (codes : List ℕ) {answer : ℕ} {C : List ℕ} where
-  pub tested-refused : (answer ≡ 0 → ⊥) → C ≡ held 32768 codes_of m → Tested m n node addr codes answer C
-  tested-refused z e = record { passed = λ q. absurd (z q); left = rw (ne_eqb answer 0 z) e }
-
   pub tested-read : Passed m n node addr (length codes) → {from : ℕ} → from ≡ place_in (allocation_at m n).address addr (length codes)
       → {refused : ℕ} → TreeVisited m n refused (reads_visit node from (map permission codes)) answer C → Tested m n node addr codes answer C
   tested-read h place t =
@@ -134,6 +130,10 @@ module _ {m : Memory} {n node addr : ℕ} (codes : List ℕ) {answer : ℕ} {C :
 
   pub tested-made : Tested m n node addr codes answer C → answer ≡ 0 → C ≡ held 32768 codes_of (after_reads m n node addr codes)
   tested-made t z = rw (eq-eqb answer 0 z) at t.left
+
+-- with the reads made the buffers hold the memory after them
+pub read_after : {m : Memory} {n node addr : ℕ} (codes : List ℕ) {A P R C C' : List ℕ} → HoldsMarked m A P R C → Tested m n node addr codes 0 C' → HoldsMarked (after_reads m n node addr codes) A P R C'
+read_after {m} {n} {node} {addr} codes h t = holds_after (reads_at m n node addr codes) m n (t.passed refl).fits.reached.made h (tested-made codes t refl)
 
 -- ---- a visit of the tree leaves room for the child
 pub fits_after : (v : Visit) {m : Memory} {n node from len : ℕ} → Fits m n node from len → Fits (mutate_at n (after_visit v) m) n node from len
@@ -188,9 +188,9 @@ module _ (settings : code.ReborrowSettings) (mask : FreezeMask) {codes : List �
   pub refused-by-tests : (r : ℕ) → r ≡ tests → (r ≡ 0 → ⊥) → r ≡ reborrow_refusal (settings_of settings mask) frame (thin_pointer_of q) s
   refused-by-tests r t z = or-first r (reads_of (thin_pointer_of q)) z ∙ ap (λ (k : ℕ). k or reads_of (thin_pointer_of q)) t ∙ sym refusal_is
 
-  pub refused-by-reads : {n node from : ℕ} → q.provenance ≡ Of n node → Valid s.memory → tests ≡ 0 → from ≡ place_in (allocation_at s.memory n).address q.addr (length codes)
+  pub refused-by-reads : {n node from : ℕ} → q.provenance ≡ via n node → Valid s.memory → 0 ≡ tests → from ≡ place_in (allocation_at s.memory n).address q.addr (length codes)
       → reads_refusal node from (map permission codes) (allocation_at s.memory n).nodes ≡ reborrow_refusal (settings_of settings mask) frame (thin_pointer_of q) s
   refused-by-reads {n} {node} e valid t place =
       sym
-      (refusal_is ∙ ap (λ (k : ℕ). k or reads_of (thin_pointer_of q)) t ∙ ap reads_of (points-at q e)
+      (refusal_is ∙ ap (λ (k : ℕ). k or reads_of (thin_pointer_of q)) (sym t) ∙ ap reads_of (points-at q e)
       ∙ reads-refusal settings mask asked.inside q.addr n node s.memory valid (passed-at s.memory q e (is_yes (protector settings.protected)) entered (length codes) t) place)

@@ -19,9 +19,8 @@ use Rattle.definition.proofs.Alls.{if-holds, outcome-holds}
 use Rattle.definition.proofs.ValidTrees.{settings-agree}
 use Rattle.definition.proofs.ValidFrames.{valid-retag}
 use Rattle.permission.specs.Codes.{protector, safe_pointer}
-use Rattle.pointer.specs.Pointer.{provenance_of, thin_pointer_of}
+use Rattle.pointer.specs.Pointer.{via, provenance_of, thin_pointer_of}
 use Rattle.pointer.specs.declared.ThinPointer as pointer
-use Rattle.pointer.specs.declared.Provenance.TheVariants.{Of}
 use Rattle.answer.specs.Answer.{answer_of, reply_to}
 use Rattle.answer.specs.Answer.Gives.{ThePointer}
 use Rattle.answer.specs.declared.Answer as code
@@ -113,18 +112,18 @@ module _ (w : ReborrowSettings) (frame : ℕ) (p : ThinPointer) (s : State) wher
   retag-frames = by-outcome (has_none p.provenance) (eqb (length w.inside) 0) refl
 
 -- ---- a pointer as the code has it
-module _ (w : ReborrowSettings) (frame : ℕ) (p : pointer.ThinPointer) {n node : ℕ} (e : p.provenance ≡ Of n node) (s : State) where
+module _ (w : ReborrowSettings) (frame : ℕ) (p : pointer.ThinPointer) {n node : ℕ} (e : p.provenance ≡ via n node) (s : State) where
   pub retagged-refused : (r : ℕ) → r ≡ reborrow_refusal w frame (thin_pointer_of p) s → (r ≡ 0 → ⊥) → {A P R C : List ℕ} → Trees s.memory A P R C
       → Retagged w frame (thin_pointer_of p) s (Refused r) A P R C
   retagged-refused r q z t =
       retagged w frame (thin_pointer_of p) s (refused_with r, s) (refused w frame (thin_pointer_of p) s (ap (λ x. has_none (provenance_of x)) e) r q z) (Refused r) (sym (refused-reply ThePointer r z)) (λ words. refl) t
 
   pub retagged-child : reborrow_refusal w frame (thin_pointer_of p) s ≡ 0 → {child : ℕ} {A P R C : List ℕ} → Added w (thin_pointer_of p) s.memory n child A P R C
-      → Retagged w frame (thin_pointer_of p) s (Pointer (Of n child)) A P R C
+      → Retagged w frame (thin_pointer_of p) s (Pointer (via n child)) A P R C
   unfolding accept_reborrow
   retagged-child z {child} {A} {P} {R} {C} added =
       retagged w frame (thin_pointer_of p) s (accept_reborrow w frame (thin_pointer_of p) s) (accepted w frame (thin_pointer_of p) s (ap (λ x. has_none (provenance_of x)) e) z)
-      (Pointer (Of n child)) (ap (λ (a : Answer). reply_to ThePointer a) given) (λ words. given)
+      (Pointer (via n child)) (ap (λ (a : Answer). reply_to ThePointer a) given) (λ words. given)
       (subst (λ (k : ℕ). Trees (mutate_at k (after_reborrow_in w (thin_pointer_of p)) s.memory) A P R C) (sym (ap (λ x. allocation_of (provenance_of x)) e)) added.trees)
     where
       given : gives_pointer (some (record { allocation = n; node = child }))

@@ -1,16 +1,18 @@
 -- What a retag's tests leave to be known: its refusal is theirs or that of the reads through the parent, and where they refuse nothing there is a place for the child.
-use Rattle.std.specs.Prelude.{if◌then◌else◌}
+use Rattle.retag.specs.declared.Parent.{Parent}
+use Rattle.std.specs.Prelude as std
+use Rattle.std.specs.Prelude.{if◌then◌else◌, Some}
 use Prim.Native.Nat.{ℕ, zero, suc, ◌+◌, ◌-◌, ◌≤◌, ◌<◌}
 use mathlib.Core.Path.{◌≡◌, refl, sym, ap, subst, ◌∙◌}
 use mathlib.Core.Bool.{Bool, true, false, not, ◌&&◌, ◌||◌, false≢true}
 use mathlib.Core.Option.{some}
 use mathlib.Core.List.{List, [], ◌∷◌}
-use native.Mathlib.Decide.{ℕ_discrete, dec_lt}
+use native.Mathlib.Decide.{ℕ_discrete}
 use native.Mathlib.Omega.{arith}
-use borrow.Author.Tests.{eq-eqb, ne_eqb, leb-true, le-leb, lt-leb, lt-ltb, le-ltb}
+use borrow.Author.Tests.{eq-eqb, ne_eqb, leb-true}
 use lib.Dec.{eqb, leb, ltb}
 use lib.ListN.{length}
-use Rattle.definition.specs.Notation.{◌when◌, ◌or◌}
+use Rattle.definition.specs.Notation.{◌when◌, ◌or◌, sum_of}
 use Rattle.definition.specs.Refusal.{never_made, missing_provenance, dead_allocation, out_of_bounds, below_start, size_exceeded}
 use Rattle.definition.specs.Permission.{Permission, is_yes}
 use Rattle.definition.specs.Memory.{Provenance, ThinPointer, is_live, Allocation, size, Memory, allocation_at, target, offset, was_made, names_never_made, is_outside, check_ptr, exceeds_bounds}
@@ -18,23 +20,26 @@ use Rattle.definition.specs.Frame.{entries, State, frame_at}
 use Rattle.definition.specs.Retag.{ReborrowSettings, with_child, init_refusal, is_below_start, of_node, entry_bound, exceeds_entries, reborrow_refusal}
 use Rattle.definition.proofs.Booleans.{and_left, and_right, not-not-false, or-neither, or_left, or_right, or_assoc, when-none}
 use Rattle.definition.proofs.ValidMemory.{Made, was-made}
-use Rattle.pointer.specs.Pointer.{provenance_of, thin_pointer_of}
+use Rattle.pointer.specs.Pointer.{via, provenance_of, thin_pointer_of}
+use Rattle.pointer.specs.declared.Provenance as naming
 use Rattle.pointer.specs.declared.ThinPointer as pointer
-use Rattle.pointer.specs.declared.Provenance.TheVariants.{Of}
 use Rattle.tables.specs.declared.Allocation as code
 use Rattle.tables.specs.declared.Starts.{Starts}
-use Rattle.tables.specs.Held.{Records}
+use Rattle.tables.specs.Held.{Records, Used}
 use Rattle.tables.proofs.Lookup.{record_at}
+use Rattle.bounds.specs.Bounds.{target_in, Points}
 use Rattle.bounds.proofs.Points.{read-address, read-size, points-made, points-read}
 use Rattle.parts.specs.declared.Parts.{Parts}
+use Rattle.parts.specs.Trees.{parts_in, PartsOf}
+use Rattle.parts.proofs.Lent.{parts-read}
 use Rattle.retag.specs.Settings.{place_in}
 use Rattle.retag.specs.Retag.{Located, bounds_refusal, Fits, Passed}
 
--- a pointer into allocation n, through a node of it
+-- a pointer into allocation n, via a node of it
 abbrev pub pointer_at : ℕ → ℕ → ℕ → ThinPointer
 pointer_at addr n node = record { address = addr; provenance = some (record { allocation = n; node = node }) }
 
-pub points-at : (p : pointer.ThinPointer) {n node : ℕ} → p.provenance ≡ Of n node → thin_pointer_of p ≡ pointer_at p.addr n node
+pub points-at : (p : pointer.ThinPointer) {n node : ℕ} → p.provenance ≡ via n node → thin_pointer_of p ≡ pointer_at p.addr n node
 points-at p e = ap (λ q. record { address = p.addr; provenance = provenance_of q }) e
 
 -- ---- where the bytes start: without bytes it does not matter
@@ -83,23 +88,26 @@ module _ (is_protected : Bool) (entered len : ℕ) (p : ThinPointer) (m : Memory
     unfolding bounds_refusal
     first-15 check is_below no_room no_entry e14 e15 e64 = rw (known, check, e14, e15, e64)
 
--- of a pointer into allocation n, whose record was read
-module _ {m : Memory} {A : List ℕ} (h : Records m A) (p : pointer.ThinPointer) {n node : ℕ} (e : p.provenance ≡ Of n node) (known : names_never_made m (provenance_of p.provenance) ≡ false)
-    {r : code.Allocation} (q : r ≡ record_at A n) where
+-- of a pointer into allocation n, which was made, whose record was looked up
+module _ {m : Memory} {A : List ℕ} (p : pointer.ThinPointer) {n node : ℕ} (e : p.provenance ≡ via n node) (h : Points m A (provenance_of p.provenance))
+    {r : code.Allocation} (t : r ≡ target_in A (provenance_of p.provenance)) where
   target_is : allocation_at m n ≡ target m (thin_pointer_of p)
   target_is = sym (ap (λ t. target m (record { address = p.addr; provenance = provenance_of t })) e)
 
-  is_made : n < length m
-  is_made = points-made p e (record { records = h; made = known })
+  q : r ≡ record_at A n
+  q = points-read p e h t
 
-  pub tests_order : (is_protected : Bool) (entered len : ℕ) → check_ptr (target m (thin_pointer_of p)) (thin_pointer_of p) 0 len ≡ 0 → (is_below no_room no_entry : Bool)
+  is_made : n < length m
+  is_made = points-made p e h
+
+  pub tests_order : (is_protected : Bool) (entered len : ℕ) → 0 ≡ check_ptr (target m (thin_pointer_of p)) (thin_pointer_of p) 0 len → (is_below no_room no_entry : Bool)
       → is_below ≡ (eqb len 0 && ltb p.addr r.address) → no_room ≡ exceeds_bounds m (record { allocations = 0; words = 0; nodes = 1; codes = r.size })
       → no_entry ≡ (is_protected && ltb entry_bound (entered + 1))
       → (below_start when is_below or size_exceeded when (no_room || no_entry)) ≡ bounds_refusal is_protected entered len (thin_pointer_of p) m
   tests_order is_protected entered len check is_below no_room no_entry e14 e15 e64 =
-      first-15 is_protected entered len (thin_pointer_of p) m known check is_below no_room no_entry
-      (e14 ∙ ap (λ (k : ℕ). eqb len 0 && ltb p.addr k) (read-address h is_made q ∙ ap (λ (x : Allocation). x.address) target_is))
-      (e15 ∙ ap (λ (k : ℕ). exceeds_bounds m (record { allocations = 0; words = 0; nodes = 1; codes = k })) (read-size h is_made q ∙ ap size target_is)) e64
+      first-15 is_protected entered len (thin_pointer_of p) m h.made (sym check) is_below no_room no_entry
+      (e14 ∙ ap (λ (k : ℕ). eqb len 0 && ltb p.addr k) (read-address h.records is_made q ∙ ap (λ (x : Allocation). x.address) target_is))
+      (e15 ∙ ap (λ (k : ℕ). exceeds_bounds m (record { allocations = 0; words = 0; nodes = 1; codes = k })) (read-size h.records is_made q ∙ ap size target_is)) e64
 
 -- ---- what the tests leave to be known
 not-outside : (is_zero is_dead outside : Bool) → is_zero ≡ false → (if is_zero then 0 else (missing_provenance when false or dead_allocation when is_dead or out_of_bounds when outside)) ≡ 0
@@ -162,25 +170,50 @@ module _ (addr n node len : ℕ) (m : Memory) where
             };
       }
 
--- ---- 15 of the frame: one more entry than 64
-pub entry-test : (entered : ℕ) → leb 64 entered ≡ ltb entry_bound (entered + 1)
-entry-test entered =
-    elim (dec_lt entered 64) [
-      | yes l ↦ lt-leb 64 entered l ∙ sym (le-ltb 64 (entered + 1) (omega arith))
-      | no l ↦ le-leb 64 entered (omega arith) ∙ sym (lt-ltb 64 (entered + 1) (omega arith))
-    ]
-
 -- ---- of a pointer as the code has it
 -- the record that was looked up is the allocation's own
 pub own : (p : pointer.ThinPointer) {m : Memory} {A : List ℕ} {n node : ℕ} {a : code.Allocation} {used : Starts} {t : Parts} → Records m A → Located m A (provenance_of p.provenance) n a used t
-    → p.provenance ≡ Of n node → a ≡ record_at A n
+    → p.provenance ≡ via n node → a ≡ record_at A n
 own p r l of = points-read p of (record { records = r; made = l.made }) l.read
 
-pub passed-at : (m : Memory) (p : pointer.ThinPointer) {n node : ℕ} → p.provenance ≡ Of n node → (is_protected : Bool) (entered len : ℕ)
-    → bounds_refusal is_protected entered len (thin_pointer_of p) m ≡ 0 → Passed m n node p.addr len
+-- a provenance that names an allocation and a node that were made, whose record was looked up
+module _ {m : Memory} {A : List ℕ} {provenance : std.Option naming.Provenance} {n node : ℕ} (e : provenance ≡ via n node) (h : Points m A (provenance_of provenance)) {r : code.Allocation}
+    (t : r ≡ target_in A (provenance_of provenance)) where
+  pub named-made : n < length m
+  named-made = points-made (record { addr = 0; provenance = provenance }) e h
+
+  pub named-read : r ≡ record_at A n
+  named-read = points-read (record { addr = 0; provenance = provenance }) e h t
+
+  pub named-located : {used : Starts} {parts : Parts} → Used m (sum_of size m) used.nodes used.codes → parts ≡ parts_in r → Located m A (provenance_of provenance) n r used parts
+  named-located u q = record {
+    made = h.made;
+    read = t;
+    used = u;
+    part = subst (λ (x : Parts). PartsOf m n x) (sym q) (parts-read h.records named-made named-read);
+  }
+
+-- of a node that was located, where the inside bytes start
+pub place-at : (p : pointer.ThinPointer) {m : Memory} {A : List ℕ} {n node : ℕ} {a : code.Allocation} {used : Starts} {t : Parts} → Records m A → Located m A (provenance_of p.provenance) n a used t
+    → p.provenance ≡ via n node → n < length m → (len : ℕ) {from : ℕ} → from ≡ place_in a.address p.addr len → from ≡ place_in (allocation_at m n).address p.addr len
+place-at p r l of made len q = q ∙ ap (λ (k : ℕ). place_in k p.addr len) (read-address r made (own p r l of))
+
+pub passed-at : (m : Memory) (p : pointer.ThinPointer) {n node : ℕ} → p.provenance ≡ via n node → (is_protected : Bool) (entered len : ℕ)
+    → 0 ≡ bounds_refusal is_protected entered len (thin_pointer_of p) m → Passed m n node p.addr len
 passed-at m p {n} {node} e is_protected entered len z =
-    passed p.addr n node len m is_protected entered (ap (λ (q : ThinPointer). bounds_refusal is_protected entered len q m) (sym (points-at p e)) ∙ z)
+    passed p.addr n node len m is_protected entered (ap (λ (q : ThinPointer). bounds_refusal is_protected entered len q m) (sym (points-at p e)) ∙ sym z)
 
 module _ {m : Memory} {n node addr len from : ℕ} (h : Passed m n node addr len) (e : from ≡ place_in (allocation_at m n).address addr len) where
   pub fits-at : Fits m n node from len
   fits-at = subst (λ (k : ℕ). Fits m n node k len) (sym e) h.fits
+
+-- ---- the parent that is found for the provenance of a pointer
+pub of_parent : {A : List ℕ} {q : std.Option naming.Provenance} {t : naming.Provenance} → q ≡ Some t → (parent : Parent)
+    → (parent.number ≡ t.allocation) × (parent.node ≡ t.node) × ((m : Memory) → Records m A → Located m A (provenance_of (Some t)) parent.number parent.allocation parent.used parent.parts)
+    → (parent.number ≡ t.allocation) × (q ≡ via parent.number parent.node)
+    × ((m : Memory) → Records m A → Located m A (provenance_of q) parent.number parent.allocation parent.used parent.parts)
+of_parent {A} {q} {t} e parent f = (
+  f.0,
+  e ∙ (λ i. via (sym f.0 i) (sym f.1 i)),
+  λ m r. subst (λ (x : std.Option naming.Provenance). Located m A (provenance_of x) parent.number parent.allocation parent.used parent.parts) (sym e) (f.2 m r),
+)

@@ -1,19 +1,25 @@
 -- What a retag asks of the buffers and what it leaves, said of each state whose memory they hold.
-use Rattle.std.specs.Prelude.{ℕ, ◌+◌, ◌≤◌, ◌<◌, ◌≡◌, Bool, false, ◌&&◌, ◌||◌, List, [], ◌∷◌, ◌++◌, map, eqb, ltb, length, get_or, set, if◌then◌else◌}
+use Rattle.std.specs.Prelude as std
+use Rattle.std.specs.Prelude.{ℕ, ◌+◌, ◌≤◌, ◌<◌, ◌≡◌, Bool, false, ◌&&◌, ◌||◌, List, [], ◌∷◌, ◌++◌, map, eqb, ltb, length, get_or, set, if◌then◌else◌, Result, Ok, Err}
 use Rattle.std.proofs.Math.Option.{Option, none, some}
 use Rattle.definition.specs.Notation.{◌when◌, ◌or◌, sum_of, mutate_at}
 use Rattle.definition.specs.Refusal.{never_made, below_start, size_exceeded}
 use Rattle.definition.specs.Permission.{Protected, is_yes, permission}
 use Rattle.definition.specs.Tree.{Visit}
 use Rattle.definition.specs.Layout.{FreezeMask}
-use Rattle.definition.specs.Memory.{Provenance, ThinPointer, size, Memory, allocation_at, target, names_never_made, check_ptr, node_count, exceeds_bounds}
+use Rattle.definition.specs.Memory.{ThinPointer, size, Memory, allocation_at, target, names_never_made, check_ptr, node_count, exceeds_bounds}
+use Rattle.definition.specs.Memory as definition
 use Rattle.definition.specs.Frame.{Frame, entries, State, frame_at}
 use Rattle.definition.specs.Frame.Frame.{Closed, Open}
 use Rattle.definition.specs.Retag.{ReborrowSettings, of_node, entry_bound, after_reborrow_in, retag}
 use Rattle.definition.proofs.Retags.{reads_visit}
+use Rattle.refusal.specs.Number.{number}
+use Rattle.refusal.specs.declared.Refusal.{Refusal}
+use Rattle.pointer.specs.declared.Provenance.{Provenance}
 use Rattle.answer.specs.Answer.{answer_of, reply_to}
 use Rattle.answer.specs.Answer.Gives.{ThePointer}
 use Rattle.answer.specs.declared.Answer.{Answer}
+use Rattle.answer.specs.declared.Answer.TheVariants.{Refused, Pointer}
 use Rattle.tables.specs.Encoding.{codes_of, held}
 use Rattle.tables.specs.Held.{Used, Trees}
 use Rattle.tables.specs.declared.Allocation as lent_record
@@ -25,7 +31,7 @@ use Rattle.retag.specs.declared.ReborrowSettings as code
 use Rattle.retag.specs.Settings.{inside_codes, place_in}
 
 -- an allocation and node that were made, the record that was looked up, how much m uses, and where the allocation's parts lie
-pub record Located (m : Memory) (A : List ℕ) (provenance : Option Provenance) (n : ℕ) (a : lent_record.Allocation) (u : Starts) (r : Parts) : Type 0 where
+pub record Located (m : Memory) (A : List ℕ) (provenance : Option definition.Provenance) (n : ℕ) (a : lent_record.Allocation) (u : Starts) (r : Parts) : Type 0 where
   pub made : names_never_made m provenance ≡ false
   pub read : a ≡ target_in A provenance
   pub used : Used m (sum_of size m) u.nodes u.codes
@@ -41,7 +47,7 @@ bounds_refusal is_protected entered len p m =
     or size_exceeded when (exceeds_bounds m (of_node a) || (is_protected && ltb entry_bound (entered + 1)))
 
 -- ---- a visit of allocation n's tree
--- through a node of it, of bytes that are in a row
+-- via a node of it, of bytes that are in a row
 pub record Reached (m : Memory) (n node from len : ℕ) : Type 0 where
   pub made : n < length m
   pub in_tree : node < node_count (allocation_at m n)
@@ -81,6 +87,11 @@ pub record Asked (s : State) (frame count : ℕ) (settings : code.ReborrowSettin
   pub entered : count ≡ length (entries (frame_at s frame))
   pub inside : codes ≡ inside_codes settings mask
 
+-- the answer: the pointer that is made, or the refusal
+abbrev pub answered : Result (std.Option Provenance) Refusal → Answer
+answered (Ok provenance) = Pointer provenance
+answered (Err refusal) = Refused (number refusal)
+
 -- the answer, what it stands for in the definition, and the buffers; they hold the memory as it was where it is refused
 pub record Retagged (w : ReborrowSettings) (frame : ℕ) (p : ThinPointer) (s : State) (answer : Answer) (A P R C : List ℕ) : Type 0 where
   pub reply : answer ≡ reply_to ThePointer (retag w frame p s).0
@@ -89,6 +100,6 @@ pub record Retagged (w : ReborrowSettings) (frame : ℕ) (p : ThinPointer) (s : 
 
 -- the frames, which are the caller's: under a protector the pointer that is given is entered, if it has provenance
 -- (the definition's `frames_after`, said of the frames alone)
-abbrev pub entered : Protected → ℕ → Option Provenance → List Frame → List Frame
+abbrev pub entered : Protected → ℕ → Option definition.Provenance → List Frame → List Frame
 entered protected f none fs = fs
 entered protected f (some child) fs = if is_yes protected then set fs f (Open (entries (get_or fs f Closed) ++ (child ∷ []))) else fs

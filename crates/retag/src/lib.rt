@@ -3,20 +3,21 @@
 // Retags that add a node. mem.rs: `ReborrowSettings`, `reborrow`, `retag_ptr`. The child's inside bytes are read through it, and these reads are what
 // reads through its parent are (definition's Retags): so they are made before it is there, and it is put in as its own read leaves it. Whatever can be
 // refused is tested first, so that a refusal leaves nothing to undo.
-ghost use Rattle.std.specs.Prelude.{◌≡◌, ◌&&◌, List, ◌++◌, map, ℕ, ◌+◌, ◌^◌, ◌≤◌, ◌<◌, eqb, ltb, length, take, drop};
+ghost use Rattle.std.specs.Prelude.{Some, ◌≡◌, true, IfOk, IfErr, ◌&&◌, List, ◌++◌, map, ℕ, ◌+◌, ◌^◌, ◌≤◌, ◌<◌, eqb, ltb, length, take, drop};
 ghost use Rattle.definition.specs.Notation.{sum_of, mutate_at};
 ghost use Rattle.definition.specs.Permission.{next, code, permission, is_yes};
 ghost use Rattle.definition.specs.Permission.AccessKind.{Read};
 ghost use Rattle.definition.specs.Permission.NodeRelation.{Local};
 ghost use Rattle.definition.specs.Layout.{FreezeMask};
-ghost use Rattle.definition.specs.Memory.{Memory, allocation_at, size, exceeds_bounds};
+ghost use Rattle.definition.specs.Memory.{Memory, names_never_made, allocation_at, size, exceeds_bounds};
 ghost use Rattle.definition.specs.Valid.{Valid};
 ghost use Rattle.definition.specs.Frame.{State, frame_at};
 ghost use Rattle.definition.specs.Frame as frames;
 ghost use Rattle.definition.specs.Retag.{start_perm, entry_bound, reborrow_refusal, retag_without_node};
 ghost use Rattle.definition.proofs.Retags.{reads_refusal, reads_visit, settings_after_init};
-ghost use Rattle.pointer.specs.Pointer.{provenance_of, thin_pointer_of};
-ghost use Rattle.pointer.specs.declared.Provenance.TheVariants.{Of};
+ghost use Rattle.refusal.specs.Number.{refusal_of};
+ghost use Rattle.refusal.specs.declared.Refusal.TheVariants.{NeverMade};
+ghost use Rattle.pointer.specs.Pointer.{via, provenance_of, thin_pointer_of};
 ghost use Rattle.answer.specs.Answer.{reply_to};
 ghost use Rattle.answer.specs.Answer.Gives.{ThePointer};
 ghost use Rattle.permission.specs.Codes.{protector, safe_pointer};
@@ -25,12 +26,13 @@ ghost use Rattle.tables.specs.Held.{Records, Used, Trees, PlaceFor, with_node};
 ghost use Rattle.bounds.specs.Bounds.{target_in, Points};
 ghost use Rattle.retag.specs.Settings.{mask_of, settings_of, chosen_code, codes_for, inside_codes, place_in, child_at};
 ghost use Rattle.parts.specs.Trees.{HoldsTrees, HoldsMarked, PartsOf, TreeAt, TreeVisited};
-ghost use Rattle.retag.specs.Retag.{Located, bounds_refusal, Reached, after_reads, Fits, Passed, Tested, Added, Asked, Retagged};
+ghost use Rattle.retag.specs.Retag.{Located, bounds_refusal, Reached, after_reads, Fits, Passed, Tested, Added, Asked, answered, Retagged};
 
 use answer::Answer;
 use parts::Parts;
-use permission::{AccessKind, NodeRelation, Outcome, Protected, SafePointer};
+use permission::{AccessKind, NodeRelation, Protected, SafePointer};
 use pointer::{Provenance, ThinPointer};
+use refusal::Refusal;
 use tables::{Allocation, NodePlace, Starts};
 
 // The pointer that is made, the protector, and whether the bytes outside the pointee are freeze bytes.
@@ -47,10 +49,7 @@ pub struct ReborrowSettings {
 fn chosen_code(byte: u8, freeze: u8, cell: u8) -> u8
     ensures { result ≡ chosen_code freeze cell byte }
 {
-    if byte == 0 {
-        return cell;
-    }
-    freeze
+    if byte == 0 { cell } else { freeze }
 }
 
 // The code that a byte inside starts with, as its read leaves it.
@@ -58,11 +57,7 @@ fn inside_code(pointer: SafePointer, protected: Protected, freeze: bool) -> u8
     ensures { result ≡ code (next Read Local (start_perm (safe_pointer pointer) (protector protected) freeze)) }
 {
     let code = permission::start_code(pointer, protected, freeze);
-    match permission::transition(code, AccessKind::Read, NodeRelation::Local) {
-        Outcome::Stays => code,
-        Outcome::Becomes(c) => c,
-        Outcome::Refused(_) => code,
-    }
+    permission::next(code, AccessKind::Read, NodeRelation::Local)
 }
 
 // Each byte of a mask becomes that code.
@@ -71,21 +66,15 @@ fn inside_codes(mask: &mut [u8], pointer: SafePointer, protected: Protected)
 {
     let freeze = inside_code(pointer, protected, true);
     let cell = inside_code(pointer, protected, false);
-    let mut i: usize = 0;
-    while i < mask.len() {
-        mask[i] = chosen_code(mask[i], freeze, cell);
-        i += 1;
+    for byte in mask.iter_mut() {
+        *byte = chosen_code(*byte, freeze, cell);
     }
 }
 
 fn protector_number(protected: Protected) -> u8
     ensures { result ≡ protector_number (protector protected) }
 {
-    match protected {
-        Protected::No => 0,
-        Protected::Weak => 1,
-        Protected::Strong => 2,
-    }
+    protected as u8
 }
 
 // ---- what is tested
@@ -96,30 +85,24 @@ fn place_in(address: u64, addr: u64, len: usize) -> usize
     ensures { result ≡ place_in address addr len }
 {
     if len == 0 {
-        return 0;
+        0
+    } else {
+        (addr - address) as usize
     }
-    (addr - address) as usize
 }
 
 // 14: a pointer without bytes lies below the allocation.
 fn is_below_start(len: usize, addr: u64, address: u64) -> bool
     ensures { result ≡ (eqb len 0 && ltb addr address) }
 {
-    if len == 0 {
-        return addr < address;
-    }
-    false
+    len == 0 && addr < address
 }
 
 // 15, for a frame that has so many entries.
 fn exceeds_entries(protected: Protected, entries: usize) -> bool
     ensures { result ≡ (is_yes (protector protected) && ltb entry_bound (entries + 1)) }
 {
-    match protected {
-        Protected::No => false,
-        Protected::Weak => entries >= 64,
-        Protected::Strong => entries >= 64,
-    }
+    !matches!(protected, Protected::No) && entries >= 64
 }
 
 // 15, of a memory that uses so many nodes and codes: there is no room for a node of so many bytes.
@@ -127,10 +110,7 @@ fn exceeds_room(nodes: usize, codes: usize, bytes: usize) -> bool
     requires { (m : Memory) × (Valid m × Used m (sum_of size m) nodes codes) }
     ensures { (m : Memory) → Valid m → Used m (sum_of size m) nodes codes → result ≡ exceeds_bounds m (record { allocations = 0; words = 0; nodes = 1; codes = bytes }) }
 {
-    if 1024 - nodes < 1 {
-        return true;
-    }
-    32768 - codes < bytes
+    1024 - nodes < 1 || 32768 - codes < bytes
 }
 
 // 7 to 9, 14 and 15, of a pointer whose target was made and has this record.
@@ -141,30 +121,24 @@ fn bounds_refusal(
     protected: Protected,
     entries: usize,
     used: Starts,
-) -> u8
+) -> Result<(), Refusal>
     requires size_bound { a.address + a.size < 2 ^ 64 }
     requires valid { (m : Memory) × (Valid m × Used m (sum_of size m) used.nodes used.codes) }
-    ensures { (m : Memory) (A : List ℕ) (n node : ℕ) → p.provenance ≡ Of n node → Points m A (provenance_of p.provenance)
+    ensures { (m : Memory) (A : List ℕ) (n node : ℕ) → p.provenance ≡ via n node → Points m A (provenance_of p.provenance)
         → a ≡ target_in A (provenance_of p.provenance) → Used m (sum_of size m) used.nodes used.codes
-        → result ≡ bounds_refusal (is_yes (protector protected)) entries len (thin_pointer_of p) m }
+        → refusal_of result ≡ bounds_refusal (is_yes (protector protected)) entries len (thin_pointer_of p) m }
 {
-    let refused = bounds::check_ptr(a, p, 0, len as u64);
-    if refused != 0 {
-        return refused;
-    }
+    bounds::check_ptr(a, p, 0, len as u64)?;
     if is_below_start(len, p.addr, a.address) {
-        return 14;
+        return Err(Refusal::BelowStart);
     }
-    if exceeds_room(used.nodes, used.codes, a.size) {
-        return 15;
+    if exceeds_room(used.nodes, used.codes, a.size) || exceeds_entries(protected, entries) {
+        return Err(Refusal::SizeExceeded);
     }
-    if exceeds_entries(protected, entries) {
-        return 15;
-    }
-    0
+    Ok(())
 }
 
-// The reads of the inside bytes through a node of the tree at t: the first refusal, with the codes as they were, or 0, with the reads made.
+// The reads of the inside bytes through a node of the tree at t: the first refusal, with the codes as they were, or none, with the reads made.
 fn make_reads(
     parents: &[u16],
     codes: &mut [u8],
@@ -172,18 +146,14 @@ fn make_reads(
     t: Parts,
     node: usize,
     from: usize,
-) -> u8
+) -> Result<(), Refusal>
     requires { (m : Memory) × ((n : ℕ) × (TreeAt m n parents.now codes.old t × Reached m n node from (length inside.now))) }
     ensures { (m : Memory) (n : ℕ) → TreeAt m n parents.now codes.old t → Reached m n node from (length inside.now)
-        → TreeVisited m n (reads_refusal node from (map permission inside.now) (allocation_at m n).nodes) (reads_visit node from (map permission inside.now)) result codes.new }
+        → TreeVisited m n (reads_refusal node from (map permission inside.now) (allocation_at m n).nodes) (reads_visit node from (map permission inside.now)) (refusal_of result) codes.new }
 {
-    let first = t.nodes.start;
-    let behind = t.nodes.end;
-    let start = t.codes.start;
-    let end = t.codes.end;
     tree::make_reads(
-        &parents[first..behind],
-        &mut codes[start..end],
+        &parents[t.nodes.start..t.nodes.end],
+        &mut codes[t.codes.start..t.codes.end],
         inside,
         t.width,
         node,
@@ -191,35 +161,66 @@ fn make_reads(
     )
 }
 
-// All that a retag through a node of the allocation with this record, which was made, is refused for; where it is for nothing, the reads are made.
+// The node that is retagged: its allocation's number and its own there, the allocation's record and parts of the buffers, and how much is used.
+#[derive(Clone, Copy)]
+struct Parent {
+    number: usize,
+    node: usize,
+    allocation: Allocation,
+    parts: Parts,
+    used: Starts,
+}
+
+// The one that a provenance names, or 4.
+fn parent_of(allocs: &[u64], provenance: Provenance) -> Result<Parent, Refusal>
+    requires records { (m : Memory) × Records m allocs.now }
+    ensures found { IfOk result (λ parent. (parent.number ≡ provenance.allocation) × (parent.node ≡ provenance.node)
+        × ((m : Memory) → Records m allocs.now → Located m allocs.now (provenance_of (Some provenance)) parent.number parent.allocation parent.used parent.parts)) }
+    ensures never_made { IfErr result (λ refusal. (refusal ≡ NeverMade) × ((m : Memory) → Records m allocs.now → names_never_made m (provenance_of (Some provenance)) ≡ true)) }
+{
+    let a = bounds::target_of(allocs, Some(provenance));
+    if bounds::never_made(a, Some(provenance)) {
+        return Err(Refusal::NeverMade);
+    }
+    let number = provenance.allocation as usize;
+    Ok(Parent {
+        number,
+        node: provenance.node as usize,
+        allocation: a,
+        parts: parts::parts_of(a),
+        used: tables::used_behind(allocs, number),
+    })
+}
+
+// All that a retag through a node is refused for; where it is for nothing, the reads are made.
 fn retag_refusal(
-    a: Allocation,
+    parent: Parent,
     parents: &[u16],
     codes: &mut [u8],
     inside: &[u8],
     settings: ReborrowSettings,
     p: ThinPointer,
-    node: usize,
     entries: usize,
-    used: Starts,
-    t: Parts,
-) -> u8
-    requires { (m : Memory) × ((A : List ℕ) × ((n : ℕ) × (HoldsTrees m A parents.now codes.old × Located m A (provenance_of p.provenance) n a used t × (p.provenance ≡ Of n node)))) }
-    ensures value { (s : State) (frame : ℕ) (mask : FreezeMask) (A : List ℕ) (n : ℕ) → HoldsTrees s.memory A parents.now codes.old
-        → Located s.memory A (provenance_of p.provenance) n a used t → p.provenance ≡ Of n node
-        → Asked s frame entries settings mask inside.now → result ≡ reborrow_refusal (settings_of settings mask) frame (thin_pointer_of p) s }
-    ensures tested { (m : Memory) (A : List ℕ) (n : ℕ) → HoldsTrees m A parents.now codes.old
-        → Located m A (provenance_of p.provenance) n a used t → p.provenance ≡ Of n node
-        → Tested m n node p.addr inside.now result codes.new }
+) -> Result<(), Refusal>
+    requires { (m : Memory) × ((A : List ℕ) × (HoldsTrees m A parents.now codes.old × Located m A (provenance_of p.provenance) parent.number parent.allocation parent.used parent.parts × (p.provenance ≡ via parent.number parent.node))) }
+    ensures value { (s : State) (frame : ℕ) (mask : FreezeMask) (A : List ℕ) → HoldsTrees s.memory A parents.now codes.old
+        → Located s.memory A (provenance_of p.provenance) parent.number parent.allocation parent.used parent.parts → p.provenance ≡ via parent.number parent.node
+        → Asked s frame entries settings mask inside.now → refusal_of result ≡ reborrow_refusal (settings_of settings mask) frame (thin_pointer_of p) s }
+    ensures tested { (m : Memory) (A : List ℕ) → HoldsTrees m A parents.now codes.old
+        → Located m A (provenance_of p.provenance) parent.number parent.allocation parent.used parent.parts → p.provenance ≡ via parent.number parent.node
+        → Tested m parent.number parent.node p.addr inside.now (refusal_of result) codes.new }
 {
     let len = inside.len();
-    let protected = settings.protected;
-    let refused = bounds_refusal(a, p, len, protected, entries, used);
-    if refused != 0 {
-        return refused;
-    }
-    let from = place_in(a.address, p.addr, len);
-    make_reads(parents, codes, inside, t, node, from)
+    bounds_refusal(
+        parent.allocation,
+        p,
+        len,
+        settings.protected,
+        entries,
+        parent.used,
+    )?;
+    let from = place_in(parent.allocation.address, p.addr, len);
+    make_reads(parents, codes, inside, parent.parts, parent.node, from)
 }
 
 // ---- the child
@@ -246,10 +247,8 @@ fn insert_child(
         → inside.now ≡ inside_codes settings mask
         → Trees (mutate_at n (with_node (child_at (settings_after_init (settings_of settings mask)) node from bytes)) m) allocs.new parents.new protectors.new codes.new }
 {
-    let pointer = settings.pointer;
-    let protected = settings.protected;
-    let outside = permission::start_code(pointer, protected, settings.freeze);
-    let number = protector_number(protected);
+    let outside = permission::start_code(settings.pointer, settings.protected, settings.freeze);
+    let number = protector_number(settings.protected);
     tables::insert_node_at(
         allocs,
         parents,
@@ -279,8 +278,7 @@ fn node_place(used: Starts, t: Parts) -> NodePlace
     }
 }
 
-// The child of a node of allocation n, which has this record, in a memory in which its reads are made; m is the memory before them. Returns its
-// number.
+// The child of a node, in a memory in which its reads are made; m is the memory before them. Returns its number.
 fn add_child(
     allocs: &mut [u64],
     parents: &mut [u16],
@@ -289,34 +287,40 @@ fn add_child(
     inside: &[u8],
     settings: ReborrowSettings,
     p: ThinPointer,
-    n: usize,
-    node: usize,
-    a: Allocation,
-    used: Starts,
-    t: Parts,
+    parent: Parent,
 ) -> usize
-    requires located { (m : Memory) × (Located m allocs.old (provenance_of p.provenance) n a used t × Passed m n node p.addr (length inside.now) × Valid m
-        × HoldsMarked (after_reads m n node p.addr inside.now) allocs.old parents.old protectors.old codes.old) }
-    requires provenance_value { p.provenance ≡ Of n node }
+    requires located { (m : Memory) × (Located m allocs.old (provenance_of p.provenance) parent.number parent.allocation parent.used parent.parts × Passed m parent.number parent.node p.addr (length inside.now) × Valid m
+        × HoldsMarked (after_reads m parent.number parent.node p.addr inside.now) allocs.old parents.old protectors.old codes.old) }
+    requires provenance_value { p.provenance ≡ via parent.number parent.node }
     requires inside_value { (mask : FreezeMask) × (inside.now ≡ inside_codes settings mask) }
-    ensures { (m : Memory) (mask : FreezeMask) → Located m allocs.old (provenance_of p.provenance) n a used t → Passed m n node p.addr (length inside.now) → Valid m
-        → HoldsMarked (after_reads m n node p.addr inside.now) allocs.old parents.old protectors.old codes.old
+    ensures { (m : Memory) (mask : FreezeMask) → Located m allocs.old (provenance_of p.provenance) parent.number parent.allocation parent.used parent.parts
+        → Passed m parent.number parent.node p.addr (length inside.now) → Valid m
+        → HoldsMarked (after_reads m parent.number parent.node p.addr inside.now) allocs.old parents.old protectors.old codes.old
         → inside.now ≡ inside_codes settings mask
-        → Added (settings_of settings mask) (thin_pointer_of p) m n result allocs.new parents.new protectors.new codes.new }
+        → Added (settings_of settings mask) (thin_pointer_of p) m parent.number result allocs.new parents.new protectors.new codes.new }
 {
-    let child = a.nodes;
-    let bytes = a.size;
+    let a = parent.allocation;
     let from = place_in(a.address, p.addr, inside.len());
-    let place = node_place(used, t);
+    let place = node_place(parent.used, parent.parts);
     insert_child(
-        allocs, parents, protectors, codes, inside, settings, n, node, from, bytes, place,
+        allocs,
+        parents,
+        protectors,
+        codes,
+        inside,
+        settings,
+        parent.number,
+        parent.node,
+        from,
+        a.size,
+        place,
     );
-    child
+    a.nodes
 }
 
 // ---- the requests
 
-// A retag whose inside bytes have these codes.
+// A retag whose inside bytes have these codes: what its pointer then has, or why it is refused.
 fn reborrow_inside(
     allocs: &mut [u64],
     parents: &mut [u16],
@@ -326,45 +330,28 @@ fn reborrow_inside(
     settings: ReborrowSettings,
     p: ThinPointer,
     entries: usize,
-) -> Answer
+) -> Result<Option<Provenance>, Refusal>
     requires holds_marked { (m : Memory) × HoldsMarked m allocs.old parents.old protectors.old codes.old }
     requires inside_value { (mask : FreezeMask) × (inside.now ≡ inside_codes settings mask) }
     ensures { (s : State) (frame : ℕ) (mask : FreezeMask) → HoldsMarked s.memory allocs.old parents.old protectors.old codes.old
         → Asked s frame entries settings mask inside.now
-        → Retagged (settings_of settings mask) frame (thin_pointer_of p) s result allocs.new parents.new protectors.new codes.new }
+        → Retagged (settings_of settings mask) frame (thin_pointer_of p) s (answered result) allocs.new parents.new protectors.new codes.new }
 {
-    let provenance = p.provenance;
-    match provenance {
-        Provenance::None => {
-            if inside.len() == 0 {
-                return Answer::Pointer(Provenance::None);
-            }
-            Answer::Refused(7)
+    let Some(provenance) = p.provenance else {
+        if inside.is_empty() {
+            return Ok(None);
         }
-        Provenance::Of { allocation, node } => {
-            let n = allocation as usize;
-            let parent = node as usize;
-            let a = bounds::target_of(allocs, provenance);
-            if bounds::never_made(a, provenance) {
-                return Answer::Refused(4);
-            }
-            let t = parts::parts_of(a);
-            let used = tables::used_behind(allocs, n);
-            let refused = retag_refusal(
-                a, parents, codes, inside, settings, p, parent, entries, used, t,
-            );
-            if refused != 0 {
-                return Answer::Refused(refused);
-            }
-            let child = add_child(
-                allocs, parents, protectors, codes, inside, settings, p, n, parent, a, used, t,
-            );
-            Answer::Pointer(Provenance::Of {
-                allocation,
-                node: child as u32,
-            })
-        }
-    }
+        return Err(Refusal::MissingProvenance);
+    };
+    let parent = parent_of(allocs, provenance)?;
+    retag_refusal(parent, parents, codes, inside, settings, p, entries)?;
+    let child = add_child(
+        allocs, parents, protectors, codes, inside, settings, p, parent,
+    );
+    Ok(Some(Provenance {
+        node: child as u32,
+        ..provenance
+    }))
 }
 
 // A retag of `len` bytes, for whose frame, under a protector, so many entries are known. The mask says of each byte whether it is a freeze byte;
@@ -387,19 +374,14 @@ pub fn reborrow(
         → Retagged (settings_of settings (mask_of (take len mask.old))) frame (thin_pointer_of p) s result allocs.new parents.new protectors.new codes.new }
     ensures mask_after { mask.new ≡ inside_codes settings (mask_of (take len mask.old)) ++ drop len mask.old }
 {
-    let pointer = settings.pointer;
-    let protected = settings.protected;
-    inside_codes(&mut mask[..len], pointer, protected);
-    reborrow_inside(
-        allocs,
-        parents,
-        protectors,
-        codes,
-        &mask[..len],
-        settings,
-        p,
-        entries,
-    )
+    inside_codes(&mut mask[..len], settings.pointer, settings.protected);
+    let inside = &mask[..len];
+    match reborrow_inside(
+        allocs, parents, protectors, codes, inside, settings, p, entries,
+    ) {
+        Ok(provenance) => Answer::Pointer(provenance),
+        Err(refusal) => Answer::from(refusal),
+    }
 }
 
 // A retag of a kind that adds no node: the same pointer, but for 4.
@@ -407,10 +389,9 @@ pub fn retag_without_node(allocs: &[u64], p: ThinPointer) -> Answer
     requires { (m : Memory) × Records m allocs.now }
     ensures { (s : State) → Records s.memory allocs.now → result ≡ reply_to ThePointer (retag_without_node (thin_pointer_of p) s).0 }
 {
-    let provenance = p.provenance;
-    let a = bounds::target_of(allocs, provenance);
-    if bounds::never_made(a, provenance) {
-        return Answer::Refused(4);
+    let a = bounds::target_of(allocs, p.provenance);
+    if bounds::never_made(a, p.provenance) {
+        return Answer::from(Refusal::NeverMade);
     }
-    Answer::Pointer(provenance)
+    Answer::Pointer(p.provenance)
 }

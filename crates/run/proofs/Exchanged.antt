@@ -1,6 +1,6 @@
 -- A list made from another by exchanges, or with an accepted load made again, leaves the same memory and frames in the buffers, number for number, and the same width; each
 -- request has the same answer in its new place.
-use Rattle.std.specs.Prelude.{if◌then◌else◌}
+use Rattle.std.specs.Prelude.{if◌then◌else◌, Result, Ok, Err}
 use Prim.Native.Nat.{ℕ}
 use mathlib.Core.Path.{◌≡◌, refl, ap}
 use mathlib.Core.Bool.{Bool, true, false}
@@ -18,16 +18,17 @@ use Rattle.transcript.specs.Transcript.{transcript}
 use Rattle.run.specs.Lists.{Lent, ran, answered, list_run}
 use Rattle.pointer.specs.Width.{declared_width}
 use Rattle.pointer.specs.declared.width.Width.{Width}
-use Rattle.run.specs.declared.ListRun.{ListRun}
-use Rattle.run.specs.declared.ListRun.TheVariants.{Refused, Answered}
+use Rattle.refusal.specs.declared.Refusal.{Refusal}
+use Rattle.refusal.specs.declared.Refusal.TheVariants.{NotWellFormed}
+use Rattle.run.specs.declared.Answered.{Answered}
 
 -- the width that a reply tells
-abbrev pub width_told : ListRun → Option Width
-width_told (Refused reason) = none
-width_told (Answered at whole width) = some width
+abbrev pub width_told : Result Answered Refusal → Option Width
+width_told (Err refusal) = none
+width_told (Ok a) = some a.width
 
 -- what holds the memory, the frames and the width
-abbrev pub held : ListRun × Lent → (Buffers × List ℕ) × Option Width
+abbrev pub held : Result Answered Refusal × Lent → (Buffers × List ℕ) × Option Width
 held o = ((o.1.memory, o.1.frames), width_told o.0)
 
 module _ (l : List (List ℕ)) (given : Lent) where
@@ -37,7 +38,7 @@ module _ (l : List (List ℕ)) (given : Lent) where
   same_end other e = by (have_lengths given.memory given.frames)
     where
       left : Bool → List (List ℕ) → (Buffers × List ℕ) × Option Width
-      left t x = held (if t then answered (ran x given.answers) else (Refused 1, given))
+      left t x = held (if t then answered (ran x given.answers) else (Err NotWellFormed, given))
 
       by : (t : Bool) → left t other ≡ left t l
       by true = ap (λ (r : RunState). ((encode r.state.memory, frames_held r.state.frames), some (declared_width r.width))) e

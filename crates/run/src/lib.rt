@@ -4,31 +4,21 @@
 ghost use Rattle.std.specs.Prelude.{◌≡◌, ◌-◌, take, drop};
 
 use pointer::width::Width;
+use transcript::Written;
 
 pub mod list;
 
-// What a list comes to: a refusal with document 01's number, or its answers, as far as the lent buffer has room, and the width that it leaves.
+// What a list comes to that is not refused: its answers, as far as the lent buffer has room, and the width that it leaves.
 #[derive(Clone, Copy)]
-pub enum ListRun {
-    Refused(u8),
-    Answered {
-        at: usize,
-        whole: bool,
-        width: Width,
-    },
+pub struct Answered {
+    pub written: Written,
+    pub width: Width,
 }
 
 // The words from one place up to another, as far as there are any.
 pub(crate) fn part<'a>(words: &'a [u32], from: usize, end: usize) -> &'a [u32]
     ensures { result.now ≡ take (end - from) (drop from words.now) }
 {
-    let mut stop = end;
-    if words.len() < stop {
-        stop = words.len();
-    }
-    let mut start = from;
-    if stop < start {
-        start = stop;
-    }
-    &words[start..stop]
+    let stop = end.min(words.len());
+    &words[from.min(stop)..stop]
 }

@@ -6,10 +6,9 @@ use mathlib.Core.List.{List, ◌++◌}
 use native.Mathlib.Omega.{arith}
 use borrow.Author.Tests.{eqb-true, eq-eqb}
 use lib.Dec.{eqb}
-use lib.ListN.{length, drop, replicate}
+use lib.ListN.{length, replicate}
 use Rattle.definition.specs.Frame.{empty}
 use Rattle.definition.proofs.Booleans.{and_left, and_right}
-use Rattle.definition.proofs.Parts.{fill-all}
 use Rattle.definition.proofs.ValidRuns.{valid-empty}
 use Rattle.tables.specs.Encoding.{Buffers, encode}
 use Rattle.tables.specs.Held.{buffers}
@@ -72,18 +71,18 @@ pub have-lengths : (A P R W C F : List ℕ) → length A ≡ 1152 → length P �
 have-lengths A P R W C F a p r w c f =
     rw (eq-eqb (length A) 1152 a, eq-eqb (length P) 1024 p, eq-eqb (length R) 1024 r, eq-eqb (length W) 4096 w, eq-eqb (length C) 32768 c, eq-eqb (length F) 2080 f)
 
--- ---- zeros: each buffer filled by its length, or by a number
+-- ---- zeros of these lengths
 pub all-zero : (b : Buffers) → have_memory_lengths b ≡ true → {A P R W C : List ℕ} → A ≡ replicate (length b.allocs) 0 → P ≡ replicate (length b.parents) 0
-    → R ≡ replicate 1024 0 ++ drop 1024 b.protectors → W ≡ replicate (length b.words) 0 → C ≡ replicate 32768 0 ++ drop 32768 b.codes
+    → R ≡ replicate (length b.protectors) 0 → W ≡ replicate (length b.words) 0 → C ≡ replicate (length b.codes) 0
     → buffers A P R W C ≡ encode empty.memory
 all-zero b e a p r w c =
     let l = memory-lengths b e in
     let zeros : ℕ → List ℕ = λ k. replicate k 0 in
     let a' = a ∙ ap zeros l.allocs in
     let p' = p ∙ ap zeros l.parents in
-    let r' = r ∙ fill-all 1024 0 b.protectors (omega (arith, l.protectors)) in
+    let r' = r ∙ ap zeros l.protectors in
     let w' = w ∙ ap zeros l.words in
-    let c' = c ∙ fill-all 32768 0 b.codes (omega (arith, l.codes)) in
+    let c' = c ∙ ap zeros l.codes in
     (λ i. buffers (a' i) (p' i) (r' i) (w' i) (c' i)) ∙ zeros-hold.equal
 
 pub empty-held : {b : Buffers} {F : List ℕ} → b ≡ encode empty.memory → HoldsFrames empty.frames F → HoldsState empty b F

@@ -25,12 +25,13 @@ use Rattle.tables.specs.Encoding.{Buffers, encode}
 use Rattle.frames.specs.Buffer.{HoldsFrames, frames_held}
 use Rattle.frames.proofs.FromValid.{valid-holds}
 use Rattle.pointer.specs.Width.{width_of}
-use Rattle.pointer.specs.declared.width.Width as code-width
 use Rattle.answer.specs.Answer.{answer_of}
 use Rattle.request.specs.declared.Request as code
 use Rattle.request.specs.Fields.{kind_of, request_of}
 use Rattle.perform.specs.Performed.{Formed, outcome_of, Left}
-use Rattle.state.specs.State.{HoldsState, HoldsRun}
+use Rattle.state.specs.State.{HoldsState}
+use Rattle.state.specs.Run.{memory_of, Holds}
+use Rattle.state.specs.declared.RunState as state
 use Rattle.step.specs.Steps.{Decoded, Stepped, Turned}
 
 -- numbers that are each below 2^32
@@ -100,30 +101,29 @@ module _ {s : State} {b : Buffers} {F : List ℕ} (h : HoldsState s b F) where
       stepped k = stepped_by (by-test false passed ∙ ap (λ (x : Request). perform w x.kind s x) (sym as-request)) k (valid-step w s ws d.words h.valid)
 
 -- ---- in a run
-module _ {r : RunState} {b : Buffers} {F : List ℕ} {w : Width} (h : HoldsRun r b F w) (ws : List ℕ) where
-  abbrev o : definition.Answer × State
-  o = step r.width r.state ws
-
-  turned_by : {answer : Answer} {width : code-width.Width} {b' : Buffers} {F' : List ℕ} → Stepped w r.state ws answer b' F'
-      → width_of width ≡ width_after (step w r.state ws).0 (request ws) w → Turned r ws (record { answer = answer; width = width }) b' F'
+module _ {r : RunState} (run : state.RunState) (h : Holds r run) (ws : List ℕ) where
+  turned_by : {a : Answer} (run' : state.RunState) → Stepped (width_of run.width) r.state ws a (memory_of run') run'.frames.now
+      → width_of run'.width ≡ width_after (step (width_of run.width) r.state ws).0 (request ws) (width_of run.width) → Turned r ws a run'
   unfolding turn
-  turned_by {answer} {width} {b'} {F'} k e =
-      let k' : Stepped r.width r.state ws answer b' F' = subst (λ (w : Width). Stepped w r.state ws answer b' F') h.width k in
+  turned_by {a} run' k e =
+      let k' : Stepped r.width r.state ws a (memory_of run') run'.frames.now = subst (λ (w : Width). Stepped w r.state ws a (memory_of run') run'.frames.now) h.width k in
       record {
         answer = k'.answer;
         holds = record { state = k'.holds; width = e ∙ ap (λ (w : Width). width_after (step w r.state ws).0 (request ws) w) h.width };
       }
 
   -- refused before its fields are read
-  pub turned-short : length ws < 4 → {width : code-width.Width} → width_of width ≡ w → Turned r ws (record { answer = Refused 2; width = width }) b F
+  pub turned-short : length ws < 4 → Turned r ws (Refused 2) run
   unfolding width_after step
-  turned-short few {width} e =
-      let refused : is_refused w r.state ws ≡ true = short-refused w r.state ws few in
-      turned_by (stepped-refused h.state w ws refused) (rw refused e)
+  turned-short few =
+      let refused : is_refused (width_of run.width) r.state ws ≡ true = short-refused (width_of run.width) r.state ws few in
+      turned_by run (stepped-refused h.state (width_of run.width) ws refused) (rw refused refl)
 
-  pub turned : {q : code.Request} {following : List ℕ} → Decoded q following ws → {answer : Answer} {width : code-width.Width} {b' : Buffers} {F' : List ℕ} → Stepped w r.state ws answer b' F'
-      → ((a : definition.Answer) (ws : List ℕ) → not (eqb (answer_of answer b'.words).refusal 0) ≡ not (eqb a.refusal 0) → width_of width ≡ width_after a (request_of q ws) w)
-      → Turned r ws (record { answer = answer; width = width }) b' F'
-  turned {q} {following} d k f =
+  pub turned : {q : code.Request} {following : List ℕ} → Decoded q following ws → {a : Answer} (run' : state.RunState)
+      → Stepped (width_of run.width) r.state ws a (memory_of run') run'.frames.now
+      → ((d : definition.Answer) (ws : List ℕ) → not (eqb (answer_of a run'.words.now).refusal 0) ≡ not (eqb d.refusal 0) → width_of run'.width ≡ width_after d (request_of q ws) (width_of run.width))
+      → Turned r ws a run'
+  turned {q} {following} d run' k f =
+      let w = width_of run.width in
       let a : definition.Answer = (step w r.state ws).0 in
-      turned_by k (f a (drop 4 ws) (ap (λ (x : definition.Answer). not (eqb x.refusal 0)) k.answer) ∙ ap (λ (x : Request). width_after a x w) d.fields)
+      turned_by run' k (f a (drop 4 ws) (ap (λ (x : definition.Answer). not (eqb x.refusal 0)) k.answer) ∙ ap (λ (x : Request). width_after a x w) d.fields)

@@ -5,17 +5,17 @@ use Rattle.definition.specs.Frame.{State}
 use Rattle.definition.specs.Request.{request}
 use Rattle.definition.specs.Run.{IsWord, step, RunState, turn}
 use Rattle.definition.specs.Valid.{All}
-use Rattle.request.specs.declared.Request as code
+use Rattle.request.specs.declared.Request.{Request}
 use Rattle.request.specs.Fields.{request_of}
 use Rattle.answer.specs.Answer.{answer_of}
 use Rattle.answer.specs.declared.Answer.{Answer}
 use Rattle.tables.specs.Encoding.{Buffers}
-use Rattle.pointer.specs.Width.{width_of}
-use Rattle.state.specs.State.{HoldsState, HoldsRun}
-use Rattle.step.specs.declared.Outcome.{Outcome}
+use Rattle.state.specs.State.{HoldsState}
+use Rattle.state.specs.Run.{Holds}
+use Rattle.state.specs.declared.RunState as code
 
 -- q has the fields of the request ws, and `following` are the words behind them
-pub record Decoded (q : code.Request) (following ws : List ℕ) : Type 0 where
+pub record Decoded (q : Request) (following ws : List ℕ) : Type 0 where
   pub fields : request_of q (drop 4 ws) ≡ request ws
   pub rest : following ≡ drop 4 ws
   pub count : length ws ≡ 4 + length following
@@ -27,6 +27,6 @@ pub record Stepped (w : Width) (s : State) (ws : List ℕ) (r : Answer) (b : Buf
   pub holds : HoldsState (step w s ws).1 b F
 
 -- so in a run, with the width that it leaves
-pub record Turned (r : RunState) (ws : List ℕ) (t : Outcome) (b : Buffers) (F : List ℕ) : Type 0 where
-  pub answer : answer_of t.answer b.words ≡ (turn r ws).0
-  pub holds : HoldsRun (turn r ws).1 b F (width_of t.width)
+pub record Turned (r : RunState) (ws : List ℕ) (a : Answer) (run : code.RunState) : Type 0 where
+  pub answer : answer_of a run.words.now ≡ (turn r ws).0
+  pub holds : Holds (turn r ws).1 run

@@ -1,6 +1,6 @@
 -- How many words follow, by the first four alone.
 use Rattle.std.specs.Prelude.{if◌then◌else◌}
-use Prim.Native.Nat.{ℕ, ◌+◌, ◌*◌, ◌%◌, ◌^◌, ◌<◌}
+use Prim.Native.Nat.{ℕ, ◌+◌, ◌*◌, ◌%◌, ◌^◌, ◌<◌, ◌≤◌}
 use mathlib.Core.Path.{◌≡◌, refl, ap, sym, ◌∙◌}
 use mathlib.Core.Bool.{Bool, true, false}
 use mathlib.Core.List.{List, [], ◌∷◌, ◌++◌}
@@ -93,5 +93,5 @@ module _ (bytes : List ℕ) (n : ℕ) (e : n ≡ following_length (request (word
   pub size-many : 4096 < n → 16 ≡ request_size bytes
   size-many h = ap (λ (t : Bool). 16 + 4 * (if t then 0 else n)) (sym (lt-ltb 4096 n h)) ∙ by-follow
 
-  pub size_few : n < 4097 → 16 + 4 * n ≡ request_size bytes
-  size_few h = ap (λ (t : Bool). 16 + 4 * (if t then 0 else n)) (sym (le-ltb 4096 n (omega arith))) ∙ by-follow
+  pub size_few : n ≤ 4096 → 16 + 4 * n ≡ request_size bytes
+  size_few h = ap (λ (t : Bool). 16 + 4 * (if t then 0 else n)) (sym (le-ltb 4096 n h)) ∙ by-follow

@@ -1,15 +1,16 @@
 -- The words of a part of the bytes are a part of their words.
-use Prim.Native.Nat.{ℕ, zero, suc, ◌+◌, ◌-◌, ◌*◌, ◌≤◌, ◌<◌}
+use Prim.Native.Nat.{ℕ, zero, suc, ◌+◌, ◌*◌, ◌≤◌, ◌<◌}
 use mathlib.Core.Path.{◌≡◌, refl, sym, ap, ◌∙◌}
-use mathlib.Core.List.{List, [], ◌∷◌, ◌++◌, append_assoc}
+use mathlib.Core.List.{List, [], ◌∷◌, map}
 use native.Mathlib.Omega.{arith}
 use native.Mathlib.Nat.{add-zero}
-use native.Mathlib.Numerals.{add-one}
-use lib.ListN.{length, get_or, take, drop, set, length-drop, length-append}
-use lib.Seq.{get_or-drop, drop-drop, drop-cons, drop-set-lt, take-suc, take-suc-set, length-take-le, set_at, get_or-append-add}
+use lib.ListN.{length, get_or, take, drop, length-drop}
+use lib.Seq.{get_or-drop, drop-drop}
+use Rattle.std.specs.Int.{w32, from_be_bytes}
+use Rattle.std.specs.Simd.{first_chunks}
 use Rattle.definition.specs.Run.{IsWord, words_of}
 use Rattle.definition.specs.Valid.{All}
-use Rattle.stream.specs.Stream.{word_from, moved}
+use Rattle.stream.specs.Stream.{word_from}
 
 -- 4 * n, by recursion on n
 abbrev pub fourfold : ℕ → ℕ
@@ -87,40 +88,13 @@ words-few (a ∷ b ∷ []) h = refl
 words-few (a ∷ b ∷ c ∷ []) h = refl
 words-few (a ∷ b ∷ c ∷ d ∷ bytes) h = absurd (omega arith)
 
--- ---- one word more is read
-module _ (n : ℕ) (words before : List ℕ) (w : ℕ) (h : n < length words) where
-  pub read_more : (rest whole : List ℕ) → take n words ++ (w ∷ rest) ≡ whole → take (n + 1) (set words n w) ++ rest ≡ whole
-  read_more rest whole e =
-      rw (add-one, take-suc-set words n w) (append_assoc (take n words) (w ∷ []) rest ∙ e)
-
-  pub rest_more : drop n words ≡ drop n before → drop (n + 1) (set words n w) ≡ drop (n + 1) before
-  rest_more e =
-      drop-set-lt (n + 1) words n w (omega arith) ∙ sym (drop-drop 1 n words) ∙ ap (drop 1) e ∙ drop-drop 1 n before
-
--- ---- one byte more is moved to the front
-pub moved_more : (from n : ℕ) (l : List ℕ) → from + n < length l
-    → set (moved from n l) n (get_or (moved from n l) (from + n) 0) ≡ moved from (n + 1) l
-moved_more from n l h =
-    let xs : List ℕ = take n (drop from l) in
-    let d : length (drop from l) ≡ length l - from = length-drop from l in
-    let k : length xs ≡ n = length-take-le n (drop from l) (omega arith) in
-    let i : from + n ≡ length xs + from = omega arith in
-    let j : n + from ≡ from + n = omega arith in
-    let v : get_or (moved from n l) (from + n) 0 ≡ get_or l (from + n) 0 =
-    ap (λ (m : ℕ). get_or (moved from n l) m 0) i ∙ get_or-append-add xs (drop n l) from 0 ∙ get_or-drop n l from 0 ∙ ap (λ (m : ℕ). get_or l m 0) j in
-    let more : take (n + 1) (drop from l) ≡ xs ++ (get_or l (from + n) 0 ∷ []) =
-    ap (λ (m : ℕ). take m (drop from l)) (add-one n)
-    ∙ take-suc (drop from l) n 0 (omega arith)
-    ∙ ap (λ (x : ℕ). xs ++ (x ∷ [])) (get_or-drop from l n 0) in
-    ap (λ (x : ℕ). set (moved from n l) n x) v
-    ∙ ap (λ (ys : List ℕ). set (xs ++ ys) n (get_or l (from + n) 0)) (drop-cons l n 0 (omega arith))
-    ∙ set_at xs (get_or l n 0) (drop (suc n) l) (get_or l (from + n) 0) n k
-    ∙ sym (append_assoc xs (get_or l (from + n) 0 ∷ []) (drop (suc n) l))
-    ∙ ap (λ (ys : List ℕ). ys ++ drop (suc n) l) (sym more)
-    ∙ ap (λ (m : ℕ). take (n + 1) (drop from l) ++ drop m l) (sym (add-one n))
-
-pub moved_length : (from n : ℕ) (l : List ℕ) → from + n ≤ length l → length (moved from n l) ≡ length l
-moved_length from n l h =
-    let d : length (drop from l) ≡ length l - from = length-drop from l in
-    let k : length (take n (drop from l)) ≡ n = length-take-le n (drop from l) (omega arith) in
-    omega (arith, length-append (take n (drop from l)) (drop n l), length-drop n l)
+-- the words of the whole chunks of four
+pub chunk_words : (k : ℕ) (bytes : List ℕ) → 4 * k ≤ length bytes → length bytes < 4 * k + 4
+    → map (from_be_bytes w32) (first_chunks 4 k bytes) ≡ words_of bytes
+unfolding words_of
+chunk_words zero bytes l h = sym (words-few bytes (omega arith))
+chunk_words (suc k) [] l h = absurd (omega arith)
+chunk_words (suc k) (a ∷ []) l h = absurd (omega arith)
+chunk_words (suc k) (a ∷ b ∷ []) l h = absurd (omega arith)
+chunk_words (suc k) (a ∷ b ∷ c ∷ []) l h = absurd (omega arith)
+chunk_words (suc k) (a ∷ b ∷ c ∷ d ∷ bytes) l h = ap (λ (ws : List ℕ). word_from a b c d ∷ ws) (chunk_words k bytes (omega arith) (omega arith))

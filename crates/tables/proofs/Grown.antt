@@ -5,7 +5,7 @@ use mathlib.Core.Bool.{false}
 use mathlib.Core.List.{List, [], ◌∷◌, ◌++◌, append_assoc, append-nil, map-append}
 use native.Mathlib.Nat.{suc-mul}
 use native.Mathlib.Omega.{arith}
-use borrow.Rule.Slice.PartMut.{put_mid, mid_of}
+use borrow.Rule.Slice.PartMut.{put_mid}
 use lib.ListN.{length, take, drop, get_or, set, replicate, length-append, length-drop, length-replicate}
 use lib.Seq.{paste, take-length}
 use Rattle.definition.specs.Notation.{mutate_at}
@@ -22,7 +22,7 @@ use Rattle.tables.specs.declared.Starts.{Starts}
 use Rattle.tables.specs.Encoding.{first_starts, next_starts, protector_number, record_of, parents_of, protectors_of, words_of, row_of, codes_of, concat_map, records_from, held_records, held, encode}
 use Rattle.tables.specs.Held.{buffers, Holds, start_of, Records, StartsAt, AllocationFits, Appended, inserted, with_node, moved_starts, RecordsBehind, Trees, NodeFits, Used, ZerosFrom}
 use Rattle.tables.proofs.Inserts.{held-zeros}
-use Rattle.tables.proofs.Parts.{put-paste}
+use Rattle.tables.proofs.Parts.{put_whole}
 use Rattle.tables.proofs.Focus.{concat-append, length-held, focus-used, focus-insert, focus-append, focus-append-zeros}
 use Rattle.tables.proofs.Sizes.{length-parents, words-used, parents-used, protectors-used, codes-used}
 use Rattle.tables.proofs.Records.{starts_behind, starts_of, after-nodes, after-codes, after-at, starts-equal, length_before, around, held-around, records-mutate, record-append}
@@ -77,15 +77,14 @@ module _ {m : Memory} {A C : List ℕ} {bytes : ℕ} (ok : AllocationFits m A C 
     pub row_room : c + bytes ≤ length C
     row_room = omega (arith, code-start, code-room, ap length ok.codes, length-held 32768 codes_of m (omega (arith, code-room)))
 
-    pub append-row : (k : AllocationKind) (exponent address : ℕ) → put_mid c (length C - c) C (replicate bytes 3 ++ drop bytes (mid_of c (length C - c) C))
+    pub append-row : (k : AllocationKind) (exponent address : ℕ) {b : ℕ} → b ≡ bytes → put_mid c b C (replicate bytes 3)
         ≡ held 32768 codes_of (m ++ (new_allocation k bytes exponent address ∷ []))
-    append-row k exponent address =
+    append-row k exponent address e =
         let x = new_allocation k bytes exponent address in
         let r : List ℕ = replicate bytes 3 in
         let lr : length r ≡ bytes = length-replicate bytes 3 in
         let cx : codes_of x ≡ r = new_row k bytes exponent address in
-        ap (λ (z : ℕ). put_mid c (length C - c) C (r ++ drop z (mid_of c (length C - c) C))) (sym lr)
-        ∙ put-paste C r c (omega (arith, row_room))
+        put_whole C r c _ (e ∙ sym lr)
         ∙ ap (λ (t : List ℕ). paste t c r (length r)) ok.codes
         ∙ ap (λ (z : ℕ). paste (held 32768 codes_of m) z r (length r)) code-start
         ∙ ap (λ (t : List ℕ). paste (held 32768 codes_of m) (length (concat_map codes_of m)) t (length t)) (sym cx)

@@ -1,6 +1,4 @@
 pub mod Parts
-pub mod Moves
-pub mod Ranges
 pub mod Focus
 pub mod Sizes
 pub mod Records

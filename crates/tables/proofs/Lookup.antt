@@ -4,7 +4,6 @@ use mathlib.Core.Path.{◌≡◌, refl, sym, ap, ap₂, ◌∙◌}
 use mathlib.Core.List.{List, [], ◌∷◌, ◌++◌, append-nil}
 use native.Mathlib.Nat.{add-zero}
 use native.Mathlib.Numerals.{add-one}
-use native.Mathlib.Decide.{dec_lt}
 use native.Mathlib.Omega.{arith}
 use borrow.Author.Tests.{eq-eqb, ne_eqb}
 use lib.ListN.{length, take, drop, get_or, replicate, length-append}
@@ -92,13 +91,6 @@ module _ {m : Memory} {A : List ℕ} (h : Records m A) where
     pub record-in : a * 9 + 9 ≤ length A
     record-in = omega (arith, allocs-length, h.valid.bounded.allocations)
 
-  -- the first that was not is behind the last of m
-  pub made-before : (i : ℕ) → i ≤ length m → (get_or A (i * 9) 0 ≡ 0 → ⊥) → i < length m
-  made-before i l e = elim (dec_lt i (length m)) [ yes k ↦ k | no k ↦ absurd (e (zero-behind (i * 9) (omega arith))) ]
-
-  pub unmade-last : (i : ℕ) → i ≤ length m → get_or A (i * 9) 0 ≡ 0 → i ≡ length m
-  unmade-last i l e = elim (dec_lt i (length m)) [ yes k ↦ absurd (state-nonzero i k e) | no k ↦ omega arith ]
-
 -- ---- the loop that counts the records made: at i it counts those from record i on
 pub front_at : (A : List ℕ) (i q : ℕ) → get_or (drop (i * 9) A) q 0 ≡ get_or A (i * 9 + q) 0
 front_at A i q = get_or-drop (i * 9) A q 0
@@ -122,9 +114,20 @@ made-next A i h e =
     let k : 128 - i ≡ suc (128 - (i + 1)) = omega arith in
     rw (k, ne_eqb (get_or (drop (i * 9) A) 0 0) 0 (λ q. e (sym (front-state A i) ∙ q))) (ap (λ (l : List ℕ). suc (made_in (128 - (i + 1)) l)) (next-record A i))
 
--- ---- the loop that adds up what stands before a record
+-- of those from a place on that is not behind the last
+pub counted-from : {m : Memory} {A : List ℕ} → Records m A → (i : ℕ) → i ≤ length m → i + made_in (128 - i) (drop (i * 9) A) ≡ length m
+counted-from h zero l = omega (arith, made-count h)
+counted-from {m} {A} h (suc i) l =
+    let e = made-next A i (omega (arith, h.valid.bounded.allocations)) (state-nonzero h i (omega arith)) in
+    rw (← add-one i) (omega (arith, e, counted-from h i (omega arith)))
+
+-- ---- the memory of a buffer's records
 pub same_count : {m m' : Memory} {A : List ℕ} → Records m A → Records m' A → length m ≡ length m'
 same_count h h' = sym (made-count h) ∙ made-count h'
+
+-- the record before a place in one of them is that of an allocation in the other
+pub made-last : {m m' : Memory} {A : List ℕ} → Records m' A → (a : ℕ) → a ≤ length m' → (a ≡ 0 → ⊥) → Records m A → a - 1 < length m
+made-last h' a l n h = omega (arith, same_count h h')
 
 pub start-more : (f : Allocation → List ℕ) (m : Memory) (i : ℕ) → i < length m → start_of f m (i + 1) ≡ start_of f m i + length (f (allocation_at m i))
 unfolding concat_map
@@ -188,6 +191,10 @@ module _ {m : Memory} {A : List ℕ} (h : Records m A) {i : ℕ} (made : i < len
 
   pub read-codes : x.starts.codes + x.nodes * x.size ≤ 32768
   read-codes = rw read (codes-within h made (starts-in-record h i made))
+
+-- where the parts of as many allocations as were made end
+pub at-end : {m : Memory} {A : List ℕ} {a w n c : ℕ} → Records m A → a ≡ made_in 128 A → StartsAt m a w n c → StartsAt m (length m) w n c
+at-end h e s = rw (e ∙ made-count h) at s
 
 pub used_all : (m : Memory) (w n c : ℕ) → Valid m → StartsAt m (length m) w n c → Used m w n c
 used_all m w n c v s = record {

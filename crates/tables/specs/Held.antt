@@ -57,7 +57,7 @@ pub record Appended (m : Memory) (x : Allocation) (n : ℕ) (A C : List ℕ) : T
 
 -- ---- a node more
 -- c with row put in at q: what stood there and behind moves up, and as much falls off the end
-abbrev pub inserted : List ℕ → ℕ → List ℕ → List ℕ
+abbrev pub inserted : {X : Type 0} → List X → ℕ → List X → List X
 inserted c q row = take q c ++ (row ++ take (length c - (q + length row)) (drop q c))
 
 -- nothing but zeros from u on

@@ -23,7 +23,25 @@ pub struct Starts {
     pub codes: usize,
 }
 
-// An allocation's record.
+// The state of an allocation, by its number in the record.
+#[derive(Clone, Copy)]
+pub enum State {
+    NeverMade = 0,
+    Live = 1,
+    Dead = 2,
+}
+
+// The kind of an allocation, by its number in the record.
+#[derive(Clone, Copy)]
+pub enum Kind {
+    Stack = 0,
+    Heap = 1,
+    Global = 2,
+    Function = 3,
+    VTable = 4,
+}
+
+// An allocation's record. State and kind are numbers here as in the buffer: the clause of `allocation_at` says so.
 #[derive(Clone, Copy)]
 pub struct Allocation {
     pub state: u64,
@@ -67,19 +85,25 @@ pub fn allocation_at(allocs: &[u64], a: usize) -> Allocation
     }
 }
 
+// The first record from `from` on of an allocation that was never made, or 128.
+fn first_unmade(allocs: &[u64], from: usize) -> usize
+    requires { (length allocs.now ≡ 1152) × (from ≤ 128) }
+    ensures { result ≡ from + made_in (128 - from) (drop (from * 9) allocs.now) }
+{
+    for i in from..128 {
+        if allocs[i * 9] == State::NeverMade as u64 {
+            return i;
+        }
+    }
+    128
+}
+
 // How many allocations were made.
 pub fn made_count(allocs: &[u64]) -> usize
     requires { length allocs.now ≡ 1152 }
     ensures { result ≡ made_in 128 allocs.now }
 {
-    let mut i: usize = 0;
-    while i < 128 {
-        if allocs[i * 9] == 0 {
-            return i;
-        }
-        i += 1;
-    }
-    i
+    first_unmade(allocs, 0)
 }
 
 // Where the parts of allocation a start, which may be the next one to be made: where those of the one before it end.
@@ -95,13 +119,10 @@ pub fn starts_at(allocs: &[u64], a: usize) -> Starts
         };
     }
     let x = allocation_at(allocs, a - 1);
-    let size = x.size;
-    let nodes = x.nodes;
-    let starts = x.starts;
     Starts {
-        words: starts.words + size,
-        nodes: starts.nodes + nodes,
-        codes: starts.codes + nodes * size,
+        words: x.starts.words + x.size,
+        nodes: x.starts.nodes + x.nodes,
+        codes: x.starts.codes + x.nodes * x.size,
     }
 }
 
@@ -110,14 +131,7 @@ pub fn used_behind(allocs: &[u64], a: usize) -> Starts
     requires { (m : Memory) × (Records m allocs.now × (a < length m)) }
     ensures { (m : Memory) → Records m allocs.now → Used m result.words result.nodes result.codes }
 {
-    let mut k = a + 1;
-    while k < 128 {
-        if allocs[k * 9] == 0 {
-            return starts_at(allocs, k);
-        }
-        k += 1;
-    }
-    starts_at(allocs, k)
+    starts_at(allocs, first_unmade(allocs, a + 1))
 }
 
 // ---- addresses
@@ -126,12 +140,12 @@ pub fn ranges_overlap(address: u64, len: u64, other: u64, span: u64) -> bool
     ensures { result ≡ ranges_overlap address len other span }
 {
     if address < other {
-        return len > other - address;
+        len > other - address
+    } else if address > other {
+        span > address - other
+    } else {
+        true
     }
-    if address > other {
-        return span > address - other;
-    }
-    true
 }
 
 // The address is no multiple of the alignment, 2 to the exponent.
@@ -144,90 +158,22 @@ pub fn is_misaligned(address: u64, exponent: u64) -> bool
 }
 
 // ---- tables
-// Copies src to the front of dst.
-pub fn copy_row(dst: &mut [u8], src: &[u8])
-    requires { length src.now ≤ length dst.old }
-    ensures { dst.new ≡ src.now ++ drop (length src.now) dst.old }
-{
-    let mut i: usize = 0;
-    while i < src.len() {
-        dst[i] = src[i];
-        i += 1;
-    }
-}
-
 // Moves what is at p and behind up by w; the last w go.
-fn shift_right(c: &mut [u8], p: usize, w: usize)
+fn shift_right<T: Copy>(c: &mut [T], p: usize, w: usize)
     requires { p + w ≤ length c.old }
     ensures { c.new ≡ take (p + w) c.old ++ take (length c.old - (p + w)) (drop p c.old) }
 {
-    let low = p + w;
-    let mut i: usize = c.len();
-    while low < i {
-        i -= 1;
-        c[i] = c[i - w];
-    }
+    let end = c.len() - w;
+    c.copy_within(p..end, p + w);
 }
 
 // Puts row in at p: what is there and behind moves up.
-fn insert_row(c: &mut [u8], p: usize, row: &[u8])
+fn insert_row<T: Copy>(c: &mut [T], p: usize, row: &[T])
     requires { p + length row.now ≤ length c.old }
     ensures { c.new ≡ inserted c.old p row.now }
 {
     shift_right(c, p, row.len());
-    copy_row(&mut c[p..], row);
-}
-
-// The same in a table of parents, by one.
-fn shift_one(c: &mut [u16], p: usize)
-    requires { p + 1 ≤ length c.old }
-    ensures { c.new ≡ take (p + 1) c.old ++ take (length c.old - (p + 1)) (drop p c.old) }
-{
-    let low = p + 1;
-    let mut i: usize = c.len();
-    while low < i {
-        i -= 1;
-        c[i] = c[i - 1];
-    }
-}
-
-fn insert_one(c: &mut [u16], p: usize, x: u16)
-    requires { p + 1 ≤ length c.old }
-    ensures { c.new ≡ inserted c.old p (x ∷ []) }
-{
-    shift_one(c, p);
-    c[p] = x;
-}
-
-// In tables that are zero from `used` on: only what is used moves.
-fn insert_row_in_used(c: &mut [u8], used: usize, p: usize, row: &[u8])
-    requires zeros_from { ZerosFrom used c.old }
-    requires p_le_used { (p ≤ used) × (used + length row.now ≤ length c.old) }
-    ensures { c.new ≡ inserted c.old p row.now }
-{
-    let end = used + row.len();
-    insert_row(&mut c[..end], p, row);
-}
-
-fn insert_one_in_used(c: &mut [u16], used: usize, p: usize, x: u16)
-    requires zeros_from { ZerosFrom used c.old }
-    requires p_le_used { (p ≤ used) × (used + 1 ≤ length c.old) }
-    ensures { c.new ≡ inserted c.old p (x ∷ []) }
-{
-    let end = used + 1;
-    insert_one(&mut c[..end], p, x);
-}
-
-// Sets the first n to x.
-pub fn fill(d: &mut [u8], n: usize, x: u8)
-    requires { n ≤ length d.old }
-    ensures { d.new ≡ replicate n x ++ drop n d.old }
-{
-    let mut i: usize = 0;
-    while i < n {
-        d[i] = x;
-        i += 1;
-    }
+    c[p..p + row.len()].copy_from_slice(row);
 }
 
 // A row: `inside` from `from` on, `outside` at all other places.
@@ -235,11 +181,8 @@ fn make_row(row: &mut [u8], inside: &[u8], outside: u8, from: usize)
     requires { from + length inside.now ≤ length row.old }
     ensures { row.new ≡ write_at from inside.now (replicate (length row.old) outside) }
 {
-    let end = from + inside.len();
-    let behind = row.len() - end;
-    fill(row, from, outside);
-    copy_row(&mut row[from..], inside);
-    fill(&mut row[end..], behind, outside);
+    row.fill(outside);
+    row[from..from + inside.len()].copy_from_slice(inside);
 }
 
 // Puts such a row in at p, of `width`, and makes it there.
@@ -249,51 +192,26 @@ fn insert_made_row(c: &mut [u8], p: usize, width: usize, inside: &[u8], outside:
     ensures { c.new ≡ inserted c.old p (write_at from inside.now (replicate width outside)) }
 {
     shift_right(c, p, width);
-    let end = p + width;
-    make_row(&mut c[p..end], inside, outside, from);
+    make_row(&mut c[p..p + width], inside, outside, from);
 }
 
-fn insert_made_row_in_used(
-    c: &mut [u8],
-    used: usize,
-    p: usize,
-    width: usize,
-    inside: &[u8],
-    outside: u8,
-    from: usize,
-)
-    requires zeros_from { ZerosFrom used c.old }
-    requires p_le_used { (p ≤ used) × (used + width ≤ length c.old) }
-    requires inside_bound { from + length inside.now ≤ width }
-    ensures { c.new ≡ inserted c.old p (write_at from inside.now (replicate width outside)) }
-{
-    let end = used + width;
-    insert_made_row(&mut c[..end], p, width, inside, outside, from);
-}
-
-// Writes the record of a live allocation with one node at p.
-fn put_record(
-    allocs: &mut [u64],
-    p: usize,
-    kind: u64,
-    exponent: u64,
-    address: u64,
-    size: usize,
-    starts: Starts,
-)
+// Writes a record at p.
+fn put_record(allocs: &mut [u64], p: usize, x: Allocation)
     requires { p + 9 ≤ length allocs.old }
     ensures { allocs.new
-        ≡ paste allocs.old p (1 ∷ kind ∷ exponent ∷ address ∷ size ∷ 1 ∷ starts.words ∷ starts.nodes ∷ starts.codes ∷ []) 9 }
+        ≡ paste allocs.old p (x.state ∷ x.kind ∷ x.exponent ∷ x.address ∷ x.size ∷ x.nodes ∷ x.starts.words ∷ x.starts.nodes ∷ x.starts.codes ∷ []) 9 }
 {
-    allocs[p] = 1;
-    allocs[p + 1] = kind;
-    allocs[p + 2] = exponent;
-    allocs[p + 3] = address;
-    allocs[p + 4] = size as u64;
-    allocs[p + 5] = 1;
-    allocs[p + 6] = starts.words as u64;
-    allocs[p + 7] = starts.nodes as u64;
-    allocs[p + 8] = starts.codes as u64;
+    allocs[p..p + 9].copy_from_slice(&[
+        x.state,
+        x.kind,
+        x.exponent,
+        x.address,
+        x.size as u64,
+        x.nodes as u64,
+        x.starts.words as u64,
+        x.starts.nodes as u64,
+        x.starts.codes as u64,
+    ]);
 }
 
 // Makes an allocation behind the others, and returns its number. Its words are uninitialised, its root has parent 0 and no
@@ -312,10 +230,17 @@ pub fn append_allocation(
 {
     let n = made_count(allocs);
     let starts = starts_at(allocs, n);
-    let start = starts.codes;
-    let p = n * 9;
-    put_record(allocs, p, kind, exponent, address, size, starts);
-    fill(&mut codes[start..], size, 3);
+    let live = Allocation {
+        state: State::Live as u64,
+        kind,
+        exponent,
+        address,
+        size,
+        nodes: 1,
+        starts,
+    };
+    put_record(allocs, n * 9, live);
+    codes[starts.codes..starts.codes + size].fill(3);
     n
 }
 
@@ -325,15 +250,13 @@ fn move_starts(allocs: &mut [u64], k: usize, width: usize)
     ensures { (l : List ℕ) (p : Starts) (m : Memory) (z : ℕ) → RecordsBehind k l p m z width allocs.old
         → allocs.new ≡ l ++ (records_from (moved_starts width p) m ++ replicate z 0) }
 {
-    let mut i = k;
-    while i < 128 {
+    for i in k..128 {
         let p = i * 9;
-        if allocs[p] == 0 {
+        if allocs[p] == State::NeverMade as u64 {
             return;
         }
         allocs[p + 7] += 1;
         allocs[p + 8] += width as u64;
-        i += 1;
     }
 }
 
@@ -372,13 +295,17 @@ pub fn insert_node_at(
         → PlaceFor m a place.nodes place.codes place.node place.code
         → Trees (mutate_at a (with_node x) m) allocs.new parents.new protectors.new codes.new }
 {
-    let nodes = place.nodes;
-    let node = place.node;
-    insert_one_in_used(parents, nodes, node, parent);
-    let mark = [protector; 1];
-    insert_row_in_used(protectors, nodes, node, &mark);
-    insert_made_row_in_used(codes, place.codes, place.code, width, inside, outside, from);
-    let p = a * 9 + 5;
-    allocs[p] += 1;
+    // Zeros stand behind what is used of a table: only that moves.
+    insert_row(&mut parents[..place.nodes + 1], place.node, &[parent]);
+    insert_row(&mut protectors[..place.nodes + 1], place.node, &[protector]);
+    insert_made_row(
+        &mut codes[..place.codes + width],
+        place.code,
+        width,
+        inside,
+        outside,
+        from,
+    );
+    allocs[a * 9 + 5] += 1;
     move_starts(allocs, a + 1, width);
 }

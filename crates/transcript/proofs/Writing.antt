@@ -1,14 +1,13 @@
 -- Nothing written, a word more, and what can be read back.
 use Prim.Native.Nat.{ℕ, ◌+◌, ◌<◌, ◌≤◌}
-use native.Mathlib.Numerals.{add-one}
 use native.Mathlib.Omega.{arith}
 use mathlib.Core.Bool.{true, false}
 use mathlib.Core.Path.{◌≡◌, sym, ap, ◌∙◌}
-use mathlib.Core.List.{List, [], ◌∷◌, ◌++◌, append_assoc}
+use mathlib.Core.List.{List, [], ◌∷◌, ◌++◌}
 use borrow.Author.Tests.{le-leb, lt-leb, leb-true}
 use lib.Dec.{leb-zero}
-use lib.ListN.{length, take, get_or, set, length-append}
-use lib.Seq.{set_out, take-suc}
+use lib.ListN.{length, take, set, length-append}
+use lib.Seq.{set_out}
 use Rattle.definition.specs.Notation.{write_at}
 use Rattle.definition.proofs.Writes.{write-none, write-length, write-one, write-more, write-back}
 use Rattle.transcript.specs.Transcript.{WrittenTo}
@@ -57,10 +56,6 @@ module _ (text before out : List ℕ) (w : Written) (h : WrittenTo text before o
         end = omega (arith, h.end);
         fits = sym (lt-leb (length (text ++ (x ∷ []))) (length before) (omega arith));
       }
-
--- ---- words more
-pub taken_more : (text words : List ℕ) (i : ℕ) → i < length words → (text ++ take i words) ++ (get_or words i 0 ∷ []) ≡ text ++ take (i + 1) words
-taken_more text words i h = rw (append_assoc, add-one, take-suc words i 0 h)
 
 -- ---- reading back
 pub written_back : (text before out : List ℕ) (w : Written) → WrittenTo text before out w → w.whole ≡ true → take w.at out ≡ text

@@ -2,21 +2,21 @@
 
 // Answers written one behind the other into a lent buffer. specs/Transcript.antt says in which words.
 ghost use Rattle.std.specs.Prelude.{◌≡◌, List, [], ◌∷◌, ◌++◌, ℕ, ◌<◌, ◌^◌, length};
-ghost use Rattle.definition.specs.Memory.Named.{Pointer};
-ghost use Rattle.pointer.specs.Pointer.{provenance_of};
 ghost use Rattle.answer.specs.Answer.{answer_of};
 ghost use Rattle.transcript.specs.Transcript.{heading, answer_words, WrittenTo};
 
 use answer::Answer;
 use pointer::Provenance;
 
-// Where the next word goes, and whether all words so far found room.
+// Where the next word goes, and whether all words so far found room. No `Option` of a place: after a drop the place still says where the text
+// ends (`WrittenTo`).
 #[derive(Clone, Copy)]
 pub struct Written {
     pub at: usize,
     pub whole: bool,
 }
 
+#[tactic(auto, using(crate::proofs::Writing::written_none))]
 pub fn nothing_written() -> Written
     ensures { (out : List ℕ) → WrittenTo [] out out result }
 {
@@ -28,13 +28,12 @@ fn put(out: &mut [u32], w: Written, word: u32) -> Written
     ensures { (text before : List ℕ) → WrittenTo text before out.old w
         → WrittenTo (text ++ (word ∷ [])) before out.new result }
 {
-    let at = w.at;
-    let whole = w.whole;
-    if at < out.len() {
-        out[at] = word;
-        return Written { at: at + 1, whole };
+    if w.at < out.len() {
+        out[w.at] = word;
+        Written { at: w.at + 1, ..w }
+    } else {
+        Written { whole: false, ..w }
     }
-    Written { at, whole: false }
 }
 
 // The words of a text, each by itself.
@@ -43,22 +42,10 @@ fn put_each(out: &mut [u32], w: Written, words: &[u32]) -> Written
         → WrittenTo (text ++ words.now) before out.new result }
 {
     let mut next = w;
-    let mut i: usize = 0;
-    while i < words.len() {
-        next = put(out, next, words[i]);
-        i += 1;
+    for word in words {
+        next = put(out, next, *word);
     }
     next
-}
-
-// Before a pointer's: it is accepted.
-fn pointer_heading(provenance: Provenance, count: u32) -> [u32; 5]
-    ensures { result ≡ heading 0 (Pointer (provenance_of provenance)) count }
-{
-    match provenance {
-        Provenance::None => [0, 0, 0, 0, count],
-        Provenance::Of { allocation, node } => [0, 1, allocation, node, count],
-    }
 }
 
 // What stands before an answer's loaded words, of which there are `count`. The second word says what is named: 0 nothing, 1 a pointer, 3 a leak.
@@ -68,9 +55,9 @@ fn heading_of(answer: Answer, count: u32) -> [u32; 5]
     match answer {
         Answer::Refused(n) => [n as u32, 0, 0, 0, count],
         Answer::Leak(allocation) => [25, 3, allocation, 0, count],
-        Answer::Accepted => [0, 0, 0, 0, count],
-        Answer::Pointer(p) => pointer_heading(p, count),
-        Answer::Words { start: _, len: _ } => [0, 0, 0, 0, count],
+        Answer::Pointer(Some(Provenance { allocation, node })) => [0, 1, allocation, node, count],
+        Answer::Pointer(None) => [0, 0, 0, 0, count],
+        Answer::Accepted | Answer::Words { .. } => [0, 0, 0, 0, count],
     }
 }
 

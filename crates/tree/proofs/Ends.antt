@@ -11,9 +11,8 @@ use Rattle.definition.specs.Memory.Liveness.{Live}
 use Rattle.definition.specs.Frame.{lacks_protector, unprotect_node, release_visit, release_visit_refusal, released_nodes}
 use Rattle.permission.specs.Codes.{unprotected_code}
 use Rattle.visit.specs.declared.Accesses.TheVariants as accesses
-use Rattle.visit.specs.declared.Answer.{Answer}
 use Rattle.visit.specs.declared.Reach.{Reach}
-use Rattle.visit.specs.Walk.{SameVisit, Ready, Told, ToldOf, row_at, with_row_at, subtree, walk_after}
+use Rattle.visit.specs.Walk.{SameVisit, Ready, Answer, Told, ToldOf, row_at, with_row_at, subtree, walk_after}
 use Rattle.visit.proofs.Places.{same-ready, same_width}
 use Rattle.tree.specs.Table.{rows_of, marks, Holds}
 use Rattle.tree.specs.Requests.{end_number, release_refusal, Ended, Released}

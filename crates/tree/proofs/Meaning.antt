@@ -22,19 +22,19 @@ use Rattle.definition.proofs.Order.{visits-only-nodes, visits-others}
 use Rattle.definition.proofs.Ranges.{accesses_refusal, accesses_after, Places, places-refusal, places-after}
 use Rattle.definition.specs.Tree as definition
 use Rattle.permission.proofs.Codes.{refusal-code, next-code}
-use Rattle.visit.specs.declared.Answer.{Answer}
-use Rattle.visit.specs.declared.Answer.TheVariants.{Stays, Changes, Refused}
+use Rattle.std.specs.Prelude.{Ok, Err}
+use Rattle.visit.specs.declared.Effect.TheVariants.{Stays, Changes}
 use Rattle.visit.specs.declared.Reach.{Reach}
 use Rattle.tree.specs.Table.{rows_of, Holds}
 use Rattle.tree.specs.Requests.{Checked}
-use Rattle.visit.specs.Walk.{SameVisit, Told, ToldOf, planned, codes_refusal, codes_after, row_refusal, row_after, node_refusal, node_after, subtree, walk_refusal, walk_after, with_row_at}
+use Rattle.visit.specs.Walk.{SameVisit, Answer, Told, ToldOf, planned, codes_refusal, codes_after, row_refusal, row_after, node_refusal, node_after, subtree, walk_refusal, walk_after, with_row_at}
 use Rattle.tree.proofs.Held.{Wide, row-held, row-changed, wide-changed}
 
 -- what a check told, said of equal things
 pub told_same : {a a' : ℕ} {x x' y y' : List ℕ} (answer : Answer) → a ≡ a' → x ≡ x' → y ≡ y' → Told a x y answer → Told a' x' y' answer
-told_same Stays ea ex ey t = (sym ea ∙ t.0, sym ex ∙ t.1 ∙ ey)
-told_same Changes ea ex ey t = sym ea ∙ t
-told_same (Refused n) ea ex ey t = (t.0 ∙ ea, t.1)
+told_same (Ok Stays) ea ex ey t = (sym ea ∙ t.0, sym ex ∙ t.1 ∙ ey)
+told_same (Ok Changes) ea ex ey t = sym ea ∙ t
+told_same (Err refusal) ea ex ey t = t ∙ ea
 
 -- ---- lists
 module _ {A B : Type 0} (f : A → B) where

@@ -40,11 +40,6 @@ module _ (nodes : List Node) (width : ℕ) (codes : List ℕ) (held : HoldsRows 
 pub mark-at : (nodes : List Node) (n : ℕ) → get_or (marks nodes) n 0 ≡ protector_number (node_at nodes n).protected
 mark-at nodes n = get_or-map (λ x. protector_number x.protected) nodes n no_node
 
-unmarked : (p : Protected) → protector_number p ≡ 0 → is_yes p ≡ false
-unmarked No e = refl
-unmarked Weak e = absurd (omega arith)
-unmarked Strong e = absurd (omega arith)
-
 marked : (p : Protected) → (protector_number p ≡ 0 → ⊥) → is_yes p ≡ true
 marked No h = absurd (h refl)
 marked Weak h = refl
@@ -59,9 +54,6 @@ unprotected-any (p ∷ row) = rw (is-protected-code p) (ap (λ (b : Bool). if no
 module _ (nodes : List Node) (width : ℕ) (protectors codes : List ℕ) (held : HoldsMarks nodes width protectors codes) (n : ℕ) where
   mark_of : get_or protectors n 0 ≡ protector_number (node_at nodes n).protected
   mark_of = ap (λ (l : List ℕ). get_or l n 0) held.marked ∙ mark-at nodes n
-
-  pub lacks-mark : get_or protectors n 0 ≡ 0 → true ≡ lacks_protector (node_at nodes n)
-  lacks-mark e = sym (rw (unmarked (node_at nodes n).protected (sym mark_of ∙ e)))
 
   pub lacks-code : n < length nodes → (get_or protectors n 0 ≡ 0 → ⊥) → any (λ c. not (is_protected_code c)) (row_at width n codes) ≡ lacks_protector (node_at nodes n)
   lacks-code l h =

@@ -19,11 +19,12 @@ use Rattle.permission.specs.Codes.{access_kind, end_access_code, init_access_cod
 use Rattle.permission.proofs.Codes.{end-access-code}
 use Rattle.permission.specs.declared.AccessKind as declared
 use Rattle.visit.specs.declared.Accesses.TheVariants.{Each, Told, AtInit}
-use Rattle.visit.specs.declared.Answer.{Answer}
-use Rattle.visit.specs.declared.Answer.TheVariants.{Stays, Changes}
+use Rattle.std.specs.Prelude.{Ok}
+use Rattle.visit.specs.declared.Effect.{Effect}
+use Rattle.visit.specs.declared.Effect.TheVariants.{Stays, Changes}
 use Rattle.visit.specs.declared.Reach.{Reach}
 use Rattle.tree.specs.Table.{rows_of, Holds}
-use Rattle.visit.specs.Walk.{SameVisit, Ready, ToldOf, told_access, subtree, walk_after}
+use Rattle.visit.specs.Walk.{SameVisit, Ready, Answer, ToldOf, told_access, subtree, walk_after}
 use Rattle.visit.proofs.Places.{same_width}
 use Rattle.tree.specs.Requests.{access_number, end_number, unless_refused, Made, Checked}
 use Rattle.tree.proofs.Held.{rows-length}
@@ -104,12 +105,9 @@ module _ (nodes : List Node) (width node from : ℕ) (ps codes inside : List ℕ
   reads-after = means-after reach inside ps (reads_visit node from (map permission inside)) means nodes codes as_wide
 
 -- ---- what passes a check
-module _ (v : Visit) (nodes : List Node) (answer : Answer) (t : Checked v nodes answer) where
-  pub checked-stays : answer ≡ Stays → visit_refusal v nodes ≡ 0
-  checked-stays e = let u = subst (Checked v nodes) e t in u.0
-
-  pub checked-changes : answer ≡ Changes → visit_refusal v nodes ≡ 0
-  checked-changes e = subst (Checked v nodes) e t
+pub checked-accepted : (v : Visit) (nodes : List Node) (effect : Effect) → Checked v nodes (Ok effect) → visit_refusal v nodes ≡ 0
+checked-accepted v nodes Stays t = t.0
+checked-accepted v nodes Changes t = t
 
 -- ---- a refusal leaves the nodes as they were
 pub accepted-nodes : (r : ℕ) (before after : List Node) → r ≡ 0 → unless_refused r before after ≡ after

@@ -11,8 +11,7 @@ use Rattle.definition.specs.Memory.Liveness.{Live}
 use Rattle.definition.specs.Frame.{lacks_protector, release_visit_refusal, released_nodes}
 use Rattle.definition.proofs.Retags.{reads_refusal, reads_visit}
 use Rattle.permission.specs.Codes.{end_access_code}
-use Rattle.visit.specs.declared.Answer.{Answer}
-use Rattle.visit.specs.Walk.{Told}
+use Rattle.visit.specs.Walk.{Answer, Told}
 use Rattle.tree.specs.Table.{rows_of, marks}
 
 -- nothing changes where there is a refusal

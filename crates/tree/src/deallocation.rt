@@ -3,39 +3,32 @@ ghost use Rattle.std.specs.Prelude.{◌≡◌, ℕ, ◌*◌, ◌≤◌, ◌<◌,
 ghost use Rattle.std.proofs.Math.Option.{some};
 ghost use Rattle.definition.specs.Notation.{any};
 ghost use Rattle.definition.specs.Permission.AccessKind.{Write};
+ghost use Rattle.std.specs.List.{list_any};
 ghost use Rattle.definition.specs.Tree.{access_visit, visited};
 ghost use Rattle.definition.specs.Memory.{node_prevents_deallocation};
+ghost use Rattle.refusal.specs.Number.{refusal_of};
 ghost use Rattle.permission.specs.Codes.{node_relation, next_code, prevents_code};
-ghost use Rattle.visit.specs.Plan.{TellsPath, Zeros, Roomy};
+ghost use Rattle.visit.specs.Plan.{TellsPath, Roomy};
 ghost use Rattle.tree.specs.Table.{HoldsAll, Some, Each};
 ghost use Rattle.tree.specs.Requests.{Deallocated};
 
 use crate::accesses::{apply_access, check_access};
-use permission::{AccessKind, NodeRelation, Outcome};
-use visit::{Accesses, Answer, Reach};
+use permission::{AccessKind, NodeRelation};
+use refusal::Refusal;
+use visit::{Accesses, Reach};
 
 fn code_prevents_after_write(code: u8, relation: NodeRelation) -> bool
     ensures { result ≡ prevents_code (next_code (some Write) (node_relation relation) code) }
 {
-    match permission::transition(code, AccessKind::Write, relation) {
-        Outcome::Stays => permission::prevents_deallocation(code),
-        Outcome::Becomes(c) => permission::prevents_deallocation(c),
-        Outcome::Refused(_) => permission::prevents_deallocation(code),
-    }
+    permission::prevents_deallocation(permission::next(code, AccessKind::Write, relation))
 }
 
 // A code of a row prevents deallocation, as a write leaves it.
 fn row_prevents_after_write(row: &[u8], relation: NodeRelation) -> bool
-    ensures { result ≡ any (λ c. prevents_code (next_code (some Write) (node_relation relation) c)) row.now }
+    ensures { result ≡ list_any (λ c. prevents_code (next_code (some Write) (node_relation relation) c)) row.now }
 {
-    let mut i = 0;
-    while i < row.len() {
-        if code_prevents_after_write(row[i], relation) {
-            return true;
-        }
-        i += 1;
-    }
-    false
+    row.iter()
+        .any(|code| code_prevents_after_write(*code, relation))
 }
 
 // A node under a strong protector prevents deallocation, on the codes as a write to all bytes leaves them. What each node is to the written one, the
@@ -52,8 +45,7 @@ fn strong_protector_in(
     ensures { (node : ℕ) → TellsPath node parents.now plan.now
         → Each (λ nodes. HoldsAll nodes width parents.now protectors.now codes.now) (λ nodes. result ≡ any node_prevents_deallocation (visited (access_visit Write node 0 width) nodes)) }
 {
-    let mut n = 0;
-    while n < parents.len() {
+    for n in 0..parents.len() {
         if protectors[n] == 2 {
             let start = n * width;
             let end = start + width;
@@ -61,25 +53,23 @@ fn strong_protector_in(
                 return true;
             }
         }
-        n += 1;
     }
     false
 }
 
-// The same, with a plan, for which zeros are lent.
-fn strong_protector_planned(
-    scratch: &mut [u16],
+// The same, with a plan of the write.
+fn strong_protector_after_write(
     parents: &[u16],
     protectors: &[u8],
     codes: &[u8],
     width: usize,
     node: usize,
 ) -> bool
-    requires zeros { Zeros scratch.old × (4 * length parents.now ≤ length scratch.old) }
     requires some { Some (λ nodes. HoldsAll nodes width parents.now protectors.now codes.now) }
     requires node_in_bounds { node < length parents.now }
     ensures { Each (λ nodes. HoldsAll nodes width parents.now protectors.now codes.now) (λ nodes. result ≡ any node_prevents_deallocation (visited (access_visit Write node 0 width) nodes)) }
 {
+    let mut scratch = [0u16; 4096];
     let size = 4 * parents.len();
     let v = Reach {
         node,
@@ -93,41 +83,22 @@ fn strong_protector_planned(
     strong_protector_in(&scratch[..size], parents, protectors, codes, width)
 }
 
-fn strong_protector_after_write(
-    parents: &[u16],
-    protectors: &[u8],
-    codes: &[u8],
-    width: usize,
-    node: usize,
-) -> bool
-    requires some { Some (λ nodes. HoldsAll nodes width parents.now protectors.now codes.now) }
-    requires node_in_bounds { node < length parents.now }
-    ensures { Each (λ nodes. HoldsAll nodes width parents.now protectors.now codes.now) (λ nodes. result ≡ any node_prevents_deallocation (visited (access_visit Write node 0 width) nodes)) }
-{
-    let mut scratch = [0u16; 4096];
-    strong_protector_planned(&mut scratch, parents, protectors, codes, width, node)
-}
-
-// A deallocation's write to all bytes through a node, and 24: a refusal leaves the table as it was.
+// A deallocation's write to all bytes through a node, and the test for strong protectors: a refusal leaves the table as it was.
 pub fn deallocate(
     parents: &[u16],
     protectors: &[u8],
     codes: &mut [u8],
     width: usize,
     node: usize,
-) -> u8
+) -> Result<(), Refusal>
     requires some { Some (λ nodes. HoldsAll nodes width parents.now protectors.now codes.old) }
     requires node_in_bounds { node < length parents.now }
-    ensures { Each (λ nodes. HoldsAll nodes width parents.now protectors.now codes.old) (λ nodes. Deallocated node width nodes result codes.new) }
+    ensures { Each (λ nodes. HoldsAll nodes width parents.now protectors.now codes.old) (λ nodes. Deallocated node width nodes (refusal_of result) codes.new) }
 {
-    match check_access(parents, codes, width, node, AccessKind::Write, 0, width) {
-        Answer::Stays => {}
-        Answer::Changes => {}
-        Answer::Refused(n) => return n,
-    }
+    check_access(parents, codes, width, node, AccessKind::Write, 0, width)?;
     if strong_protector_after_write(parents, protectors, codes, width, node) {
-        return 24;
+        return Err(Refusal::StrongProtector);
     }
     apply_access(parents, codes, width, node, AccessKind::Write, 0, width);
-    0
+    Ok(())
 }

@@ -1,6 +1,7 @@
 -- From what the called entry comes to, with its fields that fall under 2, to the promise in numbers.
+use Rattle.std.specs.Prelude.{Result}
 use Prim.Native.Nat.{ℕ}
-use mathlib.Core.Path.{◌≡◌, sym, ap, ◌∙◌}
+use mathlib.Core.Path.{◌≡◌, refl, sym, ap, ◌∙◌}
 use mathlib.Core.Bool.{Bool, true, false, ◌||◌}
 use mathlib.Core.List.{List}
 use lib.ListN.{length, set}
@@ -9,6 +10,7 @@ use Rattle.definition.specs.Memory.{Memory}
 use Rattle.answer.specs.Answer.{Gives, replied}
 use Rattle.answer.specs.declared.Answer.{Answer}
 use Rattle.tables.specs.Encoding.{Buffers}
+use Rattle.tables.specs.Held.{buffers}
 use Rattle.frames.specs.declared.Entry.{Entry}
 use Rattle.library.specs.Entry.{served, Served, malformed_answer}
 use Rattle.library.proofs.Served.{malformed-served}
@@ -17,8 +19,11 @@ use Rattle.library_frames.specs.Settings.{retag_of}
 use Rattle.library_frames.specs.Outcome.{malformed_outcome}
 use Rattle.library_frames.specs.declared.retags.RetagOutcome.{RetagOutcome}
 use Rattle.library_frames.proofs.Lent as retags
-use Rattle.run.specs.Lists.{Lent, ListRan}
-use Rattle.run.specs.declared.ListRun.{ListRun}
+use Rattle.run.specs.Lists.{Lent, lent, ListRan}
+use Rattle.state.specs.Run.{memory_of}
+use Rattle.state.specs.declared.RunState.{RunState}
+use Rattle.run.specs.declared.Answered.{Answered}
+use Rattle.refusal.specs.declared.Refusal.{Refusal}
 use Rattle.tree_borrows.specs.declared.numbers.ListReply.{ListReply}
 use Rattle.tree_borrows.specs.declared.numbers.Pointer.{Pointer}
 use Rattle.tree_borrows.specs.declared.numbers.Reply.{Reply}
@@ -36,6 +41,14 @@ or-true more e = ap (λ (t : Bool). t || more) e
 
 pub or-false : {t : Bool} (more : Bool) → t ≡ false → t || more ≡ more
 or-false more e = ap (λ (t : Bool). t || more) e
+
+-- or the second
+pub true-or : (first : Bool) {t : Bool} → t ≡ true → first || t ≡ true
+true-or first e = ap (λ (t : Bool). first || t) e ∙ any_or (first)
+  where
+    any_or : (b : Bool) → b || true ≡ true
+    any_or true = refl
+    any_or false = refl
 
 -- and the second is of the address of a pointer that was read
 pub at_address : {t : Bool} (more : ℕ → Bool) {p q : definition.ThinPointer} → t ≡ false → p ≡ q → t || more q.address ≡ more p.address
@@ -67,9 +80,13 @@ module _ (width : ℕ) (settings : Settings) (p : Pointer) (layout : List ℕ) (
       → retag.Served width (settings_of settings) (pointer_of p) layout (retag.lent places count b) o.answer (set places o.at o.entry) b' → Promised made b'
   good-retag e k = rw (is, e) (ap (λ (x : Answer × retag.Lent). (reply_of x.0, x.1)) k)
 
--- ---- a list
-pub list-replied : {l : List (List ℕ)} {given left : Lent} {a : ListRun} {r : ListReply} → r ≡ list_reply_of a → ListRan l given a left → ListReplied l given r left
-list-replied {left = left} q k = record {
-  outcome = (λ i. (q i, left)) ∙ ap (λ (o : ListRun × Lent). (list_reply_of o.0, o.1)) k.outcome;
-  order = k.order;
-}
+-- ---- a list, where each buffer holds what the run's state holds
+pub list-replied : {l : List (List ℕ)} {given : Lent} {out : List ℕ} {a : Result Answered Refusal} {r : ListReply} (run : RunState) {A P R W C F : List ℕ}
+    → A ≡ run.allocs.now → P ≡ run.parents.now → R ≡ run.protectors.now → W ≡ run.words.now → C ≡ run.codes.now → F ≡ run.frames.now
+    → r ≡ list_reply_of a → ListRan l given a (lent (memory_of run) run.frames.now out) → ListReplied l given r (lent (buffers A P R W C) F out)
+list-replied {l} {given} {out} run a p r w c f q k =
+    rw (a, p, r, w, c, f)
+    (record {
+      outcome = (λ i. (q i, lent (memory_of run) run.frames.now out)) ∙ ap (λ (o : Result Answered Refusal × Lent). (list_reply_of o.0, o.1)) k.outcome;
+      order = k.order;
+    })

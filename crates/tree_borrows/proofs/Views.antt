@@ -6,7 +6,7 @@ use mathlib.Core.Bool.{Bool}
 use mathlib.Core.List.{List, ◌++◌}
 use borrow.Author.Tests.{lt-ltb, le-ltb}
 use lib.ListN.{length, drop}
-use Rattle.pointer.specs.declared.Provenance.TheVariants.{None, Of}
+use Rattle.std.specs.Prelude.{None, Some}
 use Rattle.answer.specs.Answer.{answer_of}
 use Rattle.answer.specs.declared.Answer.{Answer}
 use Rattle.answer.specs.declared.Answer.TheVariants.{Refused, Leak, Accepted, Pointer, Words}
@@ -17,7 +17,7 @@ views (Refused n) words = refl
 views (Leak n) words = refl
 views Accepted words = refl
 views (Pointer None) words = refl
-views (Pointer (Of allocation node)) words = refl
+views (Pointer (Some t)) words = refl
 views (Words start len) words = refl
 
 module _ (out view : List ℕ) where

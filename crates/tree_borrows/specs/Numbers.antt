@@ -1,5 +1,6 @@
 -- Pointers, settings and answers as the numbers that cross the C interface, in the terms of the definition and of `answer`.
-use Rattle.std.specs.Prelude.{ℕ, ◌≡◌, Bool, true, false, ◌&&◌, ◌||◌, List, [], ◌++◌, eqb, ltb, length, take, drop, if◌then◌else◌}
+use Rattle.std.specs.Prelude as std
+use Rattle.std.specs.Prelude.{ℕ, ◌≡◌, Bool, true, false, ◌&&◌, ◌||◌, List, [], ◌++◌, eqb, ltb, length, take, drop, if◌then◌else◌, Result, Ok, Err}
 use Rattle.std.proofs.Math.Option.{Option, none, some}
 use Rattle.definition.specs.Refusal.{memory_leak}
 use Rattle.definition.specs.Exchange.{OrderIsFree}
@@ -8,8 +9,10 @@ use Rattle.definition.specs.Memory as definition
 use Rattle.definition.specs.Request.{nonzero}
 use Rattle.definition.specs.Width.{bits}
 use Rattle.pointer.specs.Width.{width_of}
+use Rattle.pointer.specs.Pointer.{thin_pointer_of}
+use Rattle.pointer.specs.declared.ThinPointer.{ThinPointer}
 use Rattle.pointer.specs.declared.Provenance.{Provenance}
-use Rattle.pointer.specs.declared.Provenance.TheVariants.{None, Of}
+use Rattle.std.specs.Prelude.{None, Some}
 use Rattle.answer.specs.Answer.{replied}
 use Rattle.answer.specs.Answer.Gives.{ThePointer}
 use Rattle.answer.specs.declared.Answer.{Answer}
@@ -22,9 +25,11 @@ use Rattle.library_frames.specs.declared.retags.RetagAnswer.{RetagAnswer}
 use Rattle.library_frames.specs.declared.retags.RetagOutcome.{RetagOutcome}
 use Rattle.library_frames.specs.declared.retags.RetagSettings.{RetagSettings}
 use Rattle.run.specs.Lists.{Lent, list_run}
-use Rattle.run.specs.declared.ListRun.{ListRun}
-use Rattle.run.specs.declared.ListRun.TheVariants as ran
+use Rattle.run.specs.declared.Answered.{Answered}
+use Rattle.refusal.specs.Number.{number}
+use Rattle.refusal.specs.declared.Refusal.{Refusal}
 use Rattle.tree_borrows.specs.declared.numbers.ListReply.{ListReply}
+use Rattle.tree_borrows.specs.declared.numbers.Malformed.{Malformed}
 use Rattle.tree_borrows.specs.declared.numbers.Pointer.{Pointer}
 use Rattle.tree_borrows.specs.declared.numbers.Reply.{Reply}
 use Rattle.tree_borrows.specs.declared.numbers.RetagReply.{RetagReply}
@@ -58,6 +63,11 @@ pointer_of p =
 unfoldable pub bad_pointer : Pointer → Bool
 bad_pointer p = bad_flag p.provenance || (eqb p.provenance 0 && (nonzero p.allocation || nonzero p.node))
 
+-- what is read of a pointer: 2, or the pointer
+abbrev pub ReadsPointer : Pointer → Result ThinPointer Malformed → Type 0
+ReadsPointer p (Ok q) = (bad_pointer p ≡ false) × (thin_pointer_of q ≡ pointer_of p)
+ReadsPointer p (Err e) = bad_pointer p ≡ true
+
 -- ---- a retag's settings
 abbrev pub settings_of : Settings → RetagSettings
 settings_of s =
@@ -72,10 +82,14 @@ settings_of s =
 abbrev pub bad_flags : Settings → Bool
 bad_flags s = bad_flag s.function_entry || (bad_flag s.unpin || bad_flag s.freeze)
 
+abbrev pub ReadsSettings : Settings → Result RetagSettings Malformed → Type 0
+ReadsSettings s (Ok t) = (bad_flags s ≡ false) × (t ≡ settings_of s)
+ReadsSettings s (Err e) = bad_flags s ≡ true
+
 -- ---- an answer
-abbrev pub pointer_reply : Provenance → Reply
+abbrev pub pointer_reply : std.Option Provenance → Reply
 pointer_reply None = record { refusal = 0; gives = 0; first = 0; second = 0 }
-pointer_reply (Of allocation node) = record { refusal = 0; gives = 1; first = allocation; second = node }
+pointer_reply (Some t) = record { refusal = 0; gives = 1; first = t.allocation; second = t.node }
 
 abbrev pub reply_of : Answer → Reply
 reply_of (answer.Refused n) = record { refusal = n; gives = 0; first = 0; second = 0 }
@@ -111,9 +125,9 @@ RetagReplied width settings p layout l r places b =
     (retag.served width ((bad_pointer p || bad_flags settings) || bad_fields width (settings_of settings) (pointer_of p).address layout) (retag_of (settings_of settings) (pointer_of p) layout) l))
 
 -- ---- a list's
-abbrev pub list_reply_of : ListRun → ListReply
-list_reply_of (ran.Refused n) = record { refusal = n; whole = 0; at = 0; width = 0 }
-list_reply_of (ran.Answered at whole width) = record { refusal = 0; whole = flag_of whole; at = at; width = bits (width_of width) }
+abbrev pub list_reply_of : Result Answered Refusal → ListReply
+list_reply_of (Ok a) = record { refusal = 0; whole = flag_of a.written.whole; at = a.written.at; width = bits (width_of a.width) }
+list_reply_of (Err r) = record { refusal = number r; whole = 0; at = 0; width = 0 }
 
 -- its promise: it replies r and leaves `left` of the buffers, as the list does; with demand 3
 pub record ListReplied (l : List (List ℕ)) (given : Lent) (r : ListReply) (left : Lent) : Type 0 where

@@ -10,13 +10,11 @@ ghost use Rattle.library_frames.specs.EndCall.{ended};
 ghost use Rattle.library_frames.specs.Retag as retag;
 ghost use Rattle.tree_borrows.specs.Numbers.{Replied, RetagReplied};
 
-use crate::numbers::{
-    Pointer, Reply, RetagMade, RetagReply, Settings, bad_flags, bad_pointer, reply_of, retag_made,
-    retag_settings, thin_pointer,
-};
+use crate::numbers::{Pointer, Reply, RetagMade, RetagReply, Settings};
 use frames::{Entry, load, put_if};
 use library_frames::calls::end_call_list;
-use library_frames::retags::{malformed, retag_list};
+use library_frames::retags::{RetagSettings, malformed, retag_list};
+use pointer::ThinPointer;
 
 mod lists;
 mod numbers;
@@ -45,16 +43,14 @@ fn retag_reply(
         result.answer (set places result.at result.entry)
         (buffers allocs.new parents.new protectors.new words.now codes.new) }
 {
-    if bad_pointer(p) | bad_flags(settings) {
+    let (Ok(pointer), Ok(read)) = (ThinPointer::try_from(p), RetagSettings::try_from(settings))
+    else {
         let outcome = malformed(len, count, allocs, parents, protectors, words, codes, width);
-        return retag_made(outcome);
-    }
-    let pointer = thin_pointer(p);
-    let read = retag_settings(settings);
-    let outcome = retag_list(
+        return RetagMade::from(outcome);
+    };
+    RetagMade::from(retag_list(
         len, count, allocs, parents, protectors, words, codes, width, layout, pointer, read,
-    );
-    retag_made(outcome)
+    ))
 }
 
 #[unsafe(no_mangle)]
@@ -102,10 +98,9 @@ fn end_call_reply(
         (ended width len count (first_of count list)
         (buffers allocs.now parents.now protectors.old words.now codes.old) area.old) }
 {
-    let answer = end_call_list(
+    Reply::from(end_call_list(
         len, list, count, allocs, parents, protectors, words, codes, width, area,
-    );
-    reply_of(answer)
+    ))
 }
 
 #[unsafe(no_mangle)]

@@ -3,7 +3,9 @@ ghost use Rattle.tables.specs.Held.{buffers};
 ghost use Rattle.run.specs.Lists.{requests_in, lent};
 ghost use Rattle.tree_borrows.specs.Numbers.{ListReplied};
 
-use crate::numbers::{ListReply, list_reply};
+use crate::numbers::ListReply;
+use pointer::width::Width;
+use state::RunState;
 
 // The requests' words, where each ends, and a buffer for the answers: five words for each, and the loaded words.
 #[unsafe(no_mangle)]
@@ -22,8 +24,14 @@ pub extern "C" fn tree_borrows_run_list(
         (lent (buffers allocs.old parents.old protectors.old words.old codes.old) frames.old answers.old)
         result (lent (buffers allocs.new parents.new protectors.new words.new codes.new) frames.new answers.new) }
 {
-    let answer = run::list::run_list(
-        allocs, parents, protectors, words, codes, frames, requests, ends, answers,
-    );
-    list_reply(answer)
+    let mut run = RunState {
+        allocs,
+        parents,
+        protectors,
+        words,
+        codes,
+        frames,
+        width: Width::Bits64,
+    };
+    ListReply::from(run::list::run_list(&mut run, requests, ends, answers))
 }

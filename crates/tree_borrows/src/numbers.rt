@@ -1,14 +1,14 @@
 // Pointers and answers as numbers.
 ghost use Rattle.std.specs.Prelude.{ℕ, ◌≡◌, List};
 ghost use Rattle.answer.specs.Answer.{answer_of};
-ghost use Rattle.pointer.specs.Pointer.{thin_pointer_of};
-ghost use Rattle.tree_borrows.specs.Numbers.{flag_of, pointer_of, bad_pointer, settings_of, bad_flags, pointer_reply, reply_of, loaded_words, made_of, list_reply_of};
+ghost use Rattle.tree_borrows.specs.Numbers.{ReadsPointer, ReadsSettings, reply_of, loaded_words, made_of, list_reply_of};
 
 use answer::Answer;
 use frames::Entry;
 use library_frames::retags::{RetagOutcome, RetagSettings};
 use pointer::{Provenance, ThinPointer};
-use run::ListRun;
+use refusal::Refusal;
+use run::Answered;
 
 // A pointer. It has provenance (1) or not (0), and then it names no allocation or node: both are 0.
 #[repr(C)]
@@ -70,100 +70,94 @@ pub struct RetagMade {
     pub entry: Entry,
 }
 
-// 2, of a pointer.
-pub(crate) fn bad_pointer(p: Pointer) -> bool
-    ensures { result ≡ bad_pointer p }
-{
-    if p.provenance > 1 {
-        return true;
-    }
-    if p.provenance == 1 {
-        return false;
-    }
-    (p.allocation != 0) | (p.node != 0)
-}
+// 2: a flag that is neither 0 nor 1, or a name without provenance.
+#[derive(Clone, Copy)]
+pub struct Malformed;
 
-pub(crate) fn thin_pointer(p: Pointer) -> ThinPointer
-    ensures { thin_pointer_of result ≡ pointer_of p }
-{
-    let addr = p.address;
-    if p.provenance == 1 {
-        let provenance = Provenance::Of {
-            allocation: p.allocation,
-            node: p.node,
+impl TryFrom<Pointer> for ThinPointer {
+    type Error = Malformed;
+
+    ghost try_from_gives = { ReadsPointer };
+
+    #[tactic(auto, unfolding(crate::specs::Numbers::bad_pointer))]
+    fn try_from(p: Pointer) -> Result<ThinPointer, Malformed> {
+        let provenance = match p.provenance {
+            0 if p.allocation == 0 && p.node == 0 => None,
+            1 => Some(Provenance {
+                allocation: p.allocation,
+                node: p.node,
+            }),
+            _ => return Err(Malformed),
         };
-        return ThinPointer { addr, provenance };
-    }
-    let provenance = Provenance::None;
-    ThinPointer { addr, provenance }
-}
-
-// 2, of a retag's flags.
-pub(crate) fn bad_flags(s: Settings) -> bool
-    ensures { result ≡ bad_flags s }
-{
-    (s.function_entry > 1) | ((s.unpin > 1) | (s.freeze > 1))
-}
-
-pub(crate) fn retag_settings(s: Settings) -> RetagSettings
-    ensures { result ≡ settings_of s }
-{
-    RetagSettings {
-        extra: s.extra,
-        function_entry: s.function_entry == 1,
-        unpin: s.unpin == 1,
-        freeze: s.freeze == 1,
+        Ok(ThinPointer {
+            addr: p.address,
+            provenance,
+        })
     }
 }
 
-fn pointer_reply(p: Provenance) -> Reply
-    ensures { result ≡ pointer_reply p }
-{
-    match p {
-        Provenance::None => Reply {
-            refusal: 0,
-            gives: 0,
-            first: 0,
-            second: 0,
-        },
-        Provenance::Of { allocation, node } => Reply {
-            refusal: 0,
-            gives: 1,
-            first: allocation as u64,
-            second: node as u64,
-        },
+impl TryFrom<Settings> for RetagSettings {
+    type Error = Malformed;
+
+    ghost try_from_gives = { ReadsSettings };
+
+    fn try_from(s: Settings) -> Result<RetagSettings, Malformed> {
+        if s.function_entry > 1 || s.unpin > 1 || s.freeze > 1 {
+            return Err(Malformed);
+        }
+        Ok(RetagSettings {
+            extra: s.extra,
+            function_entry: s.function_entry == 1,
+            unpin: s.unpin == 1,
+            freeze: s.freeze == 1,
+        })
     }
 }
 
-pub(crate) fn reply_of(answer: Answer) -> Reply
-    ensures { result ≡ reply_of answer }
-{
-    match answer {
-        Answer::Refused(n) => Reply {
-            refusal: n,
-            gives: 0,
-            first: 0,
-            second: 0,
-        },
-        Answer::Leak(allocation) => Reply {
-            refusal: 25,
-            gives: 3,
-            first: allocation as u64,
-            second: 0,
-        },
-        Answer::Accepted => Reply {
-            refusal: 0,
-            gives: 0,
-            first: 0,
-            second: 0,
-        },
-        Answer::Pointer(p) => pointer_reply(p),
-        Answer::Words { start, len } => Reply {
-            refusal: 0,
-            gives: 2,
-            first: start as u64,
-            second: len as u64,
-        },
+// ---- what a reply gives, as C names it
+const POINTER: u8 = 1;
+
+const LOADED: u8 = 2;
+
+const LEAK: u8 = 3;
+
+// The reply of a request that is accepted and gives nothing.
+const ACCEPTED: Reply = Reply {
+    refusal: 0,
+    gives: 0,
+    first: 0,
+    second: 0,
+};
+
+impl From<Answer> for Reply {
+    ghost from_gives = { λ answer reply. reply ≡ reply_of answer };
+
+    fn from(answer: Answer) -> Reply {
+        match answer {
+            Answer::Refused(refusal) => Reply {
+                refusal,
+                ..ACCEPTED
+            },
+            Answer::Leak(allocation) => Reply {
+                refusal: Refusal::MemoryLeak.number(),
+                gives: LEAK,
+                first: u64::from(allocation),
+                ..ACCEPTED
+            },
+            Answer::Accepted | Answer::Pointer(None) => ACCEPTED,
+            Answer::Pointer(Some(provenance)) => Reply {
+                gives: POINTER,
+                first: u64::from(provenance.allocation),
+                second: u64::from(provenance.node),
+                ..ACCEPTED
+            },
+            Answer::Words { start, len } => Reply {
+                gives: LOADED,
+                first: start as u64,
+                second: len as u64,
+                ..ACCEPTED
+            },
+        }
     }
 }
 
@@ -171,7 +165,7 @@ pub(crate) fn reply_of(answer: Answer) -> Reply
 pub(crate) fn loaded(reply: Reply) -> Answer
     ensures { (words : List ℕ) → (answer_of result words).words ≡ loaded_words reply words }
 {
-    if reply.gives == 2 {
+    if reply.gives == LOADED {
         return Answer::Words {
             start: reply.first as usize,
             len: reply.second as usize,
@@ -180,43 +174,38 @@ pub(crate) fn loaded(reply: Reply) -> Answer
     Answer::Accepted
 }
 
-pub(crate) fn retag_made(outcome: RetagOutcome) -> RetagMade
-    ensures { result ≡ made_of outcome }
-{
-    let answer = outcome.answer;
-    let count = answer.count;
-    let answer = answer.answer;
-    let reply = reply_of(answer);
-    let answer = RetagReply { reply, count };
-    let entry = outcome.entry;
-    RetagMade {
-        answer,
-        at: outcome.at,
-        entry,
+impl From<RetagOutcome> for RetagMade {
+    ghost from_gives = { λ outcome made. made ≡ made_of outcome };
+
+    fn from(outcome: RetagOutcome) -> RetagMade {
+        RetagMade {
+            answer: RetagReply {
+                reply: Reply::from(outcome.answer.answer),
+                count: outcome.answer.count,
+            },
+            at: outcome.at,
+            entry: outcome.entry,
+        }
     }
 }
 
-fn flag(set: bool) -> u8
-    ensures { result ≡ flag_of set }
-{
-    if set { 1 } else { 0 }
-}
+impl From<Result<Answered, Refusal>> for ListReply {
+    ghost from_gives = { λ outcome reply. reply ≡ list_reply_of outcome };
 
-pub(crate) fn list_reply(answer: ListRun) -> ListReply
-    ensures { result ≡ list_reply_of answer }
-{
-    match answer {
-        ListRun::Refused(reason) => ListReply {
-            refusal: reason,
-            whole: 0,
-            at: 0,
-            width: 0,
-        },
-        ListRun::Answered { at, whole, width } => ListReply {
-            refusal: 0,
-            whole: flag(whole),
-            at,
-            width: width.bits(),
-        },
+    fn from(outcome: Result<Answered, Refusal>) -> ListReply {
+        match outcome {
+            Ok(answered) => ListReply {
+                refusal: 0,
+                whole: u8::from(answered.written.whole),
+                at: answered.written.at,
+                width: answered.width.bits(),
+            },
+            Err(refusal) => ListReply {
+                refusal: refusal.number(),
+                whole: 0,
+                at: 0,
+                width: 0,
+            },
+        }
     }
 }

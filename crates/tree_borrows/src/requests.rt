@@ -12,8 +12,9 @@ ghost use Rattle.library.specs.Fields.{bad_address, bad_allocation, bad_load, ba
 ghost use Rattle.library.specs.Entry.{served, given_by};
 ghost use Rattle.tree_borrows.specs.Numbers.{pointer_of, bad_pointer, loaded_words, copied_to, Replied};
 
-use crate::numbers::{Pointer, Reply, bad_pointer, loaded, reply_of, thin_pointer};
+use crate::numbers::{Pointer, Reply, loaded};
 use library::fields::malformed;
+use pointer::ThinPointer;
 
 // Kind 0.
 #[unsafe(no_mangle)]
@@ -34,10 +35,9 @@ pub extern "C" fn tree_borrows_allocate(
         (replied ThePointer (served width (bad_allocation width kind exponent address) (definition.allocate (width_at width) (allocation_kind kind) len exponent address)
         (buffers allocs.old parents.now protectors.now words.now codes.old))) }
 {
-    let answer = library::allocate::allocate(
+    Reply::from(library::allocate::allocate(
         allocs, parents, protectors, words, codes, width, kind, len, exponent, address,
-    );
-    reply_of(answer)
+    ))
 }
 
 // Kind 1.
@@ -59,15 +59,12 @@ pub extern "C" fn tree_borrows_deallocate(
         (replied Nothing (served width (bad_pointer p || bad_allocation width kind exponent (pointer_of p).address) (definition.deallocate (pointer_of p) (allocation_kind kind) len exponent)
         (buffers allocs.old parents.now protectors.now words.now codes.old))) }
 {
-    if bad_pointer(p) {
-        let answer = malformed(allocs, parents, protectors, words, codes, width);
-        return reply_of(answer);
-    }
-    let pointer = thin_pointer(p);
-    let answer = library::deallocate::deallocate(
+    let Ok(pointer) = ThinPointer::try_from(p) else {
+        return Reply::from(malformed(allocs, parents, protectors, words, codes, width));
+    };
+    Reply::from(library::deallocate::deallocate(
         allocs, parents, protectors, words, codes, width, pointer, kind, len, exponent,
-    );
-    reply_of(answer)
+    ))
 }
 
 // Kind 2: the reply names the loaded words, the part of the lent data where the pointer points.
@@ -90,15 +87,12 @@ pub extern "C" fn tree_borrows_load(
         (served width (bad_pointer p || bad_load width exponent (pointer_of p).address) (definition.perform_access (load_of (pointer_of p) len exponent))
         (buffers allocs.now parents.now protectors.now words.now codes.old))) }
 {
-    if bad_pointer(p) {
-        let answer = malformed(allocs, parents, protectors, words, codes, width);
-        return reply_of(answer);
-    }
-    let pointer = thin_pointer(p);
-    let answer = library::load::load(
+    let Ok(pointer) = ThinPointer::try_from(p) else {
+        return Reply::from(malformed(allocs, parents, protectors, words, codes, width));
+    };
+    Reply::from(library::load::load(
         allocs, parents, protectors, words, codes, width, pointer, len, exponent,
-    );
-    reply_of(answer)
+    ))
 }
 
 // The loaded words, which C cannot be handed as a part of the lent data, go to the front of `out`; it stays as it is where it is too short.
@@ -134,15 +128,12 @@ pub extern "C" fn tree_borrows_store(
         (replied Nothing (served width (bad_pointer p || bad_store width bytes.now exponent (pointer_of p).address) (definition.perform_access (store_of (pointer_of p) bytes.now exponent))
         (buffers allocs.now parents.now protectors.now words.old codes.old))) }
 {
-    if bad_pointer(p) {
-        let answer = malformed(allocs, parents, protectors, words, codes, width);
-        return reply_of(answer);
-    }
-    let pointer = thin_pointer(p);
-    let answer = library::store::store(
+    let Ok(pointer) = ThinPointer::try_from(p) else {
+        return Reply::from(malformed(allocs, parents, protectors, words, codes, width));
+    };
+    Reply::from(library::store::store(
         allocs, parents, protectors, words, codes, width, pointer, bytes, exponent,
-    );
-    reply_of(answer)
+    ))
 }
 
 // Kind 7.
@@ -162,15 +153,12 @@ pub extern "C" fn tree_borrows_dereferenceable(
         (replied Nothing (served width (bad_pointer p || bad_address width (pointer_of p).address) (definition.dereferenceable (pointer_of p) 0 len)
         (buffers allocs.now parents.now protectors.now words.now codes.now))) }
 {
-    if bad_pointer(p) {
-        let answer = malformed(allocs, parents, protectors, words, codes, width);
-        return reply_of(answer);
-    }
-    let pointer = thin_pointer(p);
-    let answer = library::dereferenceable::dereferenceable(
+    let Ok(pointer) = ThinPointer::try_from(p) else {
+        return Reply::from(malformed(allocs, parents, protectors, words, codes, width));
+    };
+    Reply::from(library::dereferenceable::dereferenceable(
         allocs, parents, protectors, words, codes, width, pointer, len,
-    );
-    reply_of(answer)
+    ))
 }
 
 // Kind 8.
@@ -190,15 +178,12 @@ pub extern "C" fn tree_borrows_signed_dereferenceable(
         (replied Nothing (served width (bad_pointer p || bad_address width (pointer_of p).address) (definition.dereferenceable (pointer_of p) (back len) (ahead len))
         (buffers allocs.now parents.now protectors.now words.now codes.now))) }
 {
-    if bad_pointer(p) {
-        let answer = malformed(allocs, parents, protectors, words, codes, width);
-        return reply_of(answer);
-    }
-    let pointer = thin_pointer(p);
-    let answer = library::dereferenceable::signed_dereferenceable(
+    let Ok(pointer) = ThinPointer::try_from(p) else {
+        return Reply::from(malformed(allocs, parents, protectors, words, codes, width));
+    };
+    Reply::from(library::dereferenceable::signed_dereferenceable(
         allocs, parents, protectors, words, codes, width, pointer, len,
-    );
-    reply_of(answer)
+    ))
 }
 
 // Kind 9.
@@ -216,6 +201,5 @@ pub extern "C" fn tree_borrows_leak_check(
         (replied Nothing (served width false definition.leak_check
         (buffers allocs.now parents.now protectors.now words.now codes.now))) }
 {
-    let answer = library::leak_check::leak_check(allocs, parents, protectors, words, codes, width);
-    reply_of(answer)
+    Reply::from(library::leak_check::leak_check(allocs, parents, protectors, words, codes, width))
 }

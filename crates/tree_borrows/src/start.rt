@@ -4,7 +4,7 @@ ghost use Rattle.tables.specs.Held.{buffers};
 ghost use Rattle.library.specs.Start.{renewed, opened};
 ghost use Rattle.tree_borrows.specs.Numbers.{Replied};
 
-use crate::numbers::{Reply, RetagReply, reply_of};
+use crate::numbers::{Reply, RetagReply};
 
 // The empty memory, on buffers of any contents. It is one at every width.
 #[unsafe(no_mangle)]
@@ -20,8 +20,7 @@ pub extern "C" fn tree_borrows_new(
         (buffers allocs.new parents.new protectors.new words.new codes.new)
         (renewed width (buffers allocs.old parents.old protectors.old words.old codes.old)) }
 {
-    let answer = library::start::new(allocs, parents, protectors, words, codes, width);
-    reply_of(answer)
+    Reply::from(library::start::new(allocs, parents, protectors, words, codes, width))
 }
 
 // Kind 5: a frame without entries, on 64 places of any contents. Each is an entry's allocation and node, laid out as the struct is that a retag and an
@@ -30,7 +29,8 @@ pub extern "C" fn tree_borrows_new(
 pub extern "C" fn tree_borrows_new_call(places: &mut [[u32; 2]]) -> RetagReply
     ensures { Replied result.reply places.new (opened places.old) × (result.count ≡ 0) }
 {
-    let answer = library::start::new_call(places);
-    let reply = reply_of(answer);
-    RetagReply { reply, count: 0 }
+    RetagReply {
+        reply: Reply::from(library::start::new_call(places)),
+        count: 0,
+    }
 }

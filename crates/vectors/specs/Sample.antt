@@ -1,5 +1,5 @@
 -- A recorded sample: runs, each with the text that the Rust printed of it.
-use Rattle.std.specs.Prelude.{ℕ, suc, ◌+◌, ◌-◌, ◌<◌, ◌≡◌, Bool, true, false, List, leb, length, get_or, take, drop, if◌then◌else◌}
+use Rattle.std.specs.Prelude.{ℕ, suc, ◌+◌, ◌-◌, ◌<◌, ◌≡◌, Bool, true, false, List, leb, length, get_or, take, drop, if◌then◌else◌, Option, Some, None}
 use Rattle.definition.specs.Run.{words_of}
 use Rattle.definition.specs.Output.{output, IsOutput}
 use Rattle.judge.specs.Whole.{memory_room}
@@ -13,11 +13,11 @@ word_at file at = get_or (words_of (drop at file)) 0 0
 abbrev pub is_there : List ℕ → ℕ → Bool
 is_there file at = leb (at + 8 + word_at file at + word_at file (at + 4)) (length file)
 
-unfoldable pub record_at : List ℕ → ℕ → Record
+unfoldable pub record_at : List ℕ → ℕ → Option Record
 record_at file at =
     if is_there file at
-    then record { found = true; run = at + 8; text = at + 8 + word_at file at; end = at + 8 + word_at file at + word_at file (at + 4) }
-    else record { found = false; run = at; text = at; end = at }
+    then Some (record { run = at + 8; text = at + 8 + word_at file at; end = at + 8 + word_at file at + word_at file (at + 4) })
+    else None
 
 abbrev pub run_of : List ℕ → Record → List ℕ
 run_of file r = take (r.text - r.run) (drop r.run file)
@@ -36,6 +36,6 @@ one b = if b then 1 else 0
 -- how many of so many records, from a place on, are there and agree: those behind one that is not there are none
 pub data Counted (file : List ℕ) (room : ℕ) : ℕ → ℕ → ℕ → Type 0 where
   over : {at : ℕ} → Counted file room 0 at 0
-  gone : {left at : ℕ} → (record_at file at).found ≡ false → Counted file room (suc left) at 0
-  next : {left at n : ℕ} (b : Bool) → (record_at file at).found ≡ true → Agrees (run_of file (record_at file at)) (text_of file (record_at file at)) room b
-      → Counted file room left (record_at file at).end n → Counted file room (suc left) at (one b + n)
+  gone : {left at : ℕ} → record_at file at ≡ None → Counted file room (suc left) at 0
+  next : {left at n : ℕ} (r : Record) (b : Bool) → record_at file at ≡ Some r → Agrees (run_of file r) (text_of file r) room b
+      → Counted file room left r.end n → Counted file room (suc left) at (one b + n)

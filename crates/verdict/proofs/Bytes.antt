@@ -1,6 +1,6 @@
 -- The bytes at hand: what a request takes of them, and that it is the same whatever follows.
 use Prim.Native.Nat.{ℕ, ◌+◌, ◌-◌, ◌≤◌, ◌<◌, min}
-use mathlib.Core.Path.{◌≡◌, refl, sym, ap, subst, ◌∙◌}
+use mathlib.Core.Path.{◌≡◌, refl, sym, ap, ◌∙◌}
 use mathlib.Core.Bool.{Bool, true, false, not, ◌&&◌, ◌||◌}
 use mathlib.Core.List.{List, [], ◌++◌, append-nil}
 use native.Mathlib.Omega.{arith}
@@ -13,7 +13,7 @@ use Rattle.stream.specs.Stream.{request_size, next_request, moved}
 use Rattle.stream.proofs.Cuts.{size-more, next_more}
 use Rattle.judge.proofs.Runs.{size-some, size-most}
 use Rattle.verdict.specs.declared.Progress.{Progress}
-use Rattle.verdict.specs.Progress.{lacks, goes_on, at_hand, Ready, failed_at, HasRead, ReadOn}
+use Rattle.verdict.specs.Progress.{lacks, goes_on, at_hand, Ready, HasRead}
 
 -- what is not lacking is whole, or nothing more may come
 whole : (t : Bool) → t && true ≡ false → t ≡ false
@@ -30,7 +30,7 @@ some-request p input g l =
     let from : ℕ = p.advance.from in
     by_tests p.ended from p.end (take (p.end - from) (drop from input))
     (omega (arith, length-take (p.end - from) (drop from input)))
-    (and_right (not p.failed && not p.advance.refused) (not p.ended || ltb from p.end) g) l
+    (and_right (not p.advance.refused) (not p.ended || ltb from p.end) g) l
 
 -- the bytes up to the end, from a place on
 pub same_bytes : (from end : ℕ) (input : List ℕ) → from ≤ end → end ≤ length input → drop from (take end input) ≡ take (end - from) (drop from input)
@@ -51,13 +51,10 @@ lacks-room p input h e =
     omega (arith, hand-length p input h, size-most hand, ltb-true (length hand) (request_size hand) (and_left (ltb (length hand) (request_size hand)) (not p.ended) e))
 
 -- ---- what a read leaves
-pub read-failed : (p : Progress) (input : List ℕ) (r : Progress) (input' : List ℕ) → r ≡ failed_at p → ReadOn r.failed p input r input'
-read-failed p input r input' e = subst (λ (q : Progress). ReadOn q.failed p input q input') (sym e) refl
-
 -- the bytes at hand are moved to the front, and n bytes stand behind them
 pub has-read : (p : Progress) (input : List ℕ) → Ready p input → (kept n : ℕ) (front input' : List ℕ) → kept ≡ p.end - p.advance.from → front ≡ moved p.advance.from (p.end - p.advance.from) input
     → take kept input' ≡ take kept front → kept + n ≤ length input'
-    → HasRead p input (record { advance = record { from = 0; at = 0; index = p.advance.index; refused = p.advance.refused; width = p.advance.width }; end = kept + n; ended = eqb n 0; failed = false }) input'
+    → HasRead p input (record { advance = record { from = 0; at = 0; index = p.advance.index; refused = p.advance.refused }; end = kept + n; ended = eqb n 0 }) input'
 has-read p input ready kept n front input' e f g fits =
     let new : List ℕ = take n (drop kept input') in
     let all : kept + n - 0 ≡ kept + n = omega arith in

@@ -1,19 +1,22 @@
 #![tactic(auto)]
 
 // Reads a run from standard input and prints its verdict: the line of each request up to the first that is refused, and the memory that is left.
-ghost use Rattle.std.specs.Prelude.{ℕ, ◌+◌, ◌-◌, ◌≤◌, ◌<◌, ◌^◌, ◌≡◌, true, false, List, length};
+ghost use Rattle.std.specs.Prelude.{ℕ, ◌+◌, ◌-◌, ◌≤◌, ◌<◌, ◌^◌, ◌≡◌, true, List, length, IfOk, OnErr};
 ghost use Rattle.definition.specs.Memory.{Memory};
-ghost use Rattle.definition.specs.Frame.{empty};
+ghost use Rattle.definition.specs.Run.{start};
 ghost use Rattle.definition.specs.Output.{memory_lines};
-ghost use Rattle.tables.specs.Held.{buffers, Holds, WellFormed};
-ghost use Rattle.state.specs.State.{HoldsState};
+ghost use Rattle.tables.specs.Held as tables;
+ghost use Rattle.tables.specs.Held.{WellFormed};
+ghost use Rattle.state.specs.Run.{memory_of, Holds, SameBuffers};
 ghost use Rattle.state.specs.Lengths.{have_lengths};
+ghost use Rattle.pointer.specs.declared.width.Width.TheVariants.{Bits64};
 ghost use Rattle.report.specs.Written.{Written};
-ghost use Rattle.verdict.specs.Progress.{lacks_some, goes_on, Ready, failed_at, is_long, flushed_as, with_text_to, ReadOn};
-ghost use Rattle.verdict.specs.Came.{Came, TurnMade, TurnsMade, Printed};
+ghost use Rattle.verdict.specs.Progress.{lacks_some, goes_on, Ready, HasRead, is_long, flushed_as, with_text_to};
+ghost use Rattle.verdict.specs.Came.{Came, Made, AllMade, IsPrinted};
 
 use judge::Advance;
 use pointer::width::Width;
+use state::RunState;
 use std::io::{self, Read};
 use std::process::ExitCode;
 
@@ -23,281 +26,202 @@ struct Progress {
     advance: Advance,
     end: usize,
     ended: bool,
-    failed: bool,
 }
+
+// Reading or writing failed, and that is told: nothing more is done.
+#[derive(Clone, Copy)]
+struct Failed;
 
 fn goes_on(p: Progress) -> bool
     ensures { result ≡ goes_on p }
 {
-    let advance = p.advance;
-    !p.failed & !advance.refused & (!p.ended | (advance.from < p.end))
+    !p.advance.refused && (!p.ended || p.advance.from < p.end)
 }
 
 // Of the next request, of `size` bytes, fewer are at hand, and more may come.
 fn lacks(size: usize, hand: usize, ended: bool) -> bool
     ensures { result ≡ lacks_some size hand ended }
 {
-    (hand < size) & !ended
-}
-
-// Reading or writing failed: nothing more is done.
-fn failure(p: Progress) -> Progress
-    ensures { result ≡ failed_at p }
-{
-    let advance = p.advance;
-    Progress {
-        advance,
-        end: p.end,
-        ended: p.ended,
-        failed: true,
-    }
+    hand < size && !ended
 }
 
 // What failed, and why, on standard error. Where that fails too, there is nobody to tell.
-fn fail(rt: &HostRuntime, what: &str, error: io::Error) {
+fn fail(rt: &HostRuntime, what: &str, error: io::Error) -> Failed {
     let _ = eprintln!(rt; "{what}: {error}");
+    Failed
 }
 
-// Whether all of the text was written.
-fn write_text(rt: &HostRuntime, text: &[u8]) -> bool {
-    match rt.stdout().write_all(text) {
-        Ok(()) => true,
-        Err(error) => {
-            fail(rt, "write", error);
-            false
-        }
-    }
+fn write_text(rt: &HostRuntime, text: &[u8]) -> Result<(), Failed> {
+    rt.stdout()
+        .write_all(text)
+        .map_err(|error| fail(rt, "write", error))
+}
+
+fn read_bytes(rt: &HostRuntime, bytes: &mut [u8]) -> Result<usize, Failed>
+    ensures { IfOk result (λ n. n ≤ length bytes.new) }
+{
+    rt.stdin()
+        .read(bytes)
+        .map_err(|error| fail(rt, "read", error))
 }
 
 // Whoever feeds the program has every answer before more is read.
-fn read_more(rt: &HostRuntime, input: &mut [u8], out: &[u8], p: Progress) -> Progress
-    requires ready { Ready p input.old × (p.advance.at ≤ length out.now) }
-    requires from_in_bounds { p.end - p.advance.from < length input.old }
-    ensures { ReadOn result.failed p input.old result input.new }
+fn read_more(
+    rt: &HostRuntime,
+    input: &mut [u8],
+    out: &[u8],
+    p: Progress,
+) -> Result<Progress, Failed>
+    requires ready { Ready p input.old }
+    requires text { p.advance.at ≤ length out.now }
+    requires room { p.end - p.advance.from < length input.old }
+    ensures { IfOk result (λ r. HasRead p input.old r input.new) }
 {
-    let advance = p.advance;
-    let at = advance.at;
-    if !write_text(rt, &out[..at]) {
-        return failure(p);
-    }
-    let kept = stream::move_to_front(input, advance.from, p.end);
-    let n = match rt.stdin().read(&mut input[kept..]) {
-        Ok(n) => n,
-        Err(error) => {
-            fail(rt, "read", error);
-            return failure(p);
-        }
-    };
-    let width = advance.width;
-    let next = Advance {
-        from: 0,
-        at: 0,
-        index: advance.index,
-        refused: advance.refused,
-        width,
-    };
-    Progress {
-        advance: next,
+    write_text(rt, &out[..p.advance.at])?;
+    let kept = stream::move_to_front(input, p.advance.from, p.end);
+    let n = read_bytes(rt, &mut input[kept..])?;
+    Ok(Progress {
+        advance: Advance {
+            from: 0,
+            at: 0,
+            ..p.advance
+        },
         end: kept + n,
         ended: n == 0,
-        failed: false,
-    }
+    })
 }
 
 // Writes the text where there may be no room for another line and the memory.
-fn flushed(rt: &HostRuntime, out: &[u8], p: Progress, next: Advance) -> Progress
+fn flushed(rt: &HostRuntime, out: &[u8], p: Progress, next: Advance) -> Result<Progress, Failed>
     requires { next.at ≤ length out.now }
-    ensures { (result ≡ flushed_as p next result.failed) × (is_long next ≡ false → result.failed ≡ false) }
+    ensures ok { IfOk result (λ r. r ≡ flushed_as p next) }
+    ensures err { OnErr result (is_long next ≡ true) }
 {
-    let at = next.at;
-    if at <= 0xf000 {
-        return Progress {
-            advance: next,
-            end: p.end,
-            ended: p.ended,
-            failed: false,
-        };
+    if next.at <= 0xf000 {
+        return Ok(Progress { advance: next, ..p });
     }
-    let failed = !write_text(rt, &out[..at]);
-    let width = next.width;
-    let advance = Advance {
-        from: next.from,
-        at: 0,
-        index: next.index,
-        refused: next.refused,
-        width,
-    };
-    Progress {
-        advance,
-        end: p.end,
-        ended: p.ended,
-        failed,
-    }
+    write_text(rt, &out[..next.at])?;
+    Ok(Progress {
+        advance: Advance { at: 0, ..next },
+        ..p
+    })
 }
 
 // Reads where the next request lacks bytes, and else performs it.
 fn turn(
     rt: &HostRuntime,
-    allocs: &mut [u64],
-    parents: &mut [u16],
-    protectors: &mut [u8],
-    words: &mut [u32],
-    codes: &mut [u8],
-    frames: &mut [u32],
-    request: &mut [u32],
-    input: &mut [u8],
-    out: &mut [u8],
+    run: &mut RunState,
+    request: &mut [u32; 4100],
+    input: &mut [u8; 65536],
+    out: &mut [u8; 0x38000],
     p: Progress,
-) -> Progress
-    requires by_index { (bytes : List ℕ) × ((written : List ℕ)
-        × Came bytes written p input.old out.old (buffers allocs.old parents.old protectors.old words.old codes.old) frames.old) }
-    requires request_len { (length request.old ≡ 4100) × ((length input.old ≡ 65536) × (length out.old ≡ 0x38000)) }
-    requires p_value { (goes_on p ≡ true) × (p.advance.index + 1 < 2 ^ 64) }
-    ensures { (bytes written : List ℕ)
-        → Came bytes written p input.old out.old
-        (buffers allocs.old parents.old protectors.old words.old codes.old) frames.old
-        → TurnMade result.failed bytes written p input.old out.old result input.new out.new
-        (buffers allocs.new parents.new protectors.new words.new codes.new) frames.new }
+) -> Result<Progress, Failed>
+    requires came { (bytes : List ℕ) × ((written : List ℕ) × Came bytes written p input.old out.old run.old) }
+    requires goes_on { goes_on p ≡ true }
+    requires index { p.advance.index + 1 < 2 ^ 64 }
+    ensures made { (bytes written : List ℕ)
+        → Came bytes written p input.old out.old run.old
+        → IfOk result (λ r. Made bytes written p input.old out.old r input.new out.new run.new) }
+    ensures same { SameBuffers run.old run.new }
 {
-    let advance = p.advance;
-    let from = advance.from;
-    let end = p.end;
-    let cut = stream::next_cut(&input[from..end]);
-    if lacks(cut.size, end - from, p.ended) {
+    let hand = &input[p.advance.from..p.end];
+    let cut = stream::next_cut(hand);
+    if lacks(cut.size, hand.len(), p.ended) {
         return read_more(rt, input, out, p);
     }
-    let next = judge::turn::next(
-        allocs,
-        parents,
-        protectors,
-        words,
-        codes,
-        frames,
-        &input[..end],
-        request,
-        out,
-        advance,
-        cut,
-    );
+    let next = judge::turn::next(run, &input[..p.end], request, out, p.advance, cut);
     flushed(rt, out, p, next)
 }
 
-// Turn by turn. A proved loop has to end, and nothing says that the input does: so it counts down from a number that no run uses up.
+// Turn by turn. A proved loop has to end, and nothing says that the input does: so it counts up to a number that no run reaches.
 fn take_turns(
     rt: &HostRuntime,
-    allocs: &mut [u64],
-    parents: &mut [u16],
-    protectors: &mut [u8],
-    words: &mut [u32],
-    codes: &mut [u8],
-    frames: &mut [u32],
-    request: &mut [u32],
-    input: &mut [u8],
-    out: &mut [u8],
-) -> Progress
-    requires holds_state { HoldsState empty (buffers allocs.old parents.old protectors.old words.old codes.old) frames.old }
-    requires request_len { (length request.old ≡ 4100) × ((length input.old ≡ 65536) × (length out.old ≡ 0x38000)) }
-    ensures { TurnsMade result.failed result input.new out.new
-        (buffers allocs.new parents.new protectors.new words.new codes.new) frames.new }
+    run: &mut RunState,
+    request: &mut [u32; 4100],
+    input: &mut [u8; 65536],
+    out: &mut [u8; 0x38000],
+) -> Result<Progress, Failed>
+    requires holds { Holds start run.old }
+    ensures made { IfOk result (λ r. AllMade r input.new out.new run.new) }
+    ensures same { SameBuffers run.old run.new }
 {
-    let advance = Advance {
-        from: 0,
-        at: 0,
-        index: 0,
-        refused: false,
-        width: Width::Bits64,
-    };
     let mut p = Progress {
-        advance,
+        advance: Advance {
+            from: 0,
+            at: 0,
+            index: 0,
+            refused: false,
+        },
         end: 0,
         ended: false,
-        failed: false,
     };
-    let mut turns = u64::MAX - 1;
-    while (turns > 0) & goes_on(p) {
-        p = turn(
-            rt, allocs, parents, protectors, words, codes, frames, request, input, out, p,
-        );
-        turns -= 1;
+    for _ in 0..u64::MAX - 1 {
+        if !goes_on(p) {
+            break;
+        }
+        p = turn(rt, run, request, input, out, p)?;
     }
-    p
+    Ok(p)
 }
 
 // The lines of the memory, behind those that are not yet written.
-fn finish(
-    allocs: &[u64],
-    parents: &[u16],
-    protectors: &[u8],
-    words: &[u32],
-    codes: &[u8],
-    out: &mut [u8],
-    p: Progress,
-) -> Progress
-    requires well_formed { p.failed ≡ false → WellFormed (buffers allocs.now parents.now protectors.now words.now codes.now) }
-    requires at_in_bounds { p.failed ≡ false → p.advance.at + 0x28000 ≤ length out.old }
+fn finish(run: &RunState, out: &mut [u8], p: Progress) -> Progress
+    requires well_formed { WellFormed (memory_of run.now) }
+    requires room { p.advance.at + 0x28000 ≤ length out.old }
     ensures value { result ≡ with_text_to result.advance.at p }
-    ensures written { p.failed ≡ false → (m : Memory)
-        → Holds m (buffers allocs.now parents.now protectors.now words.now codes.now)
+    ensures written { (m : Memory) → tables.Holds m (memory_of run.now)
         → Written out.old p.advance.at (memory_lines 0 m) out.new result.advance.at }
 {
-    if p.failed {
-        return p;
-    }
-    let advance = p.advance;
     let end = report::allocations::memory_lines(
-        out, advance.at, allocs, parents, protectors, words, codes,
+        out,
+        p.advance.at,
+        run.allocs,
+        run.parents,
+        run.protectors,
+        run.words,
+        run.codes,
     );
-    let width = advance.width;
-    let last = Advance {
-        from: advance.from,
-        at: end,
-        index: advance.index,
-        refused: advance.refused,
-        width,
-    };
     Progress {
-        advance: last,
-        end: p.end,
-        ended: p.ended,
-        failed: p.failed,
+        advance: Advance {
+            at: end,
+            ..p.advance
+        },
+        ..p
     }
 }
 
 // Reads the run, and writes its text but for the end that stands in front of `out` then.
 fn judge_input(
     rt: &HostRuntime,
-    allocs: &mut [u64],
-    parents: &mut [u16],
-    protectors: &mut [u8],
-    words: &mut [u32],
-    codes: &mut [u8],
-    frames: &mut [u32],
-    request: &mut [u32],
-    input: &mut [u8],
-    out: &mut [u8],
-) -> Progress
-    requires frames_value { have_lengths (buffers allocs.old parents.old protectors.old words.old codes.old) frames.old ≡ true }
-    requires request_len { (length request.old ≡ 4100) × ((length input.old ≡ 65536) × (length out.old ≡ 0x38000)) }
-    ensures { Printed result.failed result out.new }
+    run: &mut RunState,
+    request: &mut [u32; 4100],
+    input: &mut [u8; 65536],
+    out: &mut [u8; 0x38000],
+) -> Result<Progress, Failed>
+    requires width { run.old.width ≡ Bits64 }
+    requires lengths { have_lengths (memory_of run.old) run.old.frames.now ≡ true }
+    ensures printed { IfOk result (λ r. IsPrinted r out.new) }
+    ensures same { SameBuffers run.old run.new }
 {
-    state::clear(allocs, parents, protectors, words, codes, frames);
-    let p = take_turns(
-        rt, allocs, parents, protectors, words, codes, frames, request, input, out,
-    );
-    finish(allocs, parents, protectors, words, codes, out, p)
+    run.clear();
+    let p = take_turns(rt, run, request, input, out)?;
+    Ok(finish(run, out, p))
 }
 
-// The end of the text. Tells whether all text is written.
-fn write_rest(rt: &HostRuntime, out: &[u8], p: Progress) -> bool
-    requires { p.failed ≡ false → p.advance.at ≤ length out.now }
-    ensures { p.failed ≡ true → result ≡ false }
+// The whole text.
+fn print_verdict(
+    rt: &HostRuntime,
+    run: &mut RunState,
+    request: &mut [u32; 4100],
+    input: &mut [u8; 65536],
+    out: &mut [u8; 0x38000],
+) -> Result<(), Failed>
+    requires width { run.old.width ≡ Bits64 }
+    requires lengths { have_lengths (memory_of run.old) run.old.frames.now ≡ true }
+    ensures same { SameBuffers run.old run.new }
 {
-    if p.failed {
-        return false;
-    }
-    let advance = p.advance;
-    let at = advance.at;
-    write_text(rt, &out[..at])
+    let p = judge_input(rt, run, request, input, out)?;
+    write_text(rt, &out[..p.advance.at])
 }
 
 fn main(rt: HostRuntime) -> ExitCode {
@@ -310,21 +234,17 @@ fn main(rt: HostRuntime) -> ExitCode {
     let mut request = [0u32; 4100];
     let mut input = [0u8; 65536];
     let mut out = [0u8; 0x38000];
-    let p = judge_input(
-        &rt,
-        &mut allocs,
-        &mut parents,
-        &mut protectors,
-        &mut words,
-        &mut codes,
-        &mut frames,
-        &mut request,
-        &mut input,
-        &mut out,
-    );
-    if write_rest(&rt, &out, p) {
-        ExitCode::SUCCESS
-    } else {
-        ExitCode::FAILURE
+    let mut run = RunState {
+        allocs: &mut allocs,
+        parents: &mut parents,
+        protectors: &mut protectors,
+        words: &mut words,
+        codes: &mut codes,
+        frames: &mut frames,
+        width: Width::Bits64,
+    };
+    match print_verdict(&rt, &mut run, &mut request, &mut input, &mut out) {
+        Ok(()) => ExitCode::SUCCESS,
+        Err(Failed) => ExitCode::FAILURE,
     }
 }

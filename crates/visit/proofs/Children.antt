@@ -2,7 +2,6 @@
 -- says how to go on: what is left at m is m, what is left at its first child, and what is left at its next sibling (`left_step`).
 use Prim.Native.Nat.{ℕ, zero, suc, ◌+◌, ◌≤◌, ◌<◌}
 use mathlib.Core.Path.{◌≡◌, refl, sym, ap, ap₂, subst, ◌∙◌}
-use mathlib.Core.Bool.{Bool, true, false}
 use mathlib.Core.List.{List, [], ◌∷◌, ◌++◌, append-nil}
 use native.Mathlib.Numerals.{add-one}
 use native.Mathlib.Nat.{le_refl}
@@ -16,12 +15,16 @@ use Rattle.definition.proofs.Booleans.{or-none}
 use Rattle.definition.proofs.Lists.{first-append}
 use Rattle.definition.proofs.Trees.{Parents, parent-earlier}
 use Rattle.definition.proofs.Order.{walk}
-use Rattle.visit.specs.declared.Answer.{Answer}
-use Rattle.visit.specs.declared.Answer.TheVariants.{Stays, Changes, Refused}
+use Rattle.std.specs.Prelude.{Ok, Err}
+use Rattle.refusal.specs.Number.{number}
+use Rattle.refusal.specs.declared.Refusal.{Refusal}
+use Rattle.refusal.proofs.Numbers.{number_positive}
+use Rattle.visit.specs.declared.Effect.{Effect}
+use Rattle.visit.specs.declared.Effect.TheVariants.{Stays, Changes}
 use Rattle.visit.specs.declared.Reach.{Reach}
 use Rattle.visit.specs.Plan.{child_from, next_sibling}
-use Rattle.visit.specs.Walk.{Told, ToldOf, unrefused, below, subtree, nodes_from, node_refusal, node_after, walk_refusal, walk_after}
-use Rattle.visit.proofs.Rows.{or-positive, true-not-false}
+use Rattle.visit.specs.Walk.{Told, ToldOf, together, below, subtree, nodes_from, node_refusal, node_after, walk_refusal, walk_after}
+use Rattle.visit.proofs.Rows.{or-positive, changes-not-stays}
 use Rattle.visit.proofs.Walks.{at-child, at-spared, at_other, at-end}
 
 -- ---- the search for a child, at node m
@@ -173,20 +176,18 @@ module _ (v : Reach) (ps lent : List ℕ) where
   rest m = left v.spared ps m
 
   -- ---- the check: it goes on at m, after changes or none, and tells of the nodes ns
-  abbrev pub Goes : List ℕ → List ℕ → ℕ → Bool → Type 0
-  Goes codes ns m changes = (refusal codes (at m) ≡ refusal codes ns) × (changes ≡ false → after (at m) codes ≡ after ns codes)
+  abbrev pub Goes : List ℕ → List ℕ → ℕ → Effect → Type 0
+  Goes codes ns m effect = (refusal codes (at m) ≡ refusal codes ns) × (effect ≡ Stays → after (at m) codes ≡ after ns codes)
 
   -- what a check told of some nodes, once it is noted
-  abbrev pub Noted : ℕ → List ℕ → List ℕ → Bool → Bool → Type 0
-  Noted refused before later changes changes' = (refused ≡ 0) × (changes' ≡ false → (changes ≡ false) × (before ≡ later))
+  abbrev pub Noted : ℕ → List ℕ → List ℕ → Effect → Effect → Type 0
+  Noted refused before later effect effect' = (refused ≡ 0) × (effect' ≡ Stays → (effect ≡ Stays) × (before ≡ later))
 
-  pub note-stays : (refused : ℕ) (before later : List ℕ) (answer : Answer) → Told refused before later answer → answer ≡ Stays → (changes changes' : Bool) → changes' ≡ changes → Noted refused before later changes changes'
-  note-stays refused before later answer t e changes changes' q =
-      let u = subst (Told refused before later) e t in (u.0, λ z. (sym q ∙ z, u.1))
-
-  pub note-changes : (refused : ℕ) (before later : List ℕ) (answer : Answer) → Told refused before later answer → answer ≡ Changes → (changes changes' : Bool) → changes' ≡ true → Noted refused before later changes changes'
-  note-changes refused before later answer t e changes changes' q =
-      (subst (Told refused before later) e t, λ z. absurd (true-not-false (sym q ∙ z)))
+  pub note : (refused : ℕ) (before later : List ℕ) (effect told : Effect) → Told refused before later (Ok told) → Noted refused before later effect (together effect told)
+  note refused before later Stays Stays t = (t.0, λ z. (refl, t.1))
+  note refused before later Stays Changes t = (t, λ z. absurd (changes-not-stays z))
+  note refused before later Changes Stays t = (t.0, λ z. absurd (changes-not-stays z))
+  note refused before later Changes Changes t = (t, λ z. absurd (changes-not-stays z))
 
   module _ (codes ns : List ℕ) (m child sibling : ℕ) (l : m < length ps) (f : m ≡ v.spared → ⊥)
       (c : child ≡ child_from v.spared m (m + 1) (drop (m + 1) ps)) (b : sibling ≡ next_sibling v.spared ps m) where
@@ -206,18 +207,17 @@ module _ (v : Reach) (ps lent : List ℕ) where
     unfolding first_refusal
     nothing-refused x q = ap (refusal codes) (left-none v.spared ps x q)
 
-    module _ (changes : Bool) (goes : Goes codes ns m changes) where
+    module _ (effect : Effect) (goes : Goes codes ns m effect) where
       -- the node is refused
-      pub refused-node : (n : ℕ) (answer : Answer) → Told (node_refusal v ps lent codes m) codes (node_after v ps lent m codes) answer → answer ≡ Refused n → ToldOf v ps lent codes ns (Refused n)
-      refused-node n answer t e =
-          let u = subst (Told (node_refusal v ps lent codes m) codes (node_after v ps lent m codes)) e t in
-          (sym (turn ∙ ap (λ (k : ℕ). k or (refusal codes (rest child) or refusal codes (rest sibling))) (sym u.0) ∙ or-positive n _ (omega (arith, u.1))) ∙ goes.0, u.1)
+      pub refused-node : (r : Refusal) → Told (node_refusal v ps lent codes m) codes (node_after v ps lent m codes) (Err r) → ToldOf v ps lent codes ns (Err r)
+      refused-node r t =
+          sym (turn ∙ ap (λ (k : ℕ). k or (refusal codes (rest child) or refusal codes (rest sibling))) (sym t) ∙ or-positive (number r) _ (number_positive r)) ∙ goes.0
 
-      module _ (changes' : Bool) (noted : Noted (node_refusal v ps lent codes m) codes (node_after v ps lent m codes) changes changes') where
+      module _ (effect' : Effect) (noted : Noted (node_refusal v ps lent codes m) codes (node_after v ps lent m codes) effect effect') where
         passed : (refusal codes (rest child) or refusal codes (rest sibling)) ≡ refusal codes ns
         passed = sym (turn ∙ ap (λ (k : ℕ). k or (refusal codes (rest child) or refusal codes (rest sibling))) noted.0) ∙ goes.0
 
-        stayed : changes' ≡ false → after (rest sibling) (after (rest child) codes) ≡ after ns codes
+        stayed : effect' ≡ Stays → after (rest sibling) (after (rest child) codes) ≡ after ns codes
         stayed z = ap (λ (cs : List ℕ). after (rest sibling) (after (rest child) cs)) (noted.1 z).1 ∙ sym change ∙ goes.1 (noted.1 z).0
 
         unchanged : (x : ℕ) (cs : List ℕ) → x ≡ 0 → after (rest x) cs ≡ cs
@@ -225,18 +225,18 @@ module _ (v : Reach) (ps lent : List ℕ) where
         unchanged x cs q = ap (λ (xs : List ℕ). after xs cs) (left-none v.spared ps x q)
 
         -- nothing is left
-        pub done-last : sibling ≡ 0 → child ≡ 0 → ToldOf v ps lent codes ns (unrefused changes')
-        done-last p q = told changes' (λ z. stayed z)
+        pub done-last : sibling ≡ 0 → child ≡ 0 → ToldOf v ps lent codes ns (Ok effect')
+        done-last p q = told effect' (λ z. stayed z)
           where
             none : refusal codes ns ≡ 0
             none = sym (ap₂ ◌or◌ (sym (nothing-refused child q)) (sym (nothing-refused sibling p)) ∙ passed)
 
-            told : (b : Bool) → (b ≡ false → after (rest sibling) (after (rest child) codes) ≡ after ns codes) → ToldOf v ps lent codes ns (unrefused b)
-            told true h = none
-            told false h = (none, sym (unchanged sibling (after (rest child) codes) p ∙ unchanged child codes q) ∙ h refl)
+            told : (e : Effect) → (e ≡ Stays → after (rest sibling) (after (rest child) codes) ≡ after ns codes) → ToldOf v ps lent codes ns (Ok e)
+            told Changes h = none
+            told Stays h = (none, sym (unchanged sibling (after (rest child) codes) p ∙ unchanged child codes q) ∙ h refl)
 
         -- its children are left
-        pub goes-child : sibling ≡ 0 → (child ≡ 0 → ⊥) → Goes codes ns child changes'
+        pub goes-child : sibling ≡ 0 → (child ≡ 0 → ⊥) → Goes codes ns child effect'
         goes-child p q =
             let e = nodes-at v.spared ps child (omega arith) in (
               ap (refusal codes) e ∙ sym (or-none (refusal codes (rest child))) ∙ ap (λ (k : ℕ). refusal codes (rest child) or k) (sym (nothing-refused sibling p)) ∙ passed,
@@ -244,7 +244,7 @@ module _ (v : Reach) (ps lent : List ℕ) where
             )
 
         -- it has none
-        pub goes-leaf : (sibling ≡ 0 → ⊥) → child ≡ 0 → Goes codes ns sibling changes'
+        pub goes-leaf : (sibling ≡ 0 → ⊥) → child ≡ 0 → Goes codes ns sibling effect'
         goes-leaf p q =
             let e = nodes-at v.spared ps sibling (omega arith) in (
               ap (refusal codes) e ∙ ap (λ (k : ℕ). k or refusal codes (rest sibling)) (sym (nothing-refused child q)) ∙ passed,
@@ -256,13 +256,12 @@ module _ (v : Reach) (ps lent : List ℕ) where
           below-same : at child ≡ rest child
           below-same = nodes-at v.spared ps child (omega arith)
 
-          pub refused-below : (n : ℕ) (answer : Answer) → ToldOf v ps lent codes (at child) answer → answer ≡ Refused n → ToldOf v ps lent codes ns (Refused n)
-          refused-below n answer t e =
-              let u = subst (ToldOf v ps lent codes (at child)) e t in
-              (sym (or-positive n (refusal codes (rest sibling)) (omega (arith, u.1))) ∙ ap (λ (k : ℕ). k or refusal codes (rest sibling)) (u.0 ∙ ap (refusal codes) below-same) ∙ passed, u.1)
+          pub refused-below : (r : Refusal) → ToldOf v ps lent codes (at child) (Err r) → ToldOf v ps lent codes ns (Err r)
+          refused-below r t =
+              sym (or-positive (number r) (refusal codes (rest sibling)) (number_positive r)) ∙ ap (λ (k : ℕ). k or refusal codes (rest sibling)) (t ∙ ap (refusal codes) below-same) ∙ passed
 
-          pub goes-sibling : (changes'' : Bool) → Noted (refusal codes (at child)) codes (after (at child) codes) changes' changes'' → Goes codes ns sibling changes''
-          goes-sibling changes'' noted'' =
+          pub goes-sibling : (effect'' : Effect) → Noted (refusal codes (at child)) codes (after (at child) codes) effect' effect'' → Goes codes ns sibling effect''
+          goes-sibling effect'' noted'' =
               let e = nodes-at v.spared ps sibling (omega arith) in (
                 ap (refusal codes) e ∙ ap (λ (k : ℕ). k or refusal codes (rest sibling)) (sym noted''.0 ∙ ap (refusal codes) below-same) ∙ passed,
                 λ z. ap (λ (xs : List ℕ). after xs codes) e ∙ ap (after (rest sibling)) ((noted''.1 z).1 ∙ ap (λ (xs : List ℕ). after xs codes) below-same) ∙ stayed (noted''.1 z).0,

@@ -5,7 +5,7 @@ use mathlib.Core.List.{List, [], ◌∷◌, ◌++◌, map, append-nil}
 use native.Mathlib.Numerals.{add-one}
 use native.Mathlib.Omega.{arith}
 use lib.ListN.{length, get_or, take, drop, set, length-append, length-drop, length-map, drop_of_length-le, get_or-append}
-use lib.Seq.{take_at, take_all, length-take-le}
+use lib.Seq.{take_at, take_all}
 use Rattle.definition.proofs.Lists.{loop-get, loop-set}
 
 -- ---- f of each element of row, written into out
@@ -24,10 +24,6 @@ module _ (f : ℕ → ℕ) (row out : List ℕ) (fits : length row ≤ length ou
   -- the elements before i are written
   abbrev pub written_to : ℕ → List ℕ
   written_to i = take i written ++ drop i out
-
-  pub written-to-length : (i : ℕ) → i ≤ length row → length (written_to i) ≡ length out
-  written-to-length i l =
-      length-append (take i written) (drop i out) ∙ rw (length-take-le i written (omega (arith, written-length)), length-drop i out) (omega arith)
 
   pub write-turn : (i : ℕ) → i < length row → (now after : List ℕ) → now ≡ written_to i → after ≡ set now i (f (get_or row i 0)) → after ≡ written_to (i + 1)
   write-turn i l now after e s =
@@ -48,10 +44,6 @@ module _ (row target : List ℕ) (same : length target ≡ length row) where
   abbrev pub changed_to : ℕ → List ℕ
   changed_to i = take i target ++ drop i row
 
-  pub changed-to-length : (i : ℕ) → i ≤ length row → length (changed_to i) ≡ length row
-  changed-to-length i l =
-      length-append (take i target) (drop i row) ∙ rw (length-take-le i target (omega (arith, same)), length-drop i row) (omega arith)
-
   pub not_yet : (i : ℕ) → i < length row → (now : List ℕ) → now ≡ changed_to i → get_or now i 0 ≡ get_or row i 0
   not_yet i l now e = ap (λ (m : List ℕ). get_or m i 0) e ∙ loop-get target row 0 i same l
 
@@ -68,10 +60,6 @@ module _ (f : ℕ → ℕ) (row : List ℕ) where
   -- the elements before i are changed
   abbrev pub mapped_to : ℕ → List ℕ
   mapped_to i = take i (map f row) ++ drop i row
-
-  pub mapped-to-length : (i : ℕ) → i ≤ length row → length (mapped_to i) ≡ length row
-  mapped-to-length i l =
-      length-append (take i (map f row)) (drop i row) ∙ rw (length-take-le i (map f row) (omega (arith, length-map row f)), length-drop i row) (omega arith)
 
   pub map-turn : (i : ℕ) → i < length row → (now after : List ℕ) → now ≡ mapped_to i → after ≡ set now i (f (get_or now i 0)) → after ≡ mapped_to (i + 1)
   map-turn i l now after e s =

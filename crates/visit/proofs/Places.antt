@@ -7,10 +7,10 @@ use lib.ListN.{length, take, drop, length-drop, length-map, take-append-drop}
 use lib.Seq.{length-take-le, take_at, take-take, take-add, take-append-le, drop-append-le, drop-drop}
 use Rattle.definition.specs.Tree.{relation}
 use Rattle.definition.proofs.Parts.{row_fits}
-use Rattle.visit.specs.declared.Answer.{Answer}
-use Rattle.visit.specs.declared.Answer.TheVariants.{Stays, Changes, Refused}
+use Rattle.std.specs.Prelude.{Ok, Err}
+use Rattle.visit.specs.declared.Effect.TheVariants.{Stays, Changes}
 use Rattle.visit.specs.declared.Reach.{Reach}
-use Rattle.visit.specs.Walk.{SameVisit, Ready, Told, ToldRow, row_at, with_row_at, node_refusal, node_after}
+use Rattle.visit.specs.Walk.{SameVisit, Ready, Answer, Told, ToldRow, row_at, with_row_at, node_refusal, node_after}
 
 -- row n ends within the table
 pub row_in : (v : Reach) (ps codes : List ℕ) (n : ℕ) → Ready v ps codes → n < length ps → n * v.width + v.width ≤ length codes
@@ -71,9 +71,9 @@ same_row w n codes = ap (λ (l : List ℕ). take (n * w) codes ++ l) (take-appen
 pub told-node : (v : Reach) (ps lent codes : List ℕ) (n : ℕ) (answer : Answer) → ToldRow v lent (relation ps n v.node) (row_at v.width n codes) answer
     → Told (node_refusal v ps lent codes n) codes (node_after v ps lent n codes) answer
 unfolding node_refusal node_after
-told-node v ps lent codes n Stays t = (t.0, sym (same_row v.width n codes) ∙ ap (λ (row : List ℕ). with_row_at v.width n row codes) t.1)
-told-node v ps lent codes n Changes t = t
-told-node v ps lent codes n (Refused m) t = t
+told-node v ps lent codes n (Ok Stays) t = (t.0, sym (same_row v.width n codes) ∙ ap (λ (row : List ℕ). with_row_at v.width n row codes) t.1)
+told-node v ps lent codes n (Ok Changes) t = t
+told-node v ps lent codes n (Err refusal) t = t
 
 pub row-length : (w n : ℕ) (codes : List ℕ) → n * w + w ≤ length codes → length (row_at w n codes) ≡ w
 row-length w n codes fits = length-take-le w (drop (n * w) codes) (omega (arith, length-drop (n * w) codes))

@@ -1,6 +1,6 @@
 -- How a plan is made, from the last node down: each node is linked in front of the children of its parent, and noted to be on the path if it is on the path.
 use Rattle.std.specs.Prelude.{if◌then◌else◌}
-use Prim.Native.Nat.{ℕ, ◌+◌, ◌*◌, ◌≤◌, ◌<◌}
+use Prim.Native.Nat.{ℕ, ◌+◌, ◌-◌, ◌*◌, ◌≤◌, ◌<◌}
 use mathlib.Core.Path.{◌≡◌, refl, sym, ap, subst, ◌∙◌}
 use mathlib.Core.Bool.{Bool, true, false, not, ◌||◌, or-true, or-false}
 use mathlib.Core.List.{List, ◌++◌}
@@ -13,7 +13,7 @@ use lib.ListN.{length, get_or, take, drop, set, replicate, get_or-replicate, len
 use lib.Seq.{get_or-set_same, get_or-set_other, get_or-take, take_at}
 use Rattle.definition.specs.Permission.NodeRelation.{Local, Foreign}
 use Rattle.definition.specs.Tree.{relation, is_above}
-use Rattle.definition.proofs.Trees.{Parents, above-itself, above_parent, not-above-smaller}
+use Rattle.definition.proofs.Trees.{Parents, parent-earlier, above-itself, above_parent, not-above-smaller}
 use Rattle.visit.specs.declared.Reach.{Reach}
 use Rattle.visit.specs.Plan.{child_from, linked_in, Linked, TellsPath, Planned, Zeros, Roomy}
 use Rattle.visit.proofs.Children.{search-here, search-spared, search-other, search-end, search-from, sibling-root, sibling-at}
@@ -183,9 +183,6 @@ module _ (ps : List ℕ) (tree : Parents ps) (accessed : ℕ) where
               ∙ ap (λ (x : ℕ). not (eqb x 0)) (sym (stepped-other k q))
         ]))
 
-pub roomy-still : {ps plan after : List ℕ} → length after ≡ length plan → Roomy ps plan → Roomy ps after
-roomy-still e room = record { size = e ∙ room.size; few = room.few }
-
 -- ---- the part of a scratch of zeros that a plan takes
 pub zeros : (n : ℕ) → Zeros (replicate n 0)
 zeros n i = elim (dec_lt i n) [
@@ -200,13 +197,25 @@ module _ (scratch : List ℕ) (size : ℕ) where
     | no l ↦ get_or-eq_default (take size scratch) 0 {n = i} (omega (arith, length-take size scratch, min-le_left size (length scratch)))
   ]
 
--- lent again, once it is made
-pub lent-long : (plan rest : List ℕ) (size : ℕ) → length plan ≡ size → size ≡ length (take size (plan ++ rest))
-lent-long plan rest size e = sym (ap length (take_at plan rest size e) ∙ e)
-
+-- the plan as the front of the scratch
 pub planned-lent : (v : Reach) (ps plan rest : List ℕ) (size : ℕ) → length plan ≡ size → Planned v ps plan → Planned v ps (take size (plan ++ rest))
 planned-lent v ps plan rest size e made = subst (λ (p : List ℕ). Planned v ps p) (sym (take_at plan rest size e)) made
 
 -- a node's numbers are in the plan
 pub in-plan : {ps plan : List ℕ} → Roomy ps plan → (n : ℕ) → n < length ps → (4 * n + 2 < length plan) × (length plan ≤ 4096)
 in-plan room n l = (omega (arith, room.size), omega (arith, room.size, room.few))
+
+-- ---- a turn of the making: node m - 1 is linked, in front of the nodes from m on
+module _ (s accessed : ℕ) (ps : List ℕ) (tree : Parents ps) (plan linked-plan : List ℕ) (room : Roomy ps plan) (m parent : ℕ) (z : 1 < m) (l : m ≤ length ps)
+    (e : parent ≡ get_or ps (m - 1) 0) (w : linked-plan ≡ linked_in s parent (m - 1) plan) where
+  pub turn-linked : Linking s ps plan m → Linking s ps linked-plan (m - 1)
+  turn-linked links =
+      let back : m ≡ m - 1 + 1 = omega arith in
+      subst (λ (q : List ℕ). Linking s ps q (m - 1)) (sym w)
+      (linked-at s ps plan (m - 1) room (omega arith) (omega arith) parent e (omega (arith, parent-earlier ps tree (m - 1) (omega arith), e)) (subst (Linking s ps plan) back links))
+
+  pub turn-traced : (n : ℕ) → Traced ps accessed plan n → Traced ps accessed linked-plan n
+  turn-traced n traced = subst (λ (q : List ℕ). Traced ps accessed q n) (sym w) (traced-linked ps tree accessed s parent (m - 1) plan n traced)
+
+  pub turn-length : length linked-plan ≡ length plan
+  turn-length = ap length w ∙ linked-length s parent (m - 1) plan

@@ -7,25 +7,29 @@ use mathlib.Core.List.{List, [], ◌∷◌, ◌++◌, map}
 use native.Mathlib.Numerals.{add-one}
 use native.Mathlib.Nat.{min-le_left}
 use native.Mathlib.Omega.{arith}
-use lib.ListN.{length, get_or, take, drop, set, replicate, get_or-replicate, length-replicate, length-map, length-take, length-drop, take-append-drop, get_or-map, drop_of_length-le}
-use lib.Seq.{get_or-take, drop-cons, length-take-le, set-get_or}
+use lib.ListN.{length, get_or, take, drop, replicate, get_or-replicate, length-replicate, length-map, length-take, length-drop, take-append-drop, get_or-map, drop_of_length-le}
+use lib.Seq.{get_or-take, drop-cons, length-take-le}
+use Rattle.std.specs.Prelude.{Some, None, Result, Ok, Err, is_some}
+use Rattle.std.specs.Prelude as std
+use Rattle.std.specs.List.{fold, list_all}
 use Rattle.definition.specs.Notation.{◌or◌}
+use Rattle.refusal.specs.Number.{number}
+use Rattle.refusal.specs.declared.Refusal.{Refusal}
+use Rattle.refusal.proofs.Numbers.{number_positive}
 use Rattle.definition.specs.Permission.{AccessKind, NodeRelation}
 use Rattle.definition.specs.Permission.AccessKind.{Read, Write}
 use Rattle.definition.specs.Permission.Permission.{Unprot}
 use Rattle.definition.specs.Permission.PermissionUnprot.{Cell}
 use Rattle.permission.proofs.Codes.{init-access-code, stays-told, becomes-told, refused-told, refused-next, refused-some}
-use Rattle.permission.specs.Codes.{access_kind, transition_code, refusal_code, next_code, init_access_code}
+use Rattle.permission.specs.Codes.{Outcome, access_kind, transition_code, refusal_code, next_code, init_access_code}
 use Rattle.permission.specs.declared.AccessKind as declared
-use Rattle.permission.specs.declared.Outcome.{Outcome}
-use Rattle.permission.specs.declared.Outcome.TheVariants.{Stays, Becomes, Refused}
 use Rattle.visit.specs.declared.Accesses.{Accesses}
-use Rattle.visit.specs.declared.Answer.{Answer}
-use Rattle.visit.specs.declared.Answer.TheVariants as answer
+use Rattle.visit.specs.declared.Effect.{Effect}
+use Rattle.visit.specs.declared.Effect.TheVariants.{Stays, Changes}
 use Rattle.visit.specs.declared.Accesses.TheVariants as accesses
 use Rattle.visit.specs.declared.Accesses.TheVariants.{Each, AtInit}
 use Rattle.visit.specs.declared.Reach.{Reach}
-use Rattle.visit.specs.Walk.{Told, ToldBytes, ToldRow, unrefused, told_access, access_at, accesses_at, codes_refusal, codes_after, codes_stay, bytes_stay, short_stays, outcome_at, is_stays}
+use Rattle.visit.specs.Walk.{Answer, Told, ToldBytes, ToldRow, told_access, access_at, accesses_at, codes_refusal, codes_after, codes_stay, bytes_stay, short_stays, outcome_at, is_stays}
 use Rattle.visit.proofs.Steps.{no-refusal, no_change}
 
 abbrev is_true : Bool → Type 0
@@ -39,25 +43,32 @@ is_none (some a) = ⊥
 pub true-not-false : true ≡ false → ⊥
 true-not-false e = subst is_true e tt
 
+abbrev is_effect_stays : Effect → Type 0
+is_effect_stays Stays = Unit {0}
+is_effect_stays Changes = ⊥
+
+pub changes-not-stays : Changes ≡ Stays → ⊥
+changes-not-stays e = subst is_effect_stays (sym e) tt
+
 pub or-positive : (n y : ℕ) → 0 < n → (n or y) ≡ n
 or-positive zero y h = absurd (omega arith)
 or-positive (suc n) y h = refl
 
 -- ---- one code
-is-stays : (o : Outcome) → is_stays o ≡ true → o ≡ Stays
-is-stays Stays e = refl
-is-stays (Becomes d) e = absurd (true-not-false (sym e))
-is-stays (Refused n) e = absurd (true-not-false (sym e))
+is-stays : (o : Outcome) → is_stays o ≡ true → o ≡ Ok None
+is-stays (Ok None) e = refl
+is-stays (Ok (Some d)) e = absurd (true-not-false (sym e))
+is-stays (Err n) e = absurd (true-not-false (sym e))
 
-pub at-stays : (x : Option AccessKind) (r : NodeRelation) (c : ℕ) → outcome_at x r c ≡ Stays → (refusal_code x r c ≡ 0) × (next_code x r c ≡ c)
+pub at-stays : (x : Option AccessKind) (r : NodeRelation) (c : ℕ) → outcome_at x r c ≡ Ok None → (refusal_code x r c ≡ 0) × (next_code x r c ≡ c)
 at-stays none r c e = (no-refusal r c, no_change r c)
 at-stays (some a) r c e = stays-told a r c e
 
-pub at-becomes : (x : Option AccessKind) (r : NodeRelation) (c d : ℕ) → outcome_at x r c ≡ Becomes d → (refusal_code x r c ≡ 0) × (next_code x r c ≡ d)
+pub at-becomes : (x : Option AccessKind) (r : NodeRelation) (c d : ℕ) → outcome_at x r c ≡ Ok (Some d) → (refusal_code x r c ≡ 0) × (next_code x r c ≡ d)
 at-becomes none r c d e = absurd (true-not-false (ap is_stays e))
 at-becomes (some a) r c d e = becomes-told a r c d e
 
-pub at-refused : (x : Option AccessKind) (r : NodeRelation) (c n : ℕ) → outcome_at x r c ≡ Refused n → (refusal_code x r c ≡ n) × (next_code x r c ≡ c) × (n ≡ 0 → ⊥)
+pub at-refused : (x : Option AccessKind) (r : NodeRelation) (c n : ℕ) → outcome_at x r c ≡ Err n → (refusal_code x r c ≡ n) × (next_code x r c ≡ c) × (n ≡ 0 → ⊥)
 at-refused none r c n e = absurd (true-not-false (ap is_stays e))
 at-refused (some a) r c n e = (refused-told a r c n e, refused-next a r c n e, refused-some a r c n e)
 
@@ -82,6 +93,10 @@ unfolding told_access init_access_code
 planned-at (Each a) n lent k l = get_or-replicate n k (some (access_kind a)) none l
 planned-at accesses.Told n lent k l = get_or-map told_access (take n lent) k 0 ∙ ap told_access (get_or-take n lent k 0 l)
 planned-at AtInit n lent k l = get_or-map init_access_code (take n lent) k 0 ∙ ap init_access_code (get_or-take n lent k 0 l)
+
+pub planned-outcome : (what : Accesses) (n : ℕ) (lent : List ℕ) (r : NodeRelation) (k c : ℕ) → k < n → (x : Option AccessKind) (o : Outcome) → x ≡ access_at what lent k → o ≡ outcome_at x r c
+    → o ≡ outcome_at (get_or (accesses_at what n lent) k none) r c
+planned-outcome what n lent r k c l x o found e = e ∙ ap (λ (y : Option AccessKind). outcome_at y r c) (found ∙ sym (planned-at what n lent k l))
 
 pub planned-length : (what : Accesses) (n : ℕ) (lent : List ℕ) → length (accesses_at what n lent) ≤ n
 planned-length (Each a) n lent = omega (arith, length-replicate n (some (access_kind a)))
@@ -168,20 +183,20 @@ module _ (r : NodeRelation) where
   -- ---- a check, byte by byte
   module _ (xs : List (Option AccessKind)) (cs : List ℕ) where
     -- it is at the k-th
-    abbrev pub BytesAt : ℕ → Bool → Type 0
-    BytesAt k changes =
-        (codes_refusal r (drop k xs) (drop k cs) ≡ codes_refusal r xs cs) × (changes ≡ false → codes_after r (drop k xs) (drop k cs) ≡ drop k cs → codes_after r xs cs ≡ cs)
+    abbrev pub BytesAt : ℕ → Effect → Type 0
+    BytesAt k effect =
+        (codes_refusal r (drop k xs) (drop k cs) ≡ codes_refusal r xs cs) × (effect ≡ Stays → codes_after r (drop k xs) (drop k cs) ≡ drop k cs → codes_after r xs cs ≡ cs)
 
     abbrev pub Bytes : Answer → Type 0
     Bytes = Told (codes_refusal r xs cs) cs (codes_after r xs cs)
 
-    pub bytes-start : BytesAt 0 false
+    pub bytes-start : BytesAt 0 Stays
     bytes-start = (refl, λ z h. h)
 
-    pub bytes-done : (k : ℕ) (changes : Bool) → length cs ≤ k → BytesAt k changes → Bytes (unrefused changes)
+    pub bytes-done : (k : ℕ) (effect : Effect) → length cs ≤ k → BytesAt k effect → Bytes (Ok effect)
     unfolding codes_refusal codes_after
-    bytes-done k true l told = sym told.0 ∙ ap (codes_refusal r (drop k xs)) (drop_of_length-le cs l)
-    bytes-done k false l told = (
+    bytes-done k Changes l told = sym told.0 ∙ ap (codes_refusal r (drop k xs)) (drop_of_length-le cs l)
+    bytes-done k Stays l told = (
       sym told.0 ∙ ap (codes_refusal r (drop k xs)) (drop_of_length-le cs l),
       sym (told.1 refl (ap (codes_after r (drop k xs)) (drop_of_length-le cs l) ∙ sym (drop_of_length-le cs {i = k} l))),
     )
@@ -203,22 +218,24 @@ module _ (r : NodeRelation) where
       after-here : codes_after r (drop k xs) (drop k cs) ≡ next_code x r c ∷ codes_after r (drop (k + 1) xs) (drop (k + 1) cs)
       after-here = ap (codes_after r (drop k xs)) here ∙ rw (add-one k) (after_first xs k c (drop (suc k) cs))
 
-      module _ (changes : Bool) (told : BytesAt k changes) where
+      module _ (effect : Effect) (told : BytesAt k effect) where
         passed : refusal_code x r c ≡ 0 → codes_refusal r (drop (k + 1) xs) (drop (k + 1) cs) ≡ codes_refusal r xs cs
         passed z = sym (refusal-here ∙ ap (λ (n : ℕ). n or codes_refusal r (drop (k + 1) xs) (drop (k + 1) cs)) z) ∙ told.0
 
-        pub byte-stays : (changes' : Bool) → o ≡ Stays → changes' ≡ changes → BytesAt (k + 1) changes'
-        byte-stays changes' e q =
+        pub byte-stays : (next : std.Option ℕ) (effect' : Effect) → o ≡ Ok next → is_some next ≡ false → effect' ≡ effect → BytesAt (k + 1) effect'
+        byte-stays (Some d) effect' e h q = absurd (true-not-false h)
+        byte-stays None effect' e h q =
             let s = at-stays x r c (sym t ∙ e) in
             (passed s.0, λ z h. told.1 (sym q ∙ z) (after-here ∙ ap₂ (λ (d : ℕ) (ds : List ℕ). d ∷ ds) s.1 h ∙ sym here))
 
-        pub byte-becomes : (d : ℕ) (changes' : Bool) → o ≡ Becomes d → changes' ≡ true → BytesAt (k + 1) changes'
-        byte-becomes d changes' e q = (passed (at-becomes x r c d (sym t ∙ e)).0, λ z h. absurd (true-not-false (sym q ∙ z)))
+        pub byte-becomes : (next : std.Option ℕ) (effect' : Effect) → o ≡ Ok next → is_some next ≡ true → effect' ≡ Changes → BytesAt (k + 1) effect'
+        byte-becomes None effect' e h q = absurd (true-not-false (sym h))
+        byte-becomes (Some d) effect' e h q = (passed (at-becomes x r c d (sym t ∙ e)).0, λ z h. absurd (changes-not-stays (sym q ∙ z)))
 
-        pub byte-refused : (n : ℕ) → o ≡ Refused n → Bytes (answer.Refused n)
-        byte-refused n e =
-            let f = at-refused x r c n (sym t ∙ e) in
-            (sym (refusal-here ∙ ap (λ (m : ℕ). m or codes_refusal r (drop (k + 1) xs) (drop (k + 1) cs)) f.0 ∙ or-positive n _ (omega (arith, f.2))) ∙ told.0, f.2)
+        pub byte-refused : (refusal : Refusal) → o ≡ Err (number refusal) → Bytes (Err refusal)
+        byte-refused refusal e =
+            let f = at-refused x r c (number refusal) (sym t ∙ e) in
+            sym (refusal-here ∙ ap (λ (m : ℕ). m or codes_refusal r (drop (k + 1) xs) (drop (k + 1) cs)) f.0 ∙ or-positive (number refusal) _ (number_positive refusal)) ∙ told.0
 
 -- ---- whether every code stays
 both_so : (a b : Bool) → (a && b) ≡ true → (a ≡ true) × (b ≡ true)
@@ -241,7 +258,7 @@ module _ (r : NodeRelation) where
   stay-first (x ∷ xs) (suc k) c cs = stay-first xs k c cs
 
   -- then nothing is refused, and nothing changes
-  pub stay-told : (xs : List (Option AccessKind)) (cs : List ℕ) → codes_stay r xs cs ≡ true → Bytes r xs cs answer.Stays
+  pub stay-told : (xs : List (Option AccessKind)) (cs : List ℕ) → codes_stay r xs cs ≡ true → Bytes r xs cs (Ok Stays)
   unfolding codes_stay codes_refusal codes_after
   stay-told xs [] e = (refl, refl)
   stay-told [] (c ∷ cs) e = (refl, refl)
@@ -277,20 +294,34 @@ short-stay accesses.Told lent r cs e = absurd (true-not-false (sym e))
 short-stay AtInit lent r cs e = absurd (true-not-false (sym e))
 
 -- under one access
-pub each-outcome : (a : declared.AccessKind) (r : NodeRelation) (cs : List ℕ) (k : ℕ) → k < length cs
-    → transition_code (access_kind a) r (get_or cs k 0) ≡ outcome_at (get_or (accesses_at (Each a) (length cs) []) k none) r (get_or cs k 0)
-each-outcome a r cs k l = sym (ap (λ (x : Option AccessKind). outcome_at x r (get_or cs k 0)) (planned-at (Each a) (length cs) [] k l))
+module _ (a : declared.AccessKind) (r : NodeRelation) where
+  abbrev left : ℕ → ℕ
+  left c = next_code (some (access_kind a)) r c
 
--- ---- a turn of the change, at the k-th code
-module _ (x : Option AccessKind) (r : NodeRelation) (now after : List ℕ) (k : ℕ) (o : Outcome) (t : o ≡ outcome_at x r (get_or now k 0)) where
-  pub turn-stays : o ≡ Stays → after ≡ now → after ≡ set now k (next_code x r (get_or now k 0))
-  turn-stays e s = s ∙ sym (ap (set now k) (at-stays x r (get_or now k 0) (sym t ∙ e)).1 ∙ set-get_or now k 0)
+  pub each_after : (cs : List ℕ) → map left cs ≡ codes_after r (accesses_at (Each a) (length cs) []) cs
+  unfolding codes_after
+  each_after [] = refl
+  each_after (c ∷ cs) = ap (λ (ds : List ℕ). left c ∷ ds) (each_after cs)
 
-  pub turn-becomes : (d : ℕ) → o ≡ Becomes d → after ≡ set now k d → after ≡ set now k (next_code x r (get_or now k 0))
-  turn-becomes d e s = s ∙ ap (set now k) (sym (at-becomes x r (get_or now k 0) d (sym t ∙ e)).1)
+  pub each-outcome : (cs : List ℕ) (k : ℕ) → k < length cs
+      → transition_code (access_kind a) r (get_or cs k 0) ≡ outcome_at (get_or (accesses_at (Each a) (length cs) []) k none) r (get_or cs k 0)
+  each-outcome cs k l = sym (ap (λ (x : Option AccessKind). outcome_at x r (get_or cs k 0)) (planned-at (Each a) (length cs) [] k l))
 
-  pub turn-refused : (n : ℕ) → o ≡ Refused n → after ≡ now → after ≡ set now k (next_code x r (get_or now k 0))
-  turn-refused n e s = s ∙ sym (ap (set now k) (at-refused x r (get_or now k 0) n (sym t ∙ e)).1 ∙ set-get_or now k 0)
+  abbrev stays : ℕ → Bool
+  stays c = is_stays (transition_code (access_kind a) r c)
+
+  pub each_stay : (cs : List ℕ) → list_all stays cs ≡ bytes_stay (Each a) [] r cs
+  unfolding codes_stay
+  each_stay [] = refl
+  each_stay (c ∷ cs) = ap (λ (b : Bool). stays c && b) (each_stay cs)
+
+  fold-stays : (all : Bool) (cs : List ℕ) → fold (λ all c. all && stays c) all cs ≡ (all && bytes_stay (Each a) [] r cs)
+  unfolding codes_stay
+  fold-stays all [] = sym (and-true all)
+  fold-stays all (c ∷ cs) = fold-stays (all && stays c) cs ∙ and_assoc all (stays c) _
+
+  pub each_folded : (cs : List ℕ) → fold (λ all c. all && stays c) true cs ≡ bytes_stay (Each a) [] r cs
+  each_folded cs = fold-stays true cs
 
 -- ---- the visited bytes are a part of the row
 module _ (v : Reach) (lent : List ℕ) (r : NodeRelation) (row : List ℕ) (inside : v.from + v.len ≤ length row) where
@@ -318,11 +349,11 @@ module _ (v : Reach) (lent : List ℕ) (r : NodeRelation) (row : List ℕ) (insi
       ∙ ap (λ (ys : List (Option AccessKind)). codes_after r ys visited ++ drop v.len bytes) (sym lent_same)
 
   pub told-row : (given : Answer) → ToldBytes v.what lent r visited given → ToldRow v lent r row given
-  told-row answer.Stays t = (
+  told-row (Ok Stays) t = (
     sym visited-refusal ∙ t.0,
     sym
         (ap (λ (ds : List ℕ). take v.from row ++ ds) (visited-after ∙ ap (λ (ds : List ℕ). ds ++ drop v.len bytes) (sym t.1) ∙ take-append-drop v.len bytes)
         ∙ take-append-drop v.from row),
   )
-  told-row answer.Changes t = sym visited-refusal ∙ t
-  told-row (answer.Refused n) t = (t.0 ∙ visited-refusal, t.1)
+  told-row (Ok Changes) t = sym visited-refusal ∙ t
+  told-row (Err refusal) t = t ∙ visited-refusal

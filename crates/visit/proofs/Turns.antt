@@ -1,23 +1,23 @@
 -- One turn of a pass, at node m, by the numbers of the plan: the node, and then its first child or its next sibling.
 use Prim.Native.Nat.{ℕ, ◌+◌, ◌-◌, ◌*◌, ◌≤◌, ◌<◌}
 use mathlib.Core.Path.{◌≡◌, refl, sym, ap, subst, ◌∙◌}
-use mathlib.Core.Bool.{Bool, true}
-use mathlib.Core.List.{List}
+use mathlib.Core.List.{List, ◌++◌}
 use native.Mathlib.Nat.{le_refl}
 use native.Mathlib.Omega.{arith}
 use lib.ListN.{length, get_or, take, drop}
 use lib.Seq.{take-length}
 use Rattle.definition.specs.Permission.{NodeRelation}
 use Rattle.definition.specs.Tree.{relation}
-use Rattle.visit.specs.declared.Answer.{Answer}
-use Rattle.visit.specs.declared.Answer.TheVariants.{Stays, Changes, Refused}
+use Rattle.std.specs.Prelude.{Ok, Err}
+use Rattle.refusal.specs.declared.Refusal.{Refusal}
+use Rattle.visit.specs.declared.Effect.{Effect}
 use Rattle.visit.specs.declared.Reach.{Reach}
-use Rattle.visit.specs.Plan.{child_from, next_sibling, relation_in, VisitFrom}
-use Rattle.visit.specs.Walk.{Told, ToldRow, ToldOf, unrefused, nodes_from, node_refusal, node_after, walk_refusal, walk_after, row_at, with_row_at, row_after}
+use Rattle.visit.specs.Plan.{child_from, next_sibling, relation_in, Planned, VisitFrom}
+use Rattle.visit.specs.Walk.{Answer, Ready, Told, ToldRow, ToldOf, together, nodes_from, node_refusal, node_after, walk_after, row_at, with_row_at, row_after}
 use Rattle.visit.proofs.Places.{row_in, ready-again, told-node}
-use Rattle.visit.proofs.Plans.{in-plan}
+use Rattle.visit.proofs.Plans.{in-plan, planned-lent}
 use Rattle.visit.proofs.Children as children
-use Rattle.visit.proofs.Children.{Goes, Noted, note-stays, note-changes, child-later, sibling-later}
+use Rattle.visit.proofs.Children.{Goes, Noted, note, child-later, sibling-later}
 
 -- the whole plan, as the part that is handed on, is as long
 pub as_long : (plan : List ℕ) → length plan ≡ length (take (length plan) plan)
@@ -28,6 +28,15 @@ pub record At (v : Reach) (ps : List ℕ) (first m : ℕ) : Type 0 where
   pub inside : m < length ps
   pub visited : m ≡ v.spared → ⊥
   pub later : first ≤ m
+
+-- a visit of the whole tree, from the root on, with a plan that is the front of an array
+pub from_root : {v : Reach} {ps plan codes : List ℕ} (rest : List ℕ) → Planned v ps plan → Ready v ps codes × (0 < v.spared) → VisitFrom v ps (take (4 * length ps) (plan ++ rest)) codes 0
+from_root {v} {ps} {plan} rest p r = record {
+  planned = planned-lent v ps plan rest (4 * length ps) p.room.size p;
+  ready = r.0;
+  inside = omega (arith, r.0.node);
+  visited = λ e. absurd (omega (arith, r.1, e));
+}
 
 pub at_first : {v : Reach} {ps plan codes : List ℕ} {first : ℕ} → VisitFrom v ps plan codes first → At v ps first first
 at_first {first = first} p = record { inside = p.inside; visited = p.visited; later = le_refl first }
@@ -67,52 +76,46 @@ module _ {v : Reach} {ps plan codes : List ℕ} {first m : ℕ} (p : VisitFrom v
   relation-here r e = e ∙ p.planned.path m at.inside
 
   -- ---- the check
-  module _ (lent : List ℕ) (changes : Bool) (goes : Goes v ps lent codes (nodes_from v.spared ps first) m changes)
-      (r : NodeRelation) (e : r ≡ relation_in plan m) (answer : Answer) (t : ToldRow v lent r (row_at v.width m codes) answer) where
+  module _ (lent : List ℕ) (effect : Effect) (goes : Goes v ps lent codes (nodes_from v.spared ps first) m effect)
+      (r : NodeRelation) (e : r ≡ relation_in plan m) where
     abbrev whole : List ℕ
     whole = nodes_from v.spared ps first
 
-    node : Told (node_refusal v ps lent codes m) codes (node_after v ps lent m codes) answer
-    node =
+    node : (answer : Answer) → ToldRow v lent r (row_at v.width m codes) answer → Told (node_refusal v ps lent codes m) codes (node_after v ps lent m codes) answer
+    node answer t =
         told-node v ps lent codes m answer (subst (λ (q : NodeRelation). ToldRow v lent q (row_at v.width m codes) answer) (relation-here r e) t)
 
-    pub refused-here : (n : ℕ) → answer ≡ Refused n → ToldOf v ps lent codes whole (Refused n)
-    refused-here n q = children.refused-node v ps lent codes whole m _ _ at.inside at.visited refl refl changes goes n answer node q
+    pub refused-here : (refusal : Refusal) → ToldRow v lent r (row_at v.width m codes) (Err refusal) → ToldOf v ps lent codes whole (Err refusal)
+    refused-here refusal t = children.refused-node v ps lent codes whole m _ _ at.inside at.visited refl refl effect goes refusal (node (Err refusal) t)
 
-    -- what was told of the node is noted
-    abbrev pub Seen : Bool → Type 0
-    Seen changes' = Noted v ps lent (node_refusal v ps lent codes m) codes (node_after v ps lent m codes) changes changes'
+    module _ (here : Effect) (t : ToldRow v lent r (row_at v.width m codes) (Ok here)) (child sibling : ℕ)
+        (c : child ≡ get_or plan (4 * m) 0) (b : sibling ≡ get_or plan (4 * m + 1) 0) where
+      -- what was told of the node, noted
+      abbrev noted : Effect
+      noted = together effect here
 
-    pub seen-stays : (changes' : Bool) → answer ≡ Stays → changes' ≡ changes → Seen changes'
-    seen-stays changes' q s = note-stays v ps lent _ codes _ answer node q changes changes' s
+      seen : Noted v ps lent (node_refusal v ps lent codes m) codes (node_after v ps lent m codes) effect noted
+      seen = note v ps lent _ codes _ effect here (node (Ok here) t)
 
-    pub seen-changes : (changes' : Bool) → answer ≡ Changes → changes' ≡ true → Seen changes'
-    seen-changes changes' q s = note-changes v ps lent _ codes _ answer node q changes changes' s
+      pub nothing_left : sibling ≡ 0 → child ≡ 0 → ToldOf v ps lent codes whole (Ok noted)
+      nothing_left = children.done-last v ps lent codes whole m child sibling at.inside at.visited (child-is child c) (sibling-is sibling b) effect goes noted seen
 
-    module _ (changes' : Bool) (seen : Seen changes') (child sibling : ℕ) (c : child ≡ get_or plan (4 * m) 0) (b : sibling ≡ get_or plan (4 * m + 1) 0) where
-      pub nothing_left : sibling ≡ 0 → child ≡ 0 → ToldOf v ps lent codes whole (unrefused changes')
-      nothing_left = children.done-last v ps lent codes whole m child sibling at.inside at.visited (child-is child c) (sibling-is sibling b) changes goes changes' seen
+      pub child-left : sibling ≡ 0 → (child ≡ 0 → ⊥) → Goes v ps lent codes whole child noted
+      child-left = children.goes-child v ps lent codes whole m child sibling at.inside at.visited (child-is child c) (sibling-is sibling b) effect goes noted seen
 
-      pub child-left : sibling ≡ 0 → (child ≡ 0 → ⊥) → Goes v ps lent codes whole child changes'
-      child-left = children.goes-child v ps lent codes whole m child sibling at.inside at.visited (child-is child c) (sibling-is sibling b) changes goes changes' seen
-
-      pub sibling-left : (sibling ≡ 0 → ⊥) → child ≡ 0 → Goes v ps lent codes whole sibling changes'
-      sibling-left = children.goes-leaf v ps lent codes whole m child sibling at.inside at.visited (child-is child c) (sibling-is sibling b) changes goes changes' seen
+      pub sibling-left : (sibling ≡ 0 → ⊥) → child ≡ 0 → Goes v ps lent codes whole sibling noted
+      sibling-left = children.goes-leaf v ps lent codes whole m child sibling at.inside at.visited (child-is child c) (sibling-is sibling b) effect goes noted seen
 
       -- the child with its descendants and siblings was checked
-      module _ (s : sibling ≡ 0 → ⊥) (q : child ≡ 0 → ⊥) (deeper : Answer) (u : ToldOf v ps lent codes (nodes_from v.spared ps child) deeper) where
-        pub refused-below : (n : ℕ) → deeper ≡ Refused n → ToldOf v ps lent codes whole (Refused n)
-        refused-below n d =
-            children.refused-below v ps lent codes whole m child sibling at.inside at.visited (child-is child c) (sibling-is sibling b) changes goes changes' seen s q n deeper u d
+      module _ (s : sibling ≡ 0 → ⊥) (q : child ≡ 0 → ⊥) where
+        pub refused-below : (refusal : Refusal) → ToldOf v ps lent codes (nodes_from v.spared ps child) (Err refusal) → ToldOf v ps lent codes whole (Err refusal)
+        refused-below =
+            children.refused-below v ps lent codes whole m child sibling at.inside at.visited (child-is child c) (sibling-is sibling b) effect goes noted seen s q
 
-        past : (changes'' : Bool) → Noted v ps lent (walk_refusal v ps lent codes (nodes_from v.spared ps child)) codes (walk_after v ps lent (nodes_from v.spared ps child) codes) changes' changes'' → Goes v ps lent codes whole sibling changes''
-        past = children.goes-sibling v ps lent codes whole m child sibling at.inside at.visited (child-is child c) (sibling-is sibling b) changes goes changes' seen s q
-
-        pub past-stays : deeper ≡ Stays → Goes v ps lent codes whole sibling changes'
-        past-stays d = past changes' (note-stays v ps lent _ codes _ deeper u d changes' changes' refl)
-
-        pub past-changes : deeper ≡ Changes → Goes v ps lent codes whole sibling true
-        past-changes d = past true (note-changes v ps lent _ codes _ deeper u d changes' true refl)
+        pub past : (deeper : Effect) → ToldOf v ps lent codes (nodes_from v.spared ps child) (Ok deeper) → Goes v ps lent codes whole sibling (together noted deeper)
+        past deeper u =
+            children.goes-sibling v ps lent codes whole m child sibling at.inside at.visited (child-is child c) (sibling-is sibling b) effect goes noted seen s q _
+            (note v ps lent _ codes _ noted deeper u)
 
   -- ---- the change
   module _ (lent : List ℕ) (r : NodeRelation) (e : r ≡ relation_in plan m) (codes' : List ℕ)
@@ -146,9 +149,9 @@ pub fewer : (n first m child : ℕ) → first ≤ m → m < child → 4 * m + 2 
 fewer n first m child l h i = omega arith
 
 -- ---- what holds at m, whatever tree the plan is of
-abbrev pub Checking : List ℕ → List ℕ → List ℕ → Reach → ℕ → ℕ → Bool → Type 0
-Checking plan codes lent v first m changes =
-    (ps : List ℕ) → VisitFrom v ps plan codes first → At v ps first m × Goes v ps lent codes (nodes_from v.spared ps first) m changes
+abbrev pub Checking : List ℕ → List ℕ → List ℕ → Reach → ℕ → ℕ → Effect → Type 0
+Checking plan codes lent v first m effect =
+    (ps : List ℕ) → VisitFrom v ps plan codes first → At v ps first m × Goes v ps lent codes (nodes_from v.spared ps first) m effect
 
 abbrev pub Applying : List ℕ → List ℕ → List ℕ → Reach → ℕ → ℕ → List ℕ → Type 0
 Applying plan codes₀ lent v first m codes =

@@ -10,7 +10,8 @@ use Rattle.definition.specs.Notation.{◌or◌, first_refusal}
 use Rattle.definition.specs.Permission.{AccessKind, NodeRelation}
 use Rattle.definition.specs.Tree.{relation}
 use Rattle.permission.specs.Codes.{refusal_code, next_code}
-use Rattle.visit.specs.declared.Answer.TheVariants.{Stays}
+use Rattle.std.specs.Prelude.{Ok}
+use Rattle.visit.specs.declared.Effect.TheVariants.{Stays}
 use Rattle.visit.specs.declared.Reach.{Reach}
 use Rattle.visit.specs.Walk.{ToldRow, ToldOf, access_at, planned, codes_refusal, codes_after, row_at, walk_after}
 use Rattle.visit.proofs.Steps.{no-refusal, no_change}
@@ -39,15 +40,15 @@ module _ (v : Reach) (lent : List ℕ) (h : (i : ℕ) → i < v.len → access_a
     | no l ↦ none-behind (planned v lent) i (omega (arith, planned-length v.what v.len lent))
   ]
 
-  row_stays : (r : NodeRelation) (row : List ℕ) → ToldRow v lent r row Stays
+  row_stays : (r : NodeRelation) (row : List ℕ) → ToldRow v lent r row (Ok Stays)
   row_stays r row =
       let stay = codes-stay r (planned v lent) (drop v.from row) none-planned in
       (stay.0, sym (ap (λ (cs : List ℕ). take v.from row ++ cs) stay.1 ∙ take-append-drop v.from row))
 
-  pub untouched : (ps codes ns : List ℕ) → ToldOf v ps lent codes ns Stays
+  pub untouched : (ps codes ns : List ℕ) → ToldOf v ps lent codes ns (Ok Stays)
   unfolding first_refusal walk_after
   untouched ps codes [] = (refl, refl)
   untouched ps codes (n ∷ ns) =
-      let here = told-node v ps lent codes n Stays (row_stays (relation ps n v.node) (row_at v.width n codes)) in
+      let here = told-node v ps lent codes n (Ok Stays) (row_stays (relation ps n v.node) (row_at v.width n codes)) in
       let rest = untouched ps codes ns in
       (ap₂ (λ (m n : ℕ). m or n) here.0 rest.0, rest.1 ∙ ap (walk_after v ps lent ns) here.1)

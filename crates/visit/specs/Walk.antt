@@ -1,5 +1,5 @@
 -- A visit as the code makes it, over the tables. That it is the definition's is shown in the proofs of `tree` (Meaning).
-use Rattle.std.specs.Prelude.{ℕ, zero, suc, ◌+◌, ◌*◌, ◌≤◌, ◌<◌, ◌≡◌, Bool, true, false, ◌&&◌, List, [], ◌∷◌, ◌++◌, map, length, get_or, take, drop, replicate}
+use Rattle.std.specs.Prelude.{ℕ, zero, suc, ◌+◌, ◌*◌, ◌≤◌, ◌<◌, ◌≡◌, Bool, true, false, ◌&&◌, List, [], ◌∷◌, ◌++◌, map, length, get_or, take, drop, replicate, Some, None, Result, Ok, Err}
 use Rattle.std.proofs.Math.Option.{Option, none, some}
 use Rattle.definition.specs.Notation.{◌or◌, first_refusal}
 use Rattle.definition.specs.Permission.{AccessKind, NodeRelation}
@@ -7,14 +7,14 @@ use Rattle.definition.specs.Permission.AccessKind.{Read, Write}
 use Rattle.definition.specs.Tree.{relation}
 use Rattle.definition.proofs.Trees.{Parents}
 use Rattle.definition.proofs.Order.{walk}
-use Rattle.permission.specs.Codes.{access_kind, transition_code, refusal_code, next_code, init_access_code}
-use Rattle.permission.specs.declared.Outcome.{Outcome}
-use Rattle.permission.specs.declared.Outcome.TheVariants as outcome
+use Rattle.refusal.specs.Number.{number}
+use Rattle.refusal.specs.declared.Refusal.{Refusal}
+use Rattle.permission.specs.Codes.{Outcome, access_kind, transition_code, refusal_code, next_code, init_access_code}
 use Rattle.visit.specs.declared.Accesses.{Accesses}
 use Rattle.visit.specs.declared.Accesses.TheVariants as accesses
 use Rattle.visit.specs.declared.Accesses.TheVariants.{Each, AtInit}
-use Rattle.visit.specs.declared.Answer.{Answer}
-use Rattle.visit.specs.declared.Answer.TheVariants.{Stays, Changes, Refused}
+use Rattle.visit.specs.declared.Effect.{Effect}
+use Rattle.visit.specs.declared.Effect.TheVariants.{Stays, Changes}
 use Rattle.visit.specs.declared.Reach.{Reach}
 
 -- a visit that can be made: its node is in the tree, its bytes are in a row, and the table has a row for each node, of which there are at most 1,024
@@ -53,25 +53,28 @@ pub record SameVisit (v : Reach) (lent : List ℕ) (r : Reach) : Type 0 where
   pub accesses : accesses_at r.what v.len lent ≡ planned v lent
 
 -- ---- what a check tells: of what is refused, and of the codes before and after
-abbrev pub Told : ℕ → List ℕ → List ℕ → Answer → Type 0
-Told refused before after Stays = (refused ≡ 0) × (before ≡ after)
-Told refused before after Changes = refused ≡ 0
-Told refused before after (Refused n) = (n ≡ refused) × (n ≡ 0 → ⊥)
+abbrev pub Answer : Type 0
+Answer = Result Effect Refusal
 
--- nothing is refused: by whether a change was seen
-abbrev pub unrefused : Bool → Answer
-unrefused true = Changes
-unrefused false = Stays
+abbrev pub Told : ℕ → List ℕ → List ℕ → Answer → Type 0
+Told refused before after (Ok Stays) = (refused ≡ 0) × (before ≡ after)
+Told refused before after (Ok Changes) = refused ≡ 0
+Told refused before after (Err refusal) = number refusal ≡ refused
+
+-- of an effect and a later one
+abbrev pub together : Effect → Effect → Effect
+together Stays later = later
+together Changes later = Changes
 
 -- ---- one code
 abbrev pub outcome_at : Option AccessKind → NodeRelation → ℕ → Outcome
-outcome_at none r c = outcome.Stays
+outcome_at none r c = Ok None
 outcome_at (some a) r c = transition_code a r c
 
 abbrev pub is_stays : Outcome → Bool
-is_stays outcome.Stays = true
-is_stays (outcome.Becomes d) = false
-is_stays (outcome.Refused n) = false
+is_stays (Ok None) = true
+is_stays (Ok (Some d)) = false
+is_stays (Err n) = false
 
 -- ---- a row
 -- the first refusal of codes under accesses

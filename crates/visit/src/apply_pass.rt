@@ -1,7 +1,7 @@
 // The apply pass: the change of a visit, by recursion over the tree as the check goes.
 ghost use Rattle.std.specs.Prelude.{◌≡◌, List, ℕ, ◌*◌, ◌≤◌, ◌<◌, length};
 ghost use Rattle.visit.specs.Walk.{Ready, nodes_from, subtree, walk_after};
-ghost use Rattle.visit.specs.Plan.{VisitFrom, Zeros};
+ghost use Rattle.visit.specs.Plan.{VisitFrom};
 
 use crate::Reach;
 use crate::plan::{first_child, make_plan, next_sibling, relation};
@@ -33,12 +33,13 @@ fn apply_from(plan: &[u16], codes: &mut [u8], lent: &[u8], v: Reach, first: usiz
     }
 }
 
-// With a plan, for which zeros are lent.
-fn apply_planned(scratch: &mut [u16], parents: &[u16], codes: &mut [u8], lent: &[u8], v: Reach)
-    requires zeros { Zeros scratch.old × (4 * length parents.now ≤ length scratch.old) }
+// With an array for the plan, which has four places for each node.
+fn apply_sized<const N: usize>(parents: &[u16], codes: &mut [u8], lent: &[u8], v: Reach)
+    requires room { (4 * length parents.now ≤ N) × (N ≤ 4096) }
     requires ready { Ready v parents.now codes.old × (0 < v.spared) }
     ensures { codes.new ≡ walk_after v parents.now lent.now (subtree v.spared 0 parents.now) codes.old }
 {
+    let mut scratch = [0u16; N];
     let size = 4 * parents.len();
     make_plan(parents, &mut scratch[..size], v);
     apply_from(&scratch[..size], codes, lent, v, 0);
@@ -49,16 +50,9 @@ pub fn apply(parents: &[u16], codes: &mut [u8], lent: &[u8], v: Reach)
     requires { Ready v parents.now codes.old × (0 < v.spared) }
     ensures { codes.new ≡ walk_after v parents.now lent.now (subtree v.spared 0 parents.now) codes.old }
 {
-    if parents.len() <= 16 {
-        let mut scratch = [0u16; 64];
-        apply_planned(&mut scratch, parents, codes, lent, v);
-        return;
+    match parents.len() {
+        0..=16 => apply_sized::<64>(parents, codes, lent, v),
+        17..=128 => apply_sized::<512>(parents, codes, lent, v),
+        _ => apply_sized::<4096>(parents, codes, lent, v),
     }
-    if parents.len() <= 128 {
-        let mut scratch = [0u16; 512];
-        apply_planned(&mut scratch, parents, codes, lent, v);
-        return;
-    }
-    let mut scratch = [0u16; 4096];
-    apply_planned(&mut scratch, parents, codes, lent, v);
 }

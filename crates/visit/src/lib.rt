@@ -11,7 +11,7 @@ mod row;
 mod staying;
 
 ghost use Rattle.std.specs.Prelude.{◌≡◌};
-ghost use Rattle.visit.specs.Walk as walk;
+ghost use Rattle.visit.specs.Walk.{together};
 
 pub use access::settled;
 pub use apply_pass::apply;
@@ -21,7 +21,7 @@ pub use plan::{make_plan, relation};
 
 // The accesses of a visit: the same at each byte; or by a lent row of numbers, which tell each byte's access: 0 for none, 1 for a read, 2 for a
 // write; or by a lent row of codes, as a retag reads the bytes.
-#[derive(Clone, Copy)]
+#[derive(Clone, Copy, PartialEq, Eq)]
 pub enum Accesses {
     Each(AccessKind),
     Told,
@@ -30,7 +30,7 @@ pub enum Accesses {
 
 // The accessed node; the node that is spared with its descendants (a number that no node has spares none); the width of a row; the visited
 // bytes, `len` of them; and their accesses.
-#[derive(Clone, Copy)]
+#[derive(Clone, Copy, PartialEq, Eq)]
 pub struct Reach {
     pub node: usize,
     pub spared: usize,
@@ -40,22 +40,22 @@ pub struct Reach {
     pub what: Accesses,
 }
 
-// What the check pass tells: every code stays; nothing is refused; or the first refusal in the order of the visit. `Changes` is answered where a code
-// changes; its promise is only that nothing is refused, which is all that the apply pass after it needs.
-#[derive(Clone, Copy)]
-pub enum Answer {
+// What a visit that is not refused does: every code stays, or a code changes. What the check pass promises of `Changes` is only that nothing is
+// refused, which is all that the apply pass after it needs.
+#[derive(Clone, Copy, PartialEq, Eq)]
+pub enum Effect {
     Stays,
     Changes,
-    Refused(u8),
 }
 
-// Nothing is refused.
-fn unrefused(changes: bool) -> Answer
-    ensures { result ≡ walk.unrefused changes }
-{
-    if changes {
-        Answer::Changes
-    } else {
-        Answer::Stays
+impl Effect {
+    // Of this and what comes after it.
+    fn and(self, later: Effect) -> Effect
+        ensures { result ≡ together self later }
+    {
+        match later {
+            Effect::Stays => self,
+            Effect::Changes => Effect::Changes,
+        }
     }
 }

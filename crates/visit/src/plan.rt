@@ -9,24 +9,18 @@ ghost use Rattle.visit.specs.Plan.{relation_in, linked_in, Planned, Zeros, Roomy
 use crate::Reach;
 use permission::NodeRelation;
 
-fn wide(x: u16) -> usize
-    ensures { result ≡ x }
-{
-    x as usize
-}
-
 pub(crate) fn first_child(plan: &[u16], n: usize) -> usize
     requires { (4 * n + 2 < length plan.now) × (length plan.now ≤ 4096) }
     ensures { result ≡ get_or plan.now (4 * n) 0 }
 {
-    wide(plan[4 * n])
+    usize::from(plan[4 * n])
 }
 
 pub(crate) fn next_sibling(plan: &[u16], n: usize) -> usize
     requires { (4 * n + 2 < length plan.now) × (length plan.now ≤ 4096) }
     ensures { result ≡ get_or plan.now (4 * n + 1) 0 }
 {
-    wide(plan[4 * n + 1])
+    usize::from(plan[4 * n + 1])
 }
 
 // What a node is to the accessed one.
@@ -35,9 +29,10 @@ pub fn relation(plan: &[u16], n: usize) -> NodeRelation
     ensures { node_relation result ≡ relation_in plan.now n }
 {
     if plan[4 * n + 2] == 0 {
-        return NodeRelation::Foreign;
+        NodeRelation::Foreign
+    } else {
+        NodeRelation::Local
     }
-    NodeRelation::Local
 }
 
 // Node m in front of the children of its parent that are linked; the spared one is passed by.
@@ -58,13 +53,10 @@ pub fn make_plan(parents: &[u16], plan: &mut [u16], v: Reach)
     requires roomy { Roomy parents.now plan.old × Zeros plan.old }
     ensures { Planned v parents.now plan.new }
 {
-    let spared = v.spared;
     let mut on = v.node;
-    let mut m = parents.len();
-    while 1 < m {
-        m -= 1;
-        let parent = wide(parents[m]);
-        link(plan, parent, m, spared);
+    for m in (1..parents.len()).rev() {
+        let parent = usize::from(parents[m]);
+        link(plan, parent, m, v.spared);
         if m == on {
             plan[4 * m + 2] = 1;
             on = parent;

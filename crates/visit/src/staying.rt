@@ -1,77 +1,27 @@
 // Whether every visited code of a row stays.
-ghost use Rattle.std.specs.Prelude.{◌≡◌, []};
-ghost use Rattle.definition.specs.Permission.NodeRelation.{Local, Foreign};
-ghost use Rattle.permission.specs.Codes.{maybe_access, node_relation};
-ghost use Rattle.visit.specs.Walk.{bytes_stay, is_stays, outcome_at, short_stays};
-ghost use Rattle.visit.specs.declared.Accesses.TheVariants.{Each};
+ghost use Rattle.std.specs.Prelude.{◌≡◌, true, ◌&&◌, fold};
+ghost use Rattle.std.specs.List.{list_all};
+ghost use Rattle.permission.specs.Codes.{access_kind, node_relation, numbered, transition_code};
+ghost use Rattle.visit.specs.Walk.{bytes_stay, is_stays, short_stays};
 
 use crate::Accesses;
-use crate::access::access_at;
-use permission::{AccessKind, MaybeAccess, NodeRelation, Outcome};
+use crate::access::{access_at, outcome};
+use permission::{AccessKind, NodeRelation, Outcome};
 
 // ---- one code
 fn stays(outcome: Outcome) -> bool
-    ensures { result ≡ is_stays outcome }
+    ensures { result ≡ is_stays (numbered outcome) }
 {
-    match outcome {
-        Outcome::Stays => true,
-        Outcome::Becomes(_) => false,
-        Outcome::Refused(_) => false,
-    }
-}
-
-// What an access makes of it, if there is one; by relation, since the compiler puts no larger match into a loop.
-fn local_outcome(code: u8, access: MaybeAccess) -> Outcome
-    ensures { result ≡ outcome_at (maybe_access access) Local code }
-{
-    match access {
-        MaybeAccess::Nothing => Outcome::Stays,
-        MaybeAccess::Access(kind) => permission::local(code, kind),
-    }
-}
-
-fn foreign_outcome(code: u8, access: MaybeAccess) -> Outcome
-    ensures { result ≡ outcome_at (maybe_access access) Foreign code }
-{
-    match access {
-        MaybeAccess::Nothing => Outcome::Stays,
-        MaybeAccess::Access(kind) => permission::foreign(code, kind),
-    }
+    matches!(outcome, Ok(None))
 }
 
 // ---- a short row: up to the first code that does not stay
-fn stay_local(row: &[u8], kind: AccessKind) -> bool
-    ensures { result ≡ bytes_stay (Each kind) [] Local row.now }
-{
-    let mut k = 0;
-    while k < row.len() {
-        if !stays(permission::local(row[k], kind)) {
-            return false;
-        }
-        k += 1;
-    }
-    true
-}
-
-fn stay_foreign(row: &[u8], kind: AccessKind) -> bool
-    ensures { result ≡ bytes_stay (Each kind) [] Foreign row.now }
-{
-    let mut k = 0;
-    while k < row.len() {
-        if !stays(permission::foreign(row[k], kind)) {
-            return false;
-        }
-        k += 1;
-    }
-    true
-}
-
 fn stay_under(row: &[u8], kind: AccessKind, relation: NodeRelation) -> bool
-    ensures { result ≡ bytes_stay (Each kind) [] (node_relation relation) row.now }
+    ensures { result ≡ list_all (λ c. is_stays (transition_code (access_kind kind) (node_relation relation) c)) row.now }
 {
     match relation {
-        NodeRelation::Local => stay_local(row, kind),
-        NodeRelation::Foreign => stay_foreign(row, kind),
+        NodeRelation::Local => row.iter().all(|c| stays(permission::local(*c, kind))),
+        NodeRelation::Foreign => row.iter().all(|c| stays(permission::foreign(*c, kind))),
     }
 }
 
@@ -87,74 +37,42 @@ pub(crate) fn short_stays(row: &[u8], what: Accesses, relation: NodeRelation) ->
 }
 
 // ---- a long row: no way leads out of the loops, so that the compiler makes vector code of them
-fn long_local(row: &[u8], kind: AccessKind) -> bool
-    ensures { result ≡ bytes_stay (Each kind) [] Local row.now }
-{
-    let mut all = true;
-    let mut k = 0;
-    while k < row.len() {
-        all = all & stays(permission::local(row[k], kind));
-        k += 1;
-    }
-    all
-}
-
-fn long_foreign(row: &[u8], kind: AccessKind) -> bool
-    ensures { result ≡ bytes_stay (Each kind) [] Foreign row.now }
-{
-    let mut all = true;
-    let mut k = 0;
-    while k < row.len() {
-        all = all & stays(permission::foreign(row[k], kind));
-        k += 1;
-    }
-    all
-}
-
 fn long_under(row: &[u8], kind: AccessKind, relation: NodeRelation) -> bool
-    ensures { result ≡ bytes_stay (Each kind) [] (node_relation relation) row.now }
+    ensures { result ≡ fold (λ all c. all && is_stays (transition_code (access_kind kind) (node_relation relation) c)) true row.now }
 {
     match relation {
-        NodeRelation::Local => long_local(row, kind),
-        NodeRelation::Foreign => long_foreign(row, kind),
+        NodeRelation::Local => row
+            .iter()
+            .fold(true, |all, c| all & stays(permission::local(*c, kind))),
+        NodeRelation::Foreign => row
+            .iter()
+            .fold(true, |all, c| all & stays(permission::foreign(*c, kind))),
     }
 }
 
-// Under accesses of their own; apart, since in one loop for all accesses a local write is no vector code.
-fn told_local(row: &[u8], lent: &[u8], what: Accesses) -> bool
-    ensures { result ≡ bytes_stay what lent.now Local row.now }
+// Under accesses of their own.
+fn told(row: &[u8], lent: &[u8], what: Accesses, relation: NodeRelation) -> bool
+    ensures { result ≡ bytes_stay what lent.now (node_relation relation) row.now }
 {
     let mut all = true;
-    let mut k = 0;
-    while k < row.len() {
-        all = all & stays(local_outcome(row[k], access_at(what, lent, k)));
-        k += 1;
+    for (k, code) in row.iter().enumerate() {
+        all &= stays(outcome(*code, access_at(what, lent, k), relation));
     }
     all
 }
 
-fn told_foreign(row: &[u8], lent: &[u8], what: Accesses) -> bool
-    ensures { result ≡ bytes_stay what lent.now Foreign row.now }
-{
-    let mut all = true;
-    let mut k = 0;
-    while k < row.len() {
-        all = all & stays(foreign_outcome(row[k], access_at(what, lent, k)));
-        k += 1;
-    }
-    all
-}
-
+// The relation is handed on as a constant, so that there is a loop for each.
 fn told_under(row: &[u8], lent: &[u8], what: Accesses, relation: NodeRelation) -> bool
     ensures { result ≡ bytes_stay what lent.now (node_relation relation) row.now }
 {
     match relation {
-        NodeRelation::Local => told_local(row, lent, what),
-        NodeRelation::Foreign => told_foreign(row, lent, what),
+        NodeRelation::Local => told(row, lent, what, NodeRelation::Local),
+        NodeRelation::Foreign => told(row, lent, what, NodeRelation::Foreign),
     }
 }
 
-// Both passes ask it of a long row. So it stays a function by itself, and its vectors take no registers from the recursion.
+// Both passes ask it of a long row. It is a function by itself, so that its vectors take no registers from the recursion.
+#[inline(never)]
 pub(crate) fn long_stays(row: &[u8], lent: &[u8], what: Accesses, relation: NodeRelation) -> bool
     ensures { result ≡ bytes_stay what lent.now (node_relation relation) row.now }
 {

@@ -6,6 +6,13 @@ use mathlib.Core.Bool.{Bool, true, false, not, ◌&&◌, false≢true}
 use native.Mathlib.Omega.{arith}
 use borrow.Author.Tests.{ltb-false, lt-ltb, le-ltb, lt-leb}
 use lib.Dec.{T, eqb, ltb}
+use lib.ListN.{get_or, take, length-take}
+use lib.Seq.{get_or-take}
+use mathlib.Core.List.{List}
+use mir.Syntax.{w32}
+use mir.Val.{Fits}
+use Rattle.definition.specs.Notation.{any}
+use Rattle.definition.proofs.Any.{any_same}
 use Rattle.definition.specs.Permission.{Permission, Protected, is_protected, is_yes, code, permission}
 use Rattle.definition.specs.Permission.Protected.{No, Weak, Strong}
 use Rattle.definition.specs.Memory.{Liveness, AllocationKind, is_live, kind_number}
@@ -118,6 +125,11 @@ code-passes live r p h = rw (le-ltb 14 (code p) (omega (arith, code-small p))) (
     go true Strong h = above (h refl)
 
 -- ---- words: of a number below 2^32 the byte is tested alone
-pub word-bad : (w : ℕ) → w < 2 ^ 32 → bad_word w ≡ bad_byte w
+word-bad : (w : ℕ) → w < 2 ^ 32 → bad_word w ≡ bad_byte w
 unfolding bad_word
 word-bad w h = rw (lt-leb (2 ^ 32) w h)
+
+pub words_bad : (n : ℕ) (W : List ℕ) → ((i : ℕ) → Fits w32 (get_or W i 0)) → any bad_byte (take n W) ≡ any bad_word (take n W)
+words_bad n W fits =
+    any_same bad_byte 0 bad_word (take n W)
+    (λ i h. sym (word-bad (get_or (take n W) i 0) (rw (get_or-take n W i 0 (omega (arith, length-take n W))) (fits i).fits)))

@@ -3,7 +3,7 @@ use Prim.Native.Nat.{ℕ, suc, ◌+◌, ◌-◌, ◌*◌, ◌≤◌, ◌<◌}
 use mathlib.Core.Path.{◌≡◌}
 use mathlib.Core.Bool.{Bool, false, ◌||◌}
 use mathlib.Core.List.{List}
-use native.Mathlib.Nat.{le_trans, mul-le-mul_right, mul-le-mul_left}
+use native.Mathlib.Nat.{suc-mul}
 use native.Mathlib.Numerals.{add-one}
 use native.Mathlib.Omega.{arith}
 use borrow.Author.Tests.{eq-eqb, ne_eqb}
@@ -16,14 +16,16 @@ use Rattle.tables.proofs.Lookup.{front_at, front-state, next-record}
 use Rattle.wellformed.specs.WellFormed.{bad_place, bad_code, bad_nodes, bad_allocation_at, bad_rest, bad_allocations, clashes, clashes_later, clashes_first, any_clash}
 
 -- ---- nodes
-pub nodes-turn : (live : Bool) (size count n row : ℕ) (P R C : List ℕ) → n < count
-    → bad_nodes live size n (count - n) (drop n P) (drop n R) (drop row C)
-    ≡ (bad_place n (get_or P n 0) (get_or R n 0) || any (bad_code live (get_or R n 0)) (take size (drop row C)))
-    || bad_nodes live size (n + 1) (count - (n + 1)) (drop (n + 1) P) (drop (n + 1) R) (drop (row + size) C)
+pub nodes-turn : (live : Bool) (size count n : ℕ) (P R C : List ℕ) → n < count
+    → bad_nodes live size n (count - n) (drop n P) (drop n R) (drop (n * size) C)
+    ≡ (bad_place n (get_or P n 0) (get_or R n 0) || any (bad_code live (get_or R n 0)) (take (n * size + size - n * size) (drop (n * size) C)))
+    || bad_nodes live size (n + 1) (count - (n + 1)) (drop (n + 1) P) (drop (n + 1) R) (drop ((n + 1) * size) C)
 unfolding bad_nodes
-nodes-turn live size count n row P R C h =
+nodes-turn live size count n P R C h =
     let k : count - n ≡ suc (count - (n + 1)) = omega arith in
-    rw (k, get_d-first P n 0, get_d-first R n 0, drop-drop 1 n P, drop-drop 1 n R, drop-drop size row C, add-one)
+    let row : n * size + size - n * size ≡ size = omega arith in
+    let next : (n + 1) * size ≡ n * size + size = rw add-one (suc-mul n size) in
+    rw (k, row, next, get_d-first P n 0, get_d-first R n 0, drop-drop 1 n P, drop-drop 1 n R, drop-drop size (n * size) C, add-one)
 
 pub nodes-end : (live : Bool) (size count n : ℕ) (P R C : List ℕ) → count ≤ n → bad_nodes live size n (count - n) P R C ≡ false
 unfolding bad_nodes
@@ -94,6 +96,3 @@ clash-turn count i A h =
 pub clash-end : (count i : ℕ) (A : List ℕ) → count ≤ i → any_clash (count - i) A ≡ false
 unfolding any_clash
 clash-end count i A h = let k : count - i ≡ 0 = omega arith in rw k
-
-pub product_small : (n z : ℕ) → n ≤ 1024 → z ≤ 4096 → n * z ≤ 1024 * 4096
-product_small n z h k = le_trans (mul-le-mul_right z h) (mul-le-mul_left 1024 k)

@@ -8,6 +8,7 @@ ghost use Rattle.wellformed.specs.AtWidth.{is_beyond, fits_in, well_formed_at};
 
 use pointer::width::Width;
 
+// ---- `Records` stays a clause of each: it is of a memory that only proofs know, and of a slice that C lends.
 // Allocation i ends behind the last address.
 fn beyond_at(allocs: &[u64], i: usize, width: Width) -> bool
     requires { (m : Memory) × (Records m allocs.now × (i < length m)) }
@@ -22,36 +23,23 @@ fn any_beyond(allocs: &[u64], width: Width) -> bool
     requires { (m : Memory) × Records m allocs.now }
     ensures { (m : Memory) → Records m allocs.now → result ≡ any (is_beyond (width_of width)) m }
 {
-    let count = tables::made_count(allocs);
-    let mut i: usize = 0;
-    while i < count {
+    for i in 0..tables::made_count(allocs) {
         if beyond_at(allocs, i, width) {
             return true;
         }
-        i += 1;
     }
     false
 }
 
-#[tactic(auto, unfolding(crate::specs::AtWidth::fits_in))]
-fn fits_narrow(allocs: &[u64], words: &[u32], width: Width) -> bool
-    requires { (m : Memory) × Records m allocs.now }
-    ensures { (m : Memory) → Records m allocs.now → result ≡ fits_in (width_of width) m words.now }
-{
-    if any_beyond(allocs, width) {
-        return false;
-    }
-    !pointer::width::any_far_byte(words, width)
-}
-
 // At 64 bits every memory fits.
+#[tactic(auto, unfolding(crate::specs::AtWidth::fits_in))]
 fn fits_width(allocs: &[u64], words: &[u32], width: Width) -> bool
     requires { (m : Memory) × Records m allocs.now }
     ensures { (m : Memory) → Records m allocs.now → result ≡ fits_in (width_of width) m words.now }
 {
     match width {
         Width::Bits64 => true,
-        _ => fits_narrow(allocs, words, width),
+        _ => !any_beyond(allocs, width) && !pointer::width::any_far_byte(words, width),
     }
 }
 
@@ -67,10 +55,9 @@ pub fn well_formed_at(
 ) -> bool
     ensures { result ≡ well_formed_at width (buffers allocs.now parents.now protectors.now words.now codes.now) }
 {
-    if !pointer::width::is_width(width) {
-        return false;
-    }
-    if !crate::well_formed(allocs, parents, protectors, words, codes) {
+    if !pointer::width::is_width(width)
+        || !crate::well_formed(allocs, parents, protectors, words, codes)
+    {
         return false;
     }
     fits_width(allocs, words, pointer::width::width_at(width))

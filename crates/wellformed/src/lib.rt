@@ -3,63 +3,21 @@
 // Whether five lent buffers hold a memory (refusal 1): one pass over what is used, one over the rest, and pairs of allocations.
 pub mod at_width;
 
-ghost use Rattle.std.specs.Prelude.{◌≡◌, ◌+◌, ◌-◌, ◌*◌, ◌<◌, ◌≤◌, length, drop};
+ghost use Rattle.std.specs.Prelude.{◌≡◌, ◌+◌, ◌-◌, ◌*◌, ◌<◌, ◌≤◌, not, ◌||◌, length, get_or, drop};
 ghost use Rattle.definition.specs.Notation.{any};
-ghost use Rattle.definition.specs.Request.{nonzero};
 ghost use Rattle.tables.specs.Held.{buffers};
-ghost use Rattle.wellformed.specs.WellFormed.{bad_record, bad_word, bad_place, bad_code, bad_nodes, Nodes, bad_allocation, bad_starts, bad_allocation_at, Front, bad_rest, bad_allocations, clashes, clashes_first, any_clash, well_formed, Decides};
+ghost use Rattle.wellformed.specs.WellFormed.{bad_record, bad_place, bad_code, bad_nodes, Nodes, bad_allocation, bad_allocation_at, Front, bad_rest, bad_allocations, clashes, clashes_first, any_clash, well_formed, Decides};
 
 // ---- something other than zero
-fn any_nonzero_u8(b: &[u8]) -> bool
-    ensures { result ≡ any nonzero b.now }
+// Every number is looked at, with no way out of the loop, as `any` has one: several are tested at a time.
+fn any_other<T: Copy + PartialEq>(numbers: &[T], zero: T) -> bool
+    ensures { result ≡ any (λ n. not (T.eq n zero)) numbers.now }
 {
-    let mut i: usize = 0;
-    while i < b.len() {
-        if b[i] != 0 {
-            return true;
-        }
-        i += 1;
+    let mut found = false;
+    for &n in numbers {
+        found |= n != zero;
     }
-    false
-}
-
-fn any_nonzero_u16(b: &[u16]) -> bool
-    ensures { result ≡ any nonzero b.now }
-{
-    let mut i: usize = 0;
-    while i < b.len() {
-        if b[i] != 0 {
-            return true;
-        }
-        i += 1;
-    }
-    false
-}
-
-fn any_nonzero_u32(b: &[u32]) -> bool
-    ensures { result ≡ any nonzero b.now }
-{
-    let mut i: usize = 0;
-    while i < b.len() {
-        if b[i] != 0 {
-            return true;
-        }
-        i += 1;
-    }
-    false
-}
-
-fn any_nonzero_u64(b: &[u64]) -> bool
-    ensures { result ≡ any nonzero b.now }
-{
-    let mut i: usize = 0;
-    while i < b.len() {
-        if b[i] != 0 {
-            return true;
-        }
-        i += 1;
-    }
-    false
+    found
 }
 
 // Behind the last allocation.
@@ -67,26 +25,11 @@ fn any_nonzero_u64(b: &[u64]) -> bool
 fn bad_rest(allocs: &[u64], parents: &[u16], protectors: &[u8], words: &[u32], codes: &[u8]) -> bool
     ensures { result ≡ bad_rest allocs.now parents.now protectors.now words.now codes.now }
 {
-    if any_nonzero_u64(allocs) {
-        return true;
-    }
-    if any_nonzero_u16(parents) {
-        return true;
-    }
-    if any_nonzero_u8(protectors) {
-        return true;
-    }
-    if any_nonzero_u32(words) {
-        return true;
-    }
-    any_nonzero_u8(codes)
-}
-
-// ---- bytes
-fn any_bad_word(words: &[u32]) -> bool
-    ensures { result ≡ any bad_word words.now }
-{
-    pointer::any_bad_byte(words)
+    any_other(allocs, 0)
+        || any_other(parents, 0)
+        || any_other(protectors, 0)
+        || any_other(words, 0)
+        || any_other(codes, 0)
 }
 
 // ---- nodes
@@ -95,15 +38,10 @@ fn bad_place(n: usize, parent: usize, protector: u8) -> bool
     ensures { result ≡ bad_place n parent protector }
 {
     if n == 0 {
-        if parent != 0 {
-            return true;
-        }
-        return protector != 0;
+        parent != 0 || protector != 0
+    } else {
+        n <= parent || protector > 2
     }
-    if n <= parent {
-        return true;
-    }
-    protector > 2
 }
 
 // Codes 6 to e are the protected ones.
@@ -111,26 +49,23 @@ fn bad_place(n: usize, parent: usize, protector: u8) -> bool
 fn bad_code(live: bool, protector: u8, code: u8) -> bool
     ensures { result ≡ bad_code live protector code }
 {
-    if code > 14 {
-        return true;
-    }
-    if !live {
-        return false;
-    }
-    if protector == 0 { code > 5 } else { code < 6 }
+    code > 14 || live && (if protector == 0 { code > 5 } else { code < 6 })
 }
 
 fn any_bad_code(live: bool, protector: u8, row: &[u8]) -> bool
     ensures { result ≡ any (bad_code live protector) row.now }
 {
-    let mut i: usize = 0;
-    while i < row.len() {
-        if bad_code(live, protector, row[i]) {
-            return true;
-        }
-        i += 1;
+    let mut bad = false;
+    for &code in row {
+        bad |= bad_code(live, protector, code);
     }
-    false
+    bad
+}
+
+fn bad_node(live: bool, n: usize, parent: usize, protector: u8, row: &[u8]) -> bool
+    ensures { result ≡ bad_place n parent protector || any (bad_code live protector) row.now }
+{
+    bad_place(n, parent, protector) || any_bad_code(live, protector, row)
 }
 
 // The first `count` nodes, with rows of `size` codes.
@@ -145,19 +80,11 @@ fn bad_nodes(
     requires { Nodes count size parents.now protectors.now codes.now }
     ensures { result ≡ bad_nodes live size 0 count parents.now protectors.now codes.now }
 {
-    let mut n: usize = 0;
-    let mut row: usize = 0;
-    while n < count {
-        let protector = protectors[n];
-        if bad_place(n, parents[n] as usize, protector) {
+    for n in 0..count {
+        let row = &codes[n * size..n * size + size];
+        if bad_node(live, n, parents[n] as usize, protectors[n], row) {
             return true;
         }
-        let end = row + size;
-        if any_bad_code(live, protector, &codes[row..end]) {
-            return true;
-        }
-        row = end;
-        n += 1;
     }
     false
 }
@@ -167,34 +94,19 @@ fn bad_nodes(
 fn bad_record(state: u64, kind: u64, exponent: u64, address: u64, size: u64, nodes: u64) -> bool
     ensures { result ≡ bad_record state kind exponent address size nodes }
 {
-    if state == 0 {
-        return true;
-    }
-    if state > 2 {
-        return true;
-    }
-    if kind > 4 {
-        return true;
-    }
-    if exponent > 29 {
-        return true;
-    }
-    if address == 0 {
-        return true;
-    }
-    if tables::is_misaligned(address, exponent) {
-        return true;
-    }
-    // how far it is to 2^64
-    let room = 18446744073709551615 - (address - 1);
-    if size >= room {
-        return true;
-    }
-    nodes == 0
+    state == 0
+        || state > 2
+        || kind > 4
+        || exponent > 29
+        || address == 0
+        || tables::is_misaligned(address, exponent)
+        // how far it is to 2^64
+        || size >= u64::MAX - (address - 1)
+        || nodes == 0
 }
 
 // The allocation at the front of the five lists.
-#[tactic(auto, unfolding(crate::specs::WellFormed::bad_allocation))]
+#[tactic(auto, using(crate::proofs::Numbers::words_bad), unfolding(crate::specs::WellFormed::bad_allocation))]
 fn bad_allocation(
     allocs: &[u64],
     parents: &[u16],
@@ -213,58 +125,51 @@ fn bad_allocation(
     }
     let size = size as usize;
     let count = nodes as usize;
-    if count > parents.len() {
+    if count > parents.len()
+        || count > protectors.len()
+        || size > words.len()
+        || count * size > codes.len()
+    {
         return true;
     }
-    if count > protectors.len() {
-        return true;
-    }
-    if size > words.len() {
-        return true;
-    }
-    if count * size > codes.len() {
-        return true;
-    }
-    if any_bad_word(&words[..size]) {
-        return true;
-    }
-    bad_nodes(state == 1, size, count, parents, protectors, codes)
+    pointer::any_bad_byte(&words[..size])
+        || bad_nodes(state == 1, size, count, parents, protectors, codes)
 }
 
-// Its parts start elsewhere than where those of the one before end.
-#[tactic(auto, unfolding(crate::specs::WellFormed::bad_starts))]
-fn bad_starts(allocs: &[u64], word: usize, node: usize, code: usize) -> bool
+// Where the parts of an allocation start in the buffers: those of the one before end there.
+#[derive(Clone, Copy, PartialEq, Eq)]
+struct Starts {
+    word: usize,
+    node: usize,
+    code: usize,
+}
+
+// Where the record at the front says so.
+fn starts_of(allocs: &[u64]) -> Starts
     requires { 9 ≤ length allocs.now }
-    ensures { result ≡ bad_starts word node code allocs.now }
+    ensures { result ≡ record { word = get_or allocs.now 6 0; node = get_or allocs.now 7 0; code = get_or allocs.now 8 0 } }
 {
-    if allocs[6] != word as u64 {
-        return true;
+    Starts {
+        word: allocs[6] as usize,
+        node: allocs[7] as usize,
+        code: allocs[8] as usize,
     }
-    if allocs[7] != node as u64 {
-        return true;
-    }
-    allocs[8] != code as u64
 }
 
-#[tactic(auto, unfolding(crate::specs::WellFormed::bad_allocation_at))]
+#[tactic(auto, unfolding(crate::specs::WellFormed::bad_allocation_at, crate::specs::WellFormed::bad_starts))]
 fn bad_allocation_at(
     allocs: &[u64],
     parents: &[u16],
     protectors: &[u8],
     words: &[u32],
     codes: &[u8],
-    word: usize,
-    node: usize,
-    code: usize,
+    at: Starts,
 ) -> bool
     requires { Front allocs.now parents.now words.now }
     ensures { result
-        ≡ bad_allocation_at word node code allocs.now parents.now protectors.now words.now codes.now }
+        ≡ bad_allocation_at at.word at.node at.code allocs.now parents.now protectors.now words.now codes.now }
 {
-    if bad_starts(allocs, word, node, code) {
-        return true;
-    }
-    bad_allocation(allocs, parents, protectors, words, codes)
+    starts_of(allocs) != at || bad_allocation(allocs, parents, protectors, words, codes)
 }
 
 // ---- all of them, and zeros behind
@@ -279,38 +184,35 @@ fn bad_allocations(
     requires { (count * 9 ≤ length allocs.now) × ((length parents.now ≤ 1024) × (length words.now ≤ 4096)) }
     ensures { result ≡ bad_allocations count 0 0 0 allocs.now parents.now protectors.now words.now codes.now }
 {
-    let mut i: usize = 0;
-    let mut node: usize = 0;
-    let mut word: usize = 0;
-    let mut code: usize = 0;
-    while i < count {
+    let mut at = Starts {
+        word: 0,
+        node: 0,
+        code: 0,
+    };
+    for i in 0..count {
         let p = i * 9;
         if bad_allocation_at(
             &allocs[p..],
-            &parents[node..],
-            &protectors[node..],
-            &words[word..],
-            &codes[code..],
-            word,
-            node,
-            code,
+            &parents[at.node..],
+            &protectors[at.node..],
+            &words[at.word..],
+            &codes[at.code..],
+            at,
         ) {
             return true;
         }
         let size = allocs[p + 4] as usize;
         let nodes = allocs[p + 5] as usize;
-        node += nodes;
-        word += size;
-        code += nodes * size;
-        i += 1;
+        at.word += size;
+        at.node += nodes;
+        at.code += nodes * size;
     }
-    let p = i * 9;
     bad_rest(
-        &allocs[p..],
-        &parents[node..],
-        &protectors[node..],
-        &words[word..],
-        &codes[code..],
+        &allocs[count * 9..],
+        &parents[at.node..],
+        &protectors[at.node..],
+        &words[at.word..],
+        &codes[at.code..],
     )
 }
 
@@ -321,10 +223,7 @@ fn clashes_at(allocs: &[u64], j: usize, address: u64, size: u64) -> bool
     ensures { result ≡ clashes address size (drop (j * 9) allocs.now) }
 {
     let p = j * 9;
-    if allocs[p] != 1 {
-        return false;
-    }
-    tables::ranges_overlap(address, size, allocs[p + 3], allocs[p + 4])
+    allocs[p] == 1 && tables::ranges_overlap(address, size, allocs[p + 3], allocs[p + 4])
 }
 
 // Allocation i is live and overlaps a later one of `count`.
@@ -338,12 +237,10 @@ fn clashes_later(allocs: &[u64], i: usize, count: usize) -> bool
     }
     let address = allocs[p + 3];
     let size = allocs[p + 4];
-    let mut j: usize = i + 1;
-    while j < count {
+    for j in i + 1..count {
         if clashes_at(allocs, j, address, size) {
             return true;
         }
-        j += 1;
     }
     false
 }
@@ -352,12 +249,10 @@ fn any_clash(allocs: &[u64], count: usize) -> bool
     requires { count * 9 ≤ length allocs.now }
     ensures { result ≡ any_clash count allocs.now }
 {
-    let mut i: usize = 0;
-    while i < count {
+    for i in 0..count {
         if clashes_later(allocs, i, count) {
             return true;
         }
-        i += 1;
     }
     false
 }
@@ -373,24 +268,14 @@ pub fn well_formed(
     ensures test { result ≡ well_formed (buffers allocs.now parents.now protectors.now words.now codes.now) }
     ensures exact { Decides result (buffers allocs.now parents.now protectors.now words.now codes.now) }
 {
-    if allocs.len() != 1152 {
-        return false;
-    }
-    if parents.len() != 1024 {
-        return false;
-    }
-    if protectors.len() != 1024 {
-        return false;
-    }
-    if words.len() != 4096 {
-        return false;
-    }
-    if codes.len() != 32768 {
+    if allocs.len() != 1152
+        || parents.len() != 1024
+        || protectors.len() != 1024
+        || words.len() != 4096
+        || codes.len() != 32768
+    {
         return false;
     }
     let count = tables::made_count(allocs);
-    if any_clash(allocs, count) {
-        return false;
-    }
-    !bad_allocations(allocs, parents, protectors, words, codes, count)
+    !any_clash(allocs, count) && !bad_allocations(allocs, parents, protectors, words, codes, count)
 }

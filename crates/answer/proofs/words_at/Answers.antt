@@ -9,10 +9,10 @@ use Rattle.answer.proofs.words_at.Goals as goal
 
 pub returns : goal.returns
 returns c = let a = c.args in
-    let from = c.smaller-from.result in
-    let count = c.smaller.result in
+    let from = c.min-from.result in
+    let count = c.min.result in
     let e : from + count - from ≡ count = omega arith in (
       ap (λ (n : ℕ). take n (drop from a.words.now)) e
-          ∙ part_cut a.words.now a.start a.len from count c.smaller-from.ensures c.smaller.ensures,
-      ap (word_address a.words) c.smaller-from.ensures,
+          ∙ part_cut a.words.now a.start a.len from count c.min-from.ensures c.min.ensures,
+      ap (word_address a.words) c.min-from.ensures,
     )

@@ -12,7 +12,7 @@ pub made_count-count-requires : goal.made_count-count-requires
 made_count-count-requires c = allocs-length c.requires.1
 
 pub loop-i-init : goal.loop-i-init
-loop-i-init c = (omega arith, λ m h k l. absurd (omega arith))
+loop-i-init c = λ m h k l. absurd (omega arith)
 
 pub is_live_heap-requires : goal.is_live_heap-requires
 is_live_heap-requires c = let (m, h) = c.requires in (m, (h, omega (arith, c.made_count-count.ensures ∙ made-count h)))
@@ -27,14 +27,14 @@ returns-then-is_live_heap c = λ m h.
     record {
       made = omega (arith, c.made_count-count.ensures ∙ made-count h);
       leaks = sym (c.is_live_heap.ensures m h) ∙ c.if-is_live_heap.true;
-      below = c.loop-i.invariant.1 m h;
+      below = c.loop-i.invariant m h;
     } in
     leak-found m c.loop-i.i lowest
 
 pub loop-i-preserved : goal.loop-i-preserved
-loop-i-preserved c = (omega arith, λ m h. below_more _ _ (c.loop-i.invariant.1 m h) (sym (c.is_live_heap.ensures m h) ∙ c.if-is_live_heap.false))
+loop-i-preserved c = λ m h. below_more _ _ (c.loop-i.invariant m h) (sym (c.is_live_heap.ensures m h) ∙ c.if-is_live_heap.false)
 
 pub returns : goal.returns
 returns c = λ m h.
     let e : c.loop-i.i ≡ length m = omega (arith, c.made_count-count.ensures ∙ made-count h) in
-    leak-none m (subst (NoneBelow m) e (c.loop-i.invariant.1 m h))
+    leak-none m (subst (NoneBelow m) e (c.loop-i.invariant m h))

@@ -9,5 +9,5 @@ use Rattle.end_call.proofs.end_call_in_run.Goals as goal
 
 pub returns : goal.returns
 returns c = λ m h made.
-    let k = all-released (c.release_list-refused.ensures m h made) made in
-    record { reply = c.refused_with.ensures ∙ ap (λ (n : ℕ). reply_to Nothing (refused_with n)) k.refusal; nodes = k.nodes }
+    let k = all-released (c.release_list.ensures m h made) made in
+    record { reply = c.from.ensures ∙ ap (λ (n : ℕ). reply_to Nothing (refused_with n)) k.refusal; nodes = k.nodes }

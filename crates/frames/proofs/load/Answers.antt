@@ -1,16 +1,13 @@
--- Each turn lays one entry more, and after the last one all are laid (Rows).
-use Rattle.std.proofs.Common.{ℕ, ◌≡◌, ◌∙◌, ap, length, replicate, arith}
+-- The entries that have room take the places of as many that are none (ByValue).
+use Rattle.std.proofs.Common.{◌≡◌, take, replicate, rules, arith}
+use Rattle.std.proofs.lemmas.List.{length-replicate}
 use Rattle.frames.specs.List.{no_entry}
-use Rattle.frames.proofs.Rows.{over, over-more, over-all}
+use Rattle.frames.proofs.ByValue.{laid-front}
 use Rattle.frames.proofs.load.Goals as goal
-
-pub loop-i-preserved : goal.loop-i-preserved
-loop-i-preserved c =
-    let more = over-more c.loop-i.i c.args.entries.now (replicate 64 no_entry) c.loop-i-test.true in
-    (omega arith, rw (c.with_entry-next.ensures, c.loop-i.invariant.1) more)
 
 pub returns : goal.returns
 returns c =
-    let all : c.loop-i.i ≡ length c.args.entries.now = omega arith in
-    let none = replicate 64 no_entry in
-    c.loop-i.invariant.1 ∙ ap (λ (k : ℕ). over k c.args.entries.now none) all ∙ over-all c.args.entries.now none
+    let n = c.min-count.result in
+    let xs = c.args.entries.now in
+    let copied : c.copy_from_slice.new.self ≡ take n xs = search rules in
+    rw copied (laid-front n xs (replicate 64 no_entry) (omega arith) (omega (arith, length-replicate 64 no_entry)) (λ m. omega (arith, length-replicate 64 no_entry)))

@@ -1,24 +1,22 @@
 -- The invariant: the answer of the cells that are left, from the end of the last one on, is the answer of all.
-use mathlib.Core.Path.{sym, ◌∙◌}
+use mathlib.Core.Path.{sym, ap, ◌∙◌}
 use native.Mathlib.Omega.{arith}
+use Rattle.definition.specs.Layout.{UnsafeCell}
 use Rattle.layout.proofs.Cells.{fits_more, fits-fails, fits-end}
 use Rattle.layout.proofs.cells_fit.Goals as goal
 
-pub returns-then-start-end : goal.returns-then-start-end
-returns-then-start-end c = let l = c.loop-i in
+pub returns-then-cell-end : goal.returns-then-cell-end
+returns-then-cell-end c = let l = c.loop-word in
     let a = c.args in
-    sym (fits-fails l.end a.size a.cells.now l.i c.loop-i-test.true (omega (arith, c.cell_start-start.ensures))) ∙ l.invariant.1
+    let offset = ap (λ (x : UnsafeCell). x.offset) c.from-cell.ensures in
+    sym (fits-fails l.end a.size a.cells.now l.word-index c.loop-word-test.true (omega (arith, offset))) ∙ l.invariant
 
-pub overflow_add-end : goal.overflow_add-end
-overflow_add-end c = omega (arith, c.cell_start-start.ensures, c.cell_size.ensures, c.type_inv.cells c.loop-i.i)
-
-pub loop-i-preserved : goal.loop-i-preserved
-loop-i-preserved c = let l = c.loop-i in
-    let a = c.args in (
-      omega arith,
-      rw (c.cell_start-start.ensures, c.cell_size.ensures)
-          (sym (fits_more l.end a.size a.cells.now l.i c.loop-i-test.true (omega (arith, c.cell_start-start.ensures))) ∙ l.invariant.1),
-    )
+pub loop-word-preserved : goal.loop-word-preserved
+loop-word-preserved c = let l = c.loop-word in
+    let a = c.args in
+    let offset = ap (λ (x : UnsafeCell). x.offset) c.from-cell.ensures in
+    let size = ap (λ (x : UnsafeCell). x.size) c.from-cell.ensures in
+    rw (offset, size) (sym (fits_more l.end a.size a.cells.now l.word-index c.loop-word-test.true (omega (arith, offset))) ∙ l.invariant)
 
 pub returns : goal.returns
-returns c = sym (fits-end c.loop-i.end c.args.size c.args.cells.now c.loop-i.i (omega arith)) ∙ c.loop-i.invariant.1
+returns c = sym (fits-end c.loop-word.end c.args.size c.args.cells.now c.loop-word.word-index (omega arith)) ∙ c.loop-word.invariant

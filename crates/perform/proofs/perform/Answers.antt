@@ -18,23 +18,23 @@ empty-requires c = (c.requires.0, c.requires.1.0)
 pub in_memory-requires : goal.in_memory-requires
 in_memory-requires c = (c.requires.0, asked c.requires.1.0 c.requires.1.1 (is-alone c.args.q.kind c.in_default.not-Retag c.in_default.not-NewCall c.in_default.not-EndCall c.in_default.not-Empty))
 
-pub returns-in-Retag : goal.returns-in-Retag
-returns-in-Retag c = λ s h formed. left-retag h formed (width_of c.args.width) c.in-Retag.is (c.retag.ensures s (trees h))
+pub returns-in-Retag-clause-left : goal.returns-in-Retag-clause-left
+returns-in-Retag-clause-left c = λ s h formed. left-retag h formed (width_of c.args.run.now.width) c.in-Retag.is (c.retag.ensures s (trees h))
 
-pub returns-in-NewCall : goal.returns-in-NewCall
-returns-in-NewCall c = λ s h formed.
-    left-new-call h formed c.frame_used-f.ensures.0 c.in-NewCall.is (width_of c.args.width) (c.new_call.ensures s (frames h))
+pub returns-in-NewCall-clause-left : goal.returns-in-NewCall-clause-left
+returns-in-NewCall-clause-left c = λ s h formed.
+    left-new-call h formed c.frame_used-f.ensures.0 c.in-NewCall.is (width_of c.args.run.now.width) (c.new_call.ensures s (frames h))
 
-pub returns-in-EndCall : goal.returns-in-EndCall
-returns-in-EndCall c = λ s h formed.
-    left-end-call h formed c.frame_used-f.ensures.0 c.in-EndCall.is (width_of c.args.width) (c.end_call.ensures s (trees h))
+pub returns-in-EndCall-clause-left : goal.returns-in-EndCall-clause-left
+returns-in-EndCall-clause-left c = λ s h formed.
+    left-end-call h formed c.frame_used-f.ensures.0 c.in-EndCall.is (width_of c.args.run.now.width) (c.end_call.ensures s (trees h))
 
-pub returns-in-Empty : goal.returns-in-Empty
-returns-in-Empty c = λ s h formed.
-    left-empty h formed (width_of c.args.width) c.in-Empty.is c.empty.ensures
+pub returns-in-Empty-clause-left : goal.returns-in-Empty-clause-left
+returns-in-Empty-clause-left c = λ s h formed.
+    left-empty h formed (width_of c.args.run.now.width) c.in-Empty.is c.empty.ensures.left
 
-pub returns-in_default : goal.returns-in_default
-returns-in_default c = λ s h formed.
+pub returns-in_default-clause-left : goal.returns-in_default-clause-left
+returns-in_default-clause-left c = λ s h formed.
     let a = c.args in
     let k = is-alone a.q.kind c.in_default.not-Retag c.in_default.not-NewCall c.in_default.not-EndCall c.in_default.not-Empty in
-    left-memory h formed (width_of a.width) k (c.in_memory.ensures s (asked h formed k))
+    left-memory h formed (width_of a.run.now.width) k (c.in_memory.ensures s (asked h formed k))

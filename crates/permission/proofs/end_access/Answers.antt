@@ -12,19 +12,15 @@ use Rattle.permission.proofs.end_access.Goals as goal
 
 -- the arms of single numbers, the last first
 abbrev singles : List (List ℕ)
-singles = (13 ∷ []) ∷ (11 ∷ []) ∷ (8 ∷ 10 ∷ []) ∷ []
+singles = (11 ∷ []) ∷ (8 ∷ 10 ∷ 13 ∷ []) ∷ []
 
 pub returns-in-8 : goal.returns-in-8
 unfolding end_access_code
-returns-in-8 c = keys same_access same-access (λ k. some Read) end_access_code (8 ∷ 10 ∷ []) tt c.args.code c.in-8.is
+returns-in-8 c = keys same_access same-access (λ k. some Read) end_access_code (8 ∷ 10 ∷ 13 ∷ []) tt c.args.code c.in-8.is
 
 pub returns-in-11 : goal.returns-in-11
 unfolding end_access_code
 returns-in-11 c = keys same_access same-access (λ k. some Write) end_access_code (11 ∷ []) tt c.args.code c.in-11.is
-
-pub returns-in-13 : goal.returns-in-13
-unfolding end_access_code
-returns-in-13 c = keys same_access same-access (λ k. some Read) end_access_code (13 ∷ []) tt c.args.code c.in-13.is
 
 pub returns-in_default : goal.returns-in_default
 unfolding end_access_code

@@ -4,8 +4,8 @@ use Rattle.definition.specs.Memory.{allocation_at}
 use Rattle.parts.proofs.Lent.{nodes-ordered, nodes-small, parents-in, codes-in, tree-held, node_in, tree-visited}
 use Rattle.retag.proofs.make_reads.Goals as goal
 
-pub offset_bounds-parents-first : goal.offset_bounds-parents-first
-offset_bounds-parents-first c = let h = c.requires.1.1.0 in omega (arith, nodes-small h, nodes-ordered h)
+pub offset_bounds-parents-t : goal.offset_bounds-parents-t
+offset_bounds-parents-t c = let h = c.requires.1.1.0 in omega (arith, nodes-small h, nodes-ordered h)
 
 pub slice_bounds-make_reads-end : goal.slice_bounds-make_reads-end
 slice_bounds-make_reads-end c = parents-in c.requires.1.1.0

@@ -1,44 +1,23 @@
--- After n turns the first n words and those of the bytes behind them are all words (Words).
-use Prim.Native.Nat.{ℕ, ◌<◌, ◌+◌, ◌-◌}
-use mathlib.Core.List.{[], List, append-nil, ◌++◌}
-use mathlib.Core.Path.{sym, ap, ◌∙◌, ◌≡◌, refl}
-use native.Mathlib.Omega.{arith}
-use lib.Seq.{length-take-le}
-use lib.ListN.{length-set, length-drop, length, take, drop}
+-- The words of the whole chunks are all words (Words).
+use Rattle.std.proofs.Common.{◌≡◌, ◌∙◌, ap, sym, ◌/◌, length, take, arith}
+use Rattle.std.specs.Prelude.{map}
+use Rattle.std.specs.Int.{w32, from_be_bytes}
+use lib.Seq.{take-length}
+use Rattle.std.proofs.lemmas.List.{length-map}
 use Rattle.definition.specs.Run.{words_of}
-use Rattle.stream.proofs.Words.{read_more, rest_more, words-few}
+use Rattle.stream.proofs.Words.{chunk_words}
 use Rattle.stream.proofs.read_words.Goals as goal
 
-pub loop-at-init : goal.loop-at-init
-loop-at-init c = (omega arith, (omega arith, (refl, (refl, refl))))
-
-pub loop-at-preserved : goal.loop-at-preserved
-loop-at-preserved c = let l = c.loop-at in
-    let bytes = c.args.bytes.now in
-    let room : l.n < length l.words = omega arith in (
-      omega arith,
-      (
-        omega arith,
-        (
-          length-set l.words l.n c.word_at.result ∙ l.invariant.1.1.0,
-          (
-            read_more l.n l.words c.args.words.now c.word_at.result room (words_of (drop (l.at + 4) bytes)) (words_of bytes)
-                (ap (λ (ws : List ℕ). take l.n l.words ++ ws) (sym c.word_at.ensures) ∙ l.invariant.1.1.1.0),
-            rest_more l.n l.words c.args.words.now c.word_at.result room l.invariant.1.1.1.1,
-          ),
-        ),
-      ),
-    )
-
 pub returns : goal.returns
-returns c = let l = c.loop-at in
+returns c =
     let bytes = c.args.bytes.now in
-    let d : length (drop l.at bytes) ≡ length bytes - l.at = length-drop l.at bytes in
-    let none : words_of (drop l.at bytes) ≡ [] = words-few (drop l.at bytes) (omega arith) in
-    let whole : take l.n l.words ≡ words_of bytes =
-    sym (ap (λ (ws : List ℕ). take l.n l.words ++ ws) none ∙ append-nil (take l.n l.words)) ∙ l.invariant.1.1.1.0 in
+    let words = c.loop-i.words in
+    let chunks = c.as_chunks.result.0.now in
+    let all : c.loop-i.i ≡ length chunks = omega arith in
+    let whole : map (from_be_bytes w32) chunks ≡ words_of bytes = rw c.as_chunks.ensures.front (chunk_words (length bytes / 4) bytes (omega arith) (omega arith)) in
+    let read : take c.loop-i.i words ≡ map (from_be_bytes w32) (take c.loop-i.i chunks) = c.loop-i.invariant.words in
     record {
-      words = whole;
-      count = sym (length-take-le l.n l.words (omega arith)) ∙ ap length whole;
-      rest = l.invariant.1.1.1.1;
+      words = (rw (all, take-length chunks) at read) ∙ whole;
+      count = sym (length-map chunks (from_be_bytes w32)) ∙ ap length whole;
+      rest = rw all at c.loop-i.invariant.rest;
     }

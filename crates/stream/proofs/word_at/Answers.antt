@@ -10,4 +10,4 @@ use Rattle.stream.proofs.word_at.Goals as goal
 pub returns : goal.returns
 returns c = let bytes = c.args.bytes.now in
     let at = c.args.at in
-    word-at bytes at c.requires ∙ ap (λ (w : ℕ). w ∷ words_of (drop (at + 4) bytes)) (sym c.word_from.ensures)
+    word-at bytes at c.requires ∙ ap (λ (w : ℕ). w ∷ words_of (drop (at + 4) bytes)) (sym c.from_be_bytes.ensures)

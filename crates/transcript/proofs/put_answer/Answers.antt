@@ -1,14 +1,8 @@
 -- As many words as there is room for: the heading's behind the text, and the loaded ones behind the heading.
-use native.Mathlib.Omega.{arith}
 use mathlib.Core.List.{◌++◌}
-use mathlib.Core.Path.{ap}
-use lib.ListN.{length}
 use Rattle.answer.specs.Answer.{answer_of}
 use Rattle.transcript.proofs.Answers.{answer-behind}
 use Rattle.transcript.proofs.put_answer.Goals as goal
-
-pub overflow_cast-loaded : goal.overflow_cast-loaded
-overflow_cast-loaded c = omega (arith, ap length c.loaded_words-loaded.ensures.loaded)
 
 pub returns : goal.returns
 returns c = let a = c.args in

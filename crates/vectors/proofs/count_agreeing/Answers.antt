@@ -1,26 +1,25 @@
 -- One record more is counted (Counting).
-use Rattle.std.proofs.Common.{ℕ, ◌≡◌, ◌<◌, true, length}
-use mathlib.Core.Path.{subst}
-use borrow.Author.Tests.{ltb-true}
-use lib.Dec.{ltb}
-use Rattle.definition.proofs.Booleans.{and_left, and_right}
+use Rattle.std.proofs.Common.{rules, ℕ, subst, arith, sym, ◌∙◌}
 use Rattle.vectors.specs.Sample.{run_of, text_of, Agrees}
-use Rattle.vectors.proofs.Counting.{counting-start, counting-next, counting-over}
+use Rattle.vectors.proofs.Counting.{byte-one, counting-next, counting-gone, counting-end}
 use Rattle.vectors.proofs.count_agreeing.Goals as goal
 
-pub loop-left-init : goal.loop-left-init
-loop-left-init c = counting-start c.args.file.now (length c.args.out.now) c.args.records c.record_at-r.result c.requires.request_len.1.0 c.record_at-r.ensures
-
-pub loop-left-preserved : goal.loop-left-preserved
-loop-left-preserved c =
-    let l = c.loop-left in
-    let r = l.r in
+pub loop-preserved : goal.loop-preserved
+loop-preserved c =
+    let l = c.loop in
+    let r = c.in-Some.r in
     let file = c.args.file.now in
-    let some_left : 0 < l.left = ltb-true 0 l.left (and_left (ltb 0 l.left) r.found c.loop-left-test.true) in
-    let there : r.found ≡ true = and_right (ltb 0 l.left) r.found c.loop-left-test.true in
-    let judged : Agrees (run_of file r) (text_of file r) (length c.args.out.now) c.agrees-same.result =
-    subst (λ (n : ℕ). Agrees (run_of file r) (text_of file r) n c.agrees-same.result) l.auto.out c.agrees-same.ensures in
-    counting-next l.invariant there some_left c.agrees-same.result judged c.one_if-agree.result c.one_if-agree.ensures c.record_at-r-in-loop-left.result c.record_at-r-in-loop-left.ensures
+    let same = c.agrees-same.result in
+    let judged = subst (λ (n : ℕ). Agrees (run_of file r) (text_of file r) n same) l.auto.out c.agrees-same.ensures.agrees in
+    record {
+      counting = counting-next l.invariant.counting c.loop-test.true (sym c.in-Some.ensures.at) judged (c.from-agree.ensures ∙ byte-one same);
+      inside = c.in-Some.ensures.inside.1.1;
+      lengths = c.agrees-same.ensures.lengths;
+      same = search rules;
+    }
 
-pub returns : goal.returns
-returns c = counting-over c.loop-left.invariant c.loop-left-test.false
+pub returns-after-loop-clause-counted : goal.returns-after-loop-clause-counted
+returns-after-loop-clause-counted c = counting-end c.loop.invariant.counting (omega arith)
+
+pub returns-in_default-clause-counted : goal.returns-in_default-clause-counted
+returns-in_default-clause-counted c = counting-gone c.loop.invariant.counting c.loop-test.true (sym c.in_default.ensures.at)

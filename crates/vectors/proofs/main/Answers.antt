@@ -1,10 +1,7 @@
--- The two large buffers are as long as they say. (Left to a search, their zeros would be counted out.)
+-- The large buffer is as long as it says. (Left to a search, its zeros would be counted out.)
 use Rattle.std.proofs.Common.{ℕ, sym}
 use lib.ListN.{length-replicate}
 use Rattle.vectors.proofs.main.Goals as goal
 
-pub slice_bounds-replay_input-end-7 : goal.slice_bounds-replay_input-end-7
-slice_bounds-replay_input-end-7 c = sym (length-replicate {A = ℕ} 1048576 0)
-
-pub slice_bounds-replay_input-end-9 : goal.slice_bounds-replay_input-end-9
-slice_bounds-replay_input-end-9 c = sym (length-replicate {A = ℕ} 262144 0)
+pub slice_bounds-replay_input-end : goal.slice_bounds-replay_input-end
+slice_bounds-replay_input-end c = sym (length-replicate {A = ℕ} 1048576 0)

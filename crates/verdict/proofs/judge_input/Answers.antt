@@ -1,17 +1,15 @@
 -- From the empty state all turns are made, and then the memory is written (Turns).
-use Rattle.std.proofs.Common.{◌∙◌}
-use Rattle.tables.specs.Held.{buffers}
-use Rattle.verdict.proofs.Turns.{well-formed, printed-whole}
+use Rattle.std.proofs.Common.{arith}
+use mathlib.Core.Path.{subst⁻¹}
+use Rattle.verdict.specs.declared.Progress.{Progress}
+use Rattle.verdict.specs.Came.{IsPrinted}
+use Rattle.verdict.proofs.Turns.{well-formed, printed}
 use Rattle.verdict.proofs.judge_input.Goals as goal
 
 pub finish-requires-clause-well_formed : goal.finish-requires-clause-well_formed
-finish-requires-clause-well_formed c =
-    let t = c.take_turns-p in
-    well-formed t.result t.new.input t.new.out (buffers t.new.allocs t.new.parents t.new.protectors t.new.words t.new.codes) t.new.frames t.result.failed t.ensures
+finish-requires-clause-well_formed c = well-formed c.in_ok-p.ensures.made
 
-pub returns : goal.returns
-returns c =
-    let t = c.take_turns-p in
-    let f = c.finish in
-    printed-whole t.result t.new.input t.new.out (buffers t.new.allocs t.new.parents t.new.protectors t.new.words t.new.codes) t.new.frames t.ensures
-    (t.auto.out ∙ c.requires.request_len.1.1) f.result f.new.out f.ensures.value f.ensures.written
+pub returns-clause-printed : goal.returns-clause-printed
+returns-clause-printed c =
+    let made = c.in_ok-p.ensures.made in
+    subst⁻¹ (λ (p : Progress). IsPrinted p c.finish.new.out) c.finish.ensures.value (printed made (omega (arith, made.came.ready.short)) c.finish.ensures.written)

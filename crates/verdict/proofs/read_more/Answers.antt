@@ -10,8 +10,8 @@ returns c =
     let kept : ℕ = c.move_to_front-kept.result in
     let front : List ℕ = c.move_to_front-kept.new.bytes in
     let room : ℕ = length front - kept in
-    let input : List ℕ = put_mid kept room front c.read.new.buf in
+    let input : List ℕ = put_mid kept room front c.read_bytes.new.bytes in
     let inside : kept ≤ length front = omega arith in
-    let fits : kept + c.in-Ok.n ≤ length input = simp (length-append, length-take) (omega (arith, c.in-Ok.ensures.bound.0)) in
-    has-read c.args.p c.args.input.now c.requires.ready.0 kept c.in-Ok.n front input c.move_to_front-kept.ensures.0 c.move_to_front-kept.ensures.1
-    (take-put_mid_below kept room front c.read.new.buf kept (omega arith) inside) fits
+    let fits : kept + c.in_ok-n.n ≤ length input = simp (length-append, length-take) (omega (arith, c.in_ok-n.ensures)) in
+    has-read c.args.p c.args.input.now c.requires.ready kept c.in_ok-n.n front input c.move_to_front-kept.ensures.0 c.move_to_front-kept.ensures.1
+    (take-put_mid_below kept room front c.read_bytes.new.bytes kept (omega arith) inside) fits

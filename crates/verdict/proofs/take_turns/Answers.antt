@@ -1,25 +1,16 @@
 -- Each turn that was made counts (Turns).
-use Rattle.std.proofs.Common.{◌≡◌, ◌<◌, ◌∙◌, true, sym, ap, Bool, arith}
-use mathlib.Core.Bool.{◌&&◌}
-use borrow.Author.Tests.{ltb-true}
-use lib.Dec.{ltb}
-use Rattle.definition.proofs.Booleans.{and_left, and_right}
-use Rattle.verdict.specs.Progress.{goes_on}
-use Rattle.verdict.proofs.Turns.{going, going_start, going-again, turns-made}
+use Rattle.std.proofs.Common.{rules, sym, ◌∙◌, arith}
+use Rattle.verdict.proofs.Turns.{going-start, going-next, all-made}
 use Rattle.verdict.proofs.take_turns.Goals as goal
 
-pub loop-turns-init : goal.loop-turns-init
-loop-turns-init c = λ _. going_start _ c.args.input.now c.args.out.now c.requires.holds_state (omega arith)
+pub loop-init : goal.loop-init
+loop-init c = record { going = going-start c.args.input.now c.args.out.now c.requires.holds; same = search rules }
 
-pub loop-turns-preserved : goal.loop-turns-preserved
-loop-turns-preserved c =
-    let l = c.loop-turns in
-    let some_turn : 0 < l.turns = ltb-true 0 l.turns (and_left (ltb 0 l.turns) c.goes_on.result c.loop-turns-test.true) in
-    let goes : goes_on l.p ≡ true = sym c.goes_on.ensures ∙ and_right (ltb 0 l.turns) c.goes_on.result c.loop-turns-test.true in
-    let so_far = l.invariant (going l.p goes).0 in
-    going-again so_far some_turn goes c.turn-p.result.failed (c.turn-p.ensures so_far.bytes so_far.written so_far.came)
+pub loop-preserved : goal.loop-preserved
+loop-preserved c =
+    let g = c.loop.invariant.going in
+    let made = c.in_ok-p.ensures.made g.bytes g.written g.came in
+    record { going = going-next g (sym c.goes_on.ensures ∙ c.if-not-goes_on.false) made; same = search rules }
 
-pub returns : goal.returns
-returns c =
-    let l = c.loop-turns in
-    turns-made l.p.failed l.invariant (ap (λ (t : Bool). ltb 0 l.turns && t) (sym c.goes_on.ensures) ∙ c.loop-turns-test.false)
+pub returns-after-loop-clause-made : goal.returns-after-loop-clause-made
+returns-after-loop-clause-made c = all-made c.loop.invariant.going (λ _. omega arith)

@@ -1,10 +1,12 @@
 -- Each return is the test with what precedes it decided; what the test decides is `decides`.
 use Prim.Native.Nat.{ℕ}
 use mathlib.Core.Bool.{not, false, ◌&&◌}
-use mathlib.Core.Path.{◌≡◌, sym, ap, ◌∙◌}
+use mathlib.Core.List.{List}
+use mathlib.Core.Path.{◌≡◌, sym}
 use native.Mathlib.Omega.{arith}
 use borrow.Author.Tests.{eq-eqb, ne_eqb}
-use Rattle.tables.specs.Encoding.{Buffers}
+use lib.ListN.{length}
+use Rattle.std.proofs.Common.{◌⊎◌, inl, inr}
 use Rattle.tables.specs.Held.{buffers}
 use Rattle.tables.specs.Decoding.{made_in}
 use Rattle.wellformed.proofs.Complete.{decided}
@@ -12,50 +14,43 @@ use Rattle.wellformed.proofs.Sound.{made-small}
 use Rattle.wellformed.specs.WellFormed.{any_clash, bad_allocations, well_formed}
 use Rattle.wellformed.proofs.well_formed.Goals as goal
 
+module _ (A P R W C : List ℕ) where
+  -- one of the five has another length
+  short : (length A ≡ 1152 → ⊥)
+      ⊎ (((length A ≡ 1152) × (length P ≡ 1024 → ⊥))
+      ⊎ (((length A ≡ 1152) × (length P ≡ 1024) × (length R ≡ 1024 → ⊥))
+      ⊎ (((length A ≡ 1152) × (length P ≡ 1024) × (length R ≡ 1024) × (length W ≡ 4096 → ⊥))
+      ⊎ ((length A ≡ 1152) × (length P ≡ 1024) × (length R ≡ 1024) × (length W ≡ 4096) × (length C ≡ 32768 → ⊥)))))
+      → well_formed (buffers A P R W C) ≡ false
+  unfolding well_formed
+  short (inl n) = rw (ne_eqb _ _ n)
+  short (inr (inl (a, n))) = rw (eq-eqb _ _ a, ne_eqb _ _ n)
+  short (inr (inr (inl (a, p, n)))) = rw (eq-eqb _ _ a, eq-eqb _ _ p, ne_eqb _ _ n)
+  short (inr (inr (inr (inl (a, p, r, n))))) = rw (eq-eqb _ _ a, eq-eqb _ _ p, eq-eqb _ _ r, ne_eqb _ _ n)
+  short (inr (inr (inr (inr (a, p, r, w, n))))) = rw (eq-eqb _ _ a, eq-eqb _ _ p, eq-eqb _ _ r, eq-eqb _ _ w, ne_eqb _ _ n)
+
+  -- none has, and so many allocations were made
+  whole : length A ≡ 1152 → length P ≡ 1024 → length R ≡ 1024 → length W ≡ 4096 → length C ≡ 32768 → (made : ℕ) → made ≡ made_in 128 A
+      → not (any_clash made A) && not (bad_allocations made 0 0 0 A P R W C) ≡ well_formed (buffers A P R W C)
+  unfolding well_formed
+  whole a p r w c made m = rw (m, eq-eqb _ _ a, eq-eqb _ _ p, eq-eqb _ _ r, eq-eqb _ _ w, eq-eqb _ _ c)
+
 pub returns-then-allocs-ne1152 : goal.returns-then-allocs-ne1152
-unfolding well_formed
-returns-then-allocs-ne1152 c = decided false _ (sym (rw (ne_eqb _ _ c.if-allocs-ne1152.true)))
-
-pub returns-then-parents-ne1024 : goal.returns-then-parents-ne1024
-unfolding well_formed
-returns-then-parents-ne1024 c = decided false _ (sym (rw (eq-eqb _ _ c.if-allocs-ne1152.false, ne_eqb _ _ c.if-parents-ne1024.true)))
-
-pub returns-then-protectors-ne1024 : goal.returns-then-protectors-ne1024
-unfolding well_formed
-returns-then-protectors-ne1024 c = decided false _ (sym (rw (eq-eqb _ _ c.if-allocs-ne1152.false, eq-eqb _ _ c.if-parents-ne1024.false, ne_eqb _ _ c.if-protectors-ne1024.true)))
-
-pub returns-then-words-ne4096 : goal.returns-then-words-ne4096
-unfolding well_formed
-returns-then-words-ne4096 c = decided false _ (sym (rw (eq-eqb _ _ c.if-allocs-ne1152.false, eq-eqb _ _ c.if-parents-ne1024.false, eq-eqb _ _ c.if-protectors-ne1024.false, ne_eqb _ _ c.if-words-ne4096.true)))
-
-pub returns-then-codes-ne32768 : goal.returns-then-codes-ne32768
-unfolding well_formed
-returns-then-codes-ne32768 c = decided false _ (sym (rw (eq-eqb _ _ c.if-allocs-ne1152.false, eq-eqb _ _ c.if-parents-ne1024.false, eq-eqb _ _ c.if-protectors-ne1024.false, eq-eqb _ _ c.if-words-ne4096.false, ne_eqb _ _ c.if-codes-ne32768.true)))
+returns-then-allocs-ne1152 c = let a = c.args in
+    decided false _ (sym (short a.allocs.now a.parents.now a.protectors.now a.words.now a.codes.now c.then-allocs-ne1152.either))
 
 pub any_clash-requires : goal.any_clash-requires
-any_clash-requires c = let given : Buffers = let a = c.args in buffers a.allocs.now a.parents.now a.protectors.now a.words.now a.codes.now in
-    omega (arith, made-small 128 given.allocs)
-
-pub returns-then-any_clash : goal.returns-then-any_clash
-unfolding well_formed
-returns-then-any_clash c = let given : Buffers = let a = c.args in buffers a.allocs.now a.parents.now a.protectors.now a.words.now a.codes.now in
-    let others : let b = given in
-    let made = made_in 128 b.allocs in
-    well_formed b ≡ not (any_clash made b.allocs) && not (bad_allocations made 0 0 0 b.allocs b.parents b.protectors b.words b.codes) = rw (eq-eqb _ _ c.if-allocs-ne1152.false, eq-eqb _ _ c.if-parents-ne1024.false, eq-eqb _ _ c.if-protectors-ne1024.false, eq-eqb _ _ c.if-words-ne4096.false, eq-eqb _ _ c.if-codes-ne32768.false) in
-    let clash : let b = given in any_clash (made_in 128 b.allocs) b.allocs ≡ c.any_clash.result = ap (λ (k : ℕ). any_clash k given.allocs) (sym c.made_count-count.ensures) ∙ sym c.any_clash.ensures in
-    decided false _ (sym (others ∙ rw (clash ∙ c.if-any_clash.true)))
+any_clash-requires c = omega (arith, made-small 128 c.args.allocs.now)
 
 pub bad_allocations-requires : goal.bad_allocations-requires
-bad_allocations-requires c = let given : Buffers = let a = c.args in buffers a.allocs.now a.parents.now a.protectors.now a.words.now a.codes.now in
-    (omega (arith, made-small 128 given.allocs), (omega arith, omega arith))
+bad_allocations-requires c = (omega (arith, made-small 128 c.args.allocs.now), (omega arith, omega arith))
 
-pub returns : goal.returns
-unfolding well_formed
-returns c = let given : Buffers = let a = c.args in buffers a.allocs.now a.parents.now a.protectors.now a.words.now a.codes.now in
-    let others : let b = given in
-    let made = made_in 128 b.allocs in
-    well_formed b ≡ not (any_clash made b.allocs) && not (bad_allocations made 0 0 0 b.allocs b.parents b.protectors b.words b.codes) = rw (eq-eqb _ _ c.if-allocs-ne1152.false, eq-eqb _ _ c.if-parents-ne1024.false, eq-eqb _ _ c.if-protectors-ne1024.false, eq-eqb _ _ c.if-words-ne4096.false, eq-eqb _ _ c.if-codes-ne32768.false) in
-    let clash : let b = given in any_clash (made_in 128 b.allocs) b.allocs ≡ c.any_clash.result = ap (λ (k : ℕ). any_clash k given.allocs) (sym c.made_count-count.ensures) ∙ sym c.any_clash.ensures in
-    let b = given in
-    let bad = ap (λ (k : ℕ). bad_allocations k 0 0 0 b.allocs b.parents b.protectors b.words b.codes) (sym c.made_count-count.ensures) ∙ sym c.bad_allocations.ensures in
-    decided _ b (sym (others ∙ rw (clash ∙ c.if-any_clash.false) (ap not bad)))
+pub returns-then-not-any_clash : goal.returns-then-not-any_clash
+returns-then-not-any_clash c = let a = c.args in
+    decided _ _
+    (rw (c.bad_allocations.ensures, ← whole a.allocs.now a.parents.now a.protectors.now a.words.now a.codes.now c.if-allocs-ne1152.false c.if-parents-ne1024.false c.if-protectors-ne1024.false c.if-words-ne4096.false c.if-codes-ne32768.false c.made_count-count.result c.made_count-count.ensures, ← c.any_clash.ensures, c.if-not-any_clash.true))
+
+pub returns-else-not-any_clash : goal.returns-else-not-any_clash
+returns-else-not-any_clash c = let a = c.args in
+    decided _ _
+    (rw (← whole a.allocs.now a.parents.now a.protectors.now a.words.now a.codes.now c.if-allocs-ne1152.false c.if-parents-ne1024.false c.if-protectors-ne1024.false c.if-words-ne4096.false c.if-codes-ne32768.false c.made_count-count.result c.made_count-count.ensures, ← c.any_clash.ensures, c.if-not-any_clash.false))

@@ -1,37 +1,35 @@
 -- The bytes up to the end of the request are its words, or those that are left (Runs).
-use Prim.Native.Nat.{ℕ, ◌+◌, ◌-◌, min}
-use mathlib.Core.Path.{◌≡◌, refl, ap, ◌∙◌}
-use lib.ListN.{length, take, drop, length-take}
+use Rattle.std.proofs.Common.{ℕ, ◌+◌, ◌-◌, ◌≡◌, min, ap, ◌∙◌, refl, arith, length, take, drop, length-take}
 use Rattle.definition.specs.Run.{words_of}
 use Rattle.judge.specs.Turn.{request_end}
 use Rattle.judge.proofs.Decoding.{head-part, head-long}
 use Rattle.judge.proofs.Runs.{request-bytes, size-most, taken}
-use native.Mathlib.Omega.{arith}
 use Rattle.judge.proofs.turn.next.Goals as goal
+use Rattle.judge.proofs.turn.next.Goals.{After-min}
 
-pub answer_bytes-answered-requires : goal.answer_bytes-answered-requires
-answer_bytes-answered-requires c = let ends : let a = c.args in c.request_end-end.result ≡ request_end a.run.now a.p.from = let from = c.args.p.from in
-    c.request_end-end.ensures ∙ ap (λ (k : ℕ). from + min k (length c.args.run.now - from)) c.requires.cut_of.size in
-    let run = c.args.run.now in
+-- the cut is of the next request
+ends : (c : After-min) → c.args.p.from + c.min.result ≡ request_end c.args.bytes.now c.args.p.from
+ends c =
     let from = c.args.p.from in
-    let end = ends in record {
-      holds_run = c.requires.holds_run;
-      line_room_in_bounds = (
-        c.requires.line_room_in_bounds.0,
-        (
-          omega (arith, c.requires.line_room_in_bounds.1.0, end, size-most (drop from run), length-take (c.request_end-end.result - from) (drop from run)),
-          λ long. head-part (drop from run) (c.request_end-end.result - from) c.args.cut.fields long (c.requires.cut_of.fields (head-long (drop from run) (c.request_end-end.result - from) long)),
-        ),
-      );
-    }
+    ap (λ (n : ℕ). from + n) c.min.ensures ∙ ap (λ (n : ℕ). from + min n (length c.args.bytes.now - from)) c.requires.cut_of.size
 
-pub overflow_add-result : goal.overflow_add-result
-overflow_add-result c = omega (arith, c.requires.line_room_in_bounds.1.1.1)
-
-pub returns : goal.returns
-returns c = let ends : let a = c.args in c.request_end-end.result ≡ request_end a.run.now a.p.from = let from = c.args.p.from in
-    c.request_end-end.ensures ∙ ap (λ (k : ℕ). from + min k (length c.args.run.now - from)) c.requires.cut_of.size in
-    λ state h.
-    let run = c.args.run.now in
+pub answer_bytes-line-requires-clause-room : goal.answer_bytes-line-requires-clause-room
+answer_bytes-line-requires-clause-room c =
     let from = c.args.p.from in
-    taken (ap (λ (e : ℕ). words_of (take (e - from) (drop from run))) (ends) ∙ ap words_of (request-bytes run from (omega (arith, c.requires.line_room_in_bounds.1.1.0)))) (c.answer_bytes-answered.ensures state h) (ends) refl
+    let bytes = c.args.bytes.now in
+    omega (arith, ends (goal.at.answer_bytes-line-requires-clause-room c).After-min, size-most (drop from bytes), length-take (from + c.min.result - from) (drop from bytes))
+
+pub answer_bytes-line-requires-clause-head : goal.answer_bytes-line-requires-clause-head
+answer_bytes-line-requires-clause-head c = λ long.
+    let from = c.args.p.from in
+    let ahead = drop from c.args.bytes.now in
+    let size = from + c.min.result - from in
+    head-part ahead size c.args.cut.fields long (c.requires.cut_of.fields (head-long ahead size long))
+
+pub returns-clause-taken : goal.returns-clause-taken
+returns-clause-taken c = λ state h.
+    let from = c.args.p.from in
+    let bytes = c.args.bytes.now in
+    let end = ends (goal.at.returns-clause-taken c).After-min in
+    taken (ap (λ (e : ℕ). words_of (take (e - from) (drop from bytes))) end ∙ ap words_of (request-bytes bytes from (omega arith)))
+    (c.answer_bytes-line.ensures.turned state h) end refl

@@ -8,12 +8,13 @@ use Rattle.library.proofs.Performed.{deallocated}
 use Rattle.library.proofs.deallocate.deallocate.Goals as goal
 
 pub returns-then-not-well_formed_at : goal.returns-then-not-well_formed_at
-returns-then-not-well_formed_at c = not-formed _ _ _ _ _ (sym c.well_formed_at.ensures ∙ c.if-not-well_formed_at.true)
+returns-then-not-well_formed_at c = rw c.from.ensures (not-formed _ _ _ _ _ (sym c.well_formed_at.ensures ∙ c.if-not-well_formed_at.true))
 
 pub returns-then-bad_allocation : goal.returns-then-bad_allocation
 returns-then-bad_allocation c =
-    bad-field _ _ _ _ _ (sym c.well_formed_at.ensures ∙ c.if-not-well_formed_at.false)
-    (sym c.bad_allocation.ensures ∙ c.if-bad_allocation.true)
+    rw c.from-then-bad_allocation.ensures
+    (bad-field _ _ _ _ _ (sym c.well_formed_at.ensures ∙ c.if-not-well_formed_at.false)
+    (sym c.bad_allocation.ensures ∙ c.if-bad_allocation.true))
 
 pub deallocate-requires : goal.deallocate-requires
 deallocate-requires c = let formed = sym c.well_formed_at.ensures ∙ c.if-not-well_formed_at.false in

@@ -7,12 +7,13 @@ use Rattle.library.proofs.Performed.{dereferenced}
 use Rattle.library.proofs.dereferenceable.dereferenceable.Goals as goal
 
 pub returns-then-not-well_formed_at : goal.returns-then-not-well_formed_at
-returns-then-not-well_formed_at c = not-formed _ _ _ _ _ (sym c.well_formed_at.ensures ∙ c.if-not-well_formed_at.true)
+returns-then-not-well_formed_at c = rw c.from.ensures (not-formed _ _ _ _ _ (sym c.well_formed_at.ensures ∙ c.if-not-well_formed_at.true))
 
 pub returns-then-bad_address : goal.returns-then-bad_address
 returns-then-bad_address c =
-    bad-field _ _ _ _ _ (sym c.well_formed_at.ensures ∙ c.if-not-well_formed_at.false)
-    (sym c.bad_address.ensures ∙ c.if-bad_address.true)
+    rw c.from-then-bad_address.ensures
+    (bad-field _ _ _ _ _ (sym c.well_formed_at.ensures ∙ c.if-not-well_formed_at.false)
+    (sym c.bad_address.ensures ∙ c.if-bad_address.true))
 
 pub dereferenceable-requires : goal.dereferenceable-requires
 dereferenceable-requires c = (_, holds-records (sound-at _ _ (sym c.well_formed_at.ensures ∙ c.if-not-well_formed_at.false)))

@@ -8,12 +8,13 @@ use Rattle.library.proofs.Performed.{loaded}
 use Rattle.library.proofs.load.load.Goals as goal
 
 pub returns-then-not-well_formed_at : goal.returns-then-not-well_formed_at
-returns-then-not-well_formed_at c = not-formed _ _ _ _ _ (sym c.well_formed_at.ensures ∙ c.if-not-well_formed_at.true)
+returns-then-not-well_formed_at c = rw c.from.ensures (not-formed _ _ _ _ _ (sym c.well_formed_at.ensures ∙ c.if-not-well_formed_at.true))
 
 pub returns-then-bad_load : goal.returns-then-bad_load
 returns-then-bad_load c =
-    bad-field _ _ _ _ _ (sym c.well_formed_at.ensures ∙ c.if-not-well_formed_at.false)
-    (sym c.bad_load.ensures ∙ c.if-bad_load.true)
+    rw c.from-then-bad_load.ensures
+    (bad-field _ _ _ _ _ (sym c.well_formed_at.ensures ∙ c.if-not-well_formed_at.false)
+    (sym c.bad_load.ensures ∙ c.if-bad_load.true))
 
 pub load-requires : goal.load-requires
 load-requires c = let formed = sym c.well_formed_at.ensures ∙ c.if-not-well_formed_at.false in

@@ -8,12 +8,13 @@ use Rattle.library.proofs.Performed.{stored}
 use Rattle.library.proofs.store.store.Goals as goal
 
 pub returns-then-not-well_formed_at : goal.returns-then-not-well_formed_at
-returns-then-not-well_formed_at c = not-formed _ _ _ _ _ (sym c.well_formed_at.ensures ∙ c.if-not-well_formed_at.true)
+returns-then-not-well_formed_at c = rw c.from.ensures (not-formed _ _ _ _ _ (sym c.well_formed_at.ensures ∙ c.if-not-well_formed_at.true))
 
 pub returns-then-bad_store : goal.returns-then-bad_store
 returns-then-bad_store c =
-    bad-field _ _ _ _ _ (sym c.well_formed_at.ensures ∙ c.if-not-well_formed_at.false)
-    (sym c.bad_store.ensures ∙ c.if-bad_store.true)
+    rw c.from-then-bad_store.ensures
+    (bad-field _ _ _ _ _ (sym c.well_formed_at.ensures ∙ c.if-not-well_formed_at.false)
+    (sym c.bad_store.ensures ∙ c.if-bad_store.true))
 
 pub store-requires : goal.store-requires
 store-requires c = let formed = sym c.well_formed_at.ensures ∙ c.if-not-well_formed_at.false in

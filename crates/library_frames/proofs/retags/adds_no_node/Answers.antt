@@ -2,5 +2,5 @@
 use Rattle.library_frames.proofs.Fields.{unpin-flag}
 use Rattle.library_frames.proofs.retags.adds_no_node.Goals as goal
 
-pub returns : goal.returns
-returns c = rw (unpin-flag c.args.settings)
+pub returns-then-settings-eq1 : goal.returns-then-settings-eq1
+returns-then-settings-eq1 c = rw (unpin-flag c.args.settings, c.if-settings-eq1.true)

@@ -5,7 +5,7 @@ use native.Mathlib.Omega.{arith}
 use Rattle.definition.specs.Request.{adds_no_node}
 use Rattle.pointer.specs.Pointer.{thin_pointer_of}
 use Rattle.layout.specs.Filled.{afterwards}
-use Rattle.layout.proofs.Answers.{HasMask, answers_of, answers-none, answers-right}
+use Rattle.layout.proofs.Answers.{HasMask, answers_of, answers-none}
 use Rattle.parts.proofs.Lent.{records-of}
 use Rattle.library_frames.specs.Settings.{fields_of}
 use Rattle.library_frames.proofs.Masks.{blank, blank-length, performed-mask, performed-none, performed-same, performed-node}
@@ -21,24 +21,22 @@ returns-then-adds_no_node c = let t = c.args in
     held.trees
 
 pub reborrow-requires : goal.reborrow-requires
-reborrow-requires c = let has-mask : let layout = c.args.layout.now in HasMask layout blank (afterwards layout blank) c.in-Of.len = answers_of c.args.layout.now blank blank-length _ (sym c.in-Of.is ∙ c.freeze_mask-found.ensures.0) in
-    record { holds_marked = c.requires; len_in_bounds = omega (arith, (has-mask).bound, c.freeze_mask-found.auto.mask, blank-length) }
+reborrow-requires c = let has-mask : let layout = c.args.layout.now in HasMask layout blank (afterwards layout blank) c.in-Ok.len = answers_of c.args.layout.now blank blank-length _ (sym c.in-Ok.is ∙ c.freeze_mask.ensures.0) in
+    record { holds_marked = c.requires; len_in_bounds = omega (arith, (has-mask).bound, c.freeze_mask.auto.mask, blank-length) }
 
-pub returns-in-Of : goal.returns-in-Of
-returns-in-Of c = let adds : adds_no_node (fields_of c.args.settings) ≡ false = sym c.adds_no_node.ensures ∙ c.if-adds_no_node.false in
-    let has-mask : let layout = c.args.layout.now in HasMask layout blank (afterwards layout blank) c.in-Of.len = answers_of c.args.layout.now blank blank-length _ (sym c.in-Of.is ∙ c.freeze_mask-found.ensures.0) in
+pub returns-in-Ok : goal.returns-in-Ok
+returns-in-Ok c = let adds : adds_no_node (fields_of c.args.settings) ≡ false = sym c.adds_no_node.ensures ∙ c.if-adds_no_node.false in
+    let has-mask : let layout = c.args.layout.now in HasMask layout blank (afterwards layout blank) c.in-Ok.len = answers_of c.args.layout.now blank blank-length _ (sym c.in-Ok.is ∙ c.freeze_mask.ensures.0) in
     let t = c.args in
     λ s held count.
     performed-node t.settings (thin_pointer_of t.p) t.layout.now s (adds)
-    (performed-mask t.settings (thin_pointer_of t.p) t.layout.now s c.reborrow_settings-w.result c.reborrow_settings-w.ensures blank _ (has-mask) _ c.freeze_mask-found.ensures.1
+    (performed-mask t.settings (thin_pointer_of t.p) t.layout.now s c.reborrow_settings-w.result c.reborrow_settings-w.ensures blank _ (has-mask) _ c.freeze_mask.ensures.1
     (c.reborrow.ensures.retagged s 0 held count))
 
-pub returns-in-None : goal.returns-in-None
-returns-in-None c = let adds : adds_no_node (fields_of c.args.settings) ≡ false = sym c.adds_no_node.ensures ∙ c.if-adds_no_node.false in
+pub returns-in-Err : goal.returns-in-Err
+returns-in-Err c = let adds : adds_no_node (fields_of c.args.settings) ≡ false = sym c.adds_no_node.ensures ∙ c.if-adds_no_node.false in
     let t = c.args in
     λ s held count.
-    performed-node t.settings (thin_pointer_of t.p) t.layout.now s (adds)
-    (performed-none t.settings (thin_pointer_of t.p) t.layout.now s (answers-none t.layout.now blank blank-length (sym c.in-None.is ∙ c.freeze_mask-found.ensures.0)) held.trees)
-
-pub returns-in-WrongLength : goal.returns-in-WrongLength
-returns-in-WrongLength c = λ s held count. absurd (answers-right c.args.layout.now blank blank-length (sym c.in-WrongLength.is ∙ c.freeze_mask-found.ensures.0))
+    rw c.from.ensures
+    (performed-node t.settings (thin_pointer_of t.p) t.layout.now s (adds)
+    (performed-none t.settings (thin_pointer_of t.p) t.layout.now s (answers-none t.layout.now blank blank-length _ (sym c.in-Err.is ∙ c.freeze_mask.ensures.0)) held.trees))

@@ -1,23 +1,32 @@
--- The access, and what is left of a store.
-use mathlib.Core.List.{List}
+-- A refusal leaves the words; else the pasted bytes are the words of the memory that the definition leaves.
 use Prim.Native.Nat.{ℕ}
+use mathlib.Core.Path.{refl, ap, ◌∙◌}
+use native.Mathlib.Omega.{arith}
+use lib.ListN.{length}
+use lib.Seq.{paste}
+use Rattle.refusal.proofs.Numbers.{number_positive}
 use Rattle.pointer.specs.Pointer.{thin_pointer_of}
-use Rattle.definition.specs.Memory.{Memory}
-use Rattle.memory.specs.Access.{store_of, Made}
-use Rattle.memory.specs.Buffers.{HoldsWords}
+use Rattle.tables.proofs.Sizes.{words-fit}
+use Rattle.tables.proofs.Focus.{length-held}
+use Rattle.tables.specs.Encoding.{words_of}
+use Rattle.memory.specs.Access.{store_of}
+use Rattle.memory.proofs.LoadStore.{accessed-checked, words-in, store-refused, store-accepted}
 use Rattle.memory.proofs.access.store.Goals as goal
 
-pub stored-requires : goal.stored-requires
-stored-requires c = let codes-after : List ℕ = c.access-done.new.codes in
-    let made : (m : Memory) → HoldsWords m c.args.allocs.now c.args.parents.now c.args.words.now c.args.codes.now
-    → Made (store_of (thin_pointer_of c.args.p) c.args.bytes.now c.args.exponent) m c.access-done.result.refusal c.access-done.result.start (codes-after) = λ m h. record { valid = h.trees.records.valid; accessed = c.access-done.ensures.accessed m c.args.bytes.now h.trees; at = c.access-done.ensures.start_value m h.trees } in
+pub put_words-requires : goal.put_words-requires
+put_words-requires c =
     let (m, h) = c.requires.holds_words in
-    (thin_pointer_of c.args.p, (c.args.exponent, (m, (_, (made m h, h.words)))))
-
-pub returns : goal.returns
-returns c = let codes-after : List ℕ = c.access-done.new.codes in
-    let made : (m : Memory) → HoldsWords m c.args.allocs.now c.args.parents.now c.args.words.now c.args.codes.now
-    → Made (store_of (thin_pointer_of c.args.p) c.args.bytes.now c.args.exponent) m c.access-done.result.refusal c.access-done.result.start (codes-after) = λ m h. record { valid = h.trees.records.valid; accessed = c.access-done.ensures.accessed m c.args.bytes.now h.trees; at = c.access-done.ensures.start_value m h.trees } in
-    λ m h.
     let a = c.args in
-    c.stored.ensures (thin_pointer_of a.p) a.exponent m _ (made m h) h.words
+    let checked = accessed-checked (store_of (thin_pointer_of a.p) a.bytes.now a.exponent) m (c.in-Ok.ensures.accessed m a.bytes.now h.trees) refl in
+    omega (arith, c.in-Ok.ensures.start_value m h.trees, words-in h.trees.records.valid checked, ap length h.words ∙ length-held 4096 words_of m (words-fit m h.trees.records.valid))
+
+pub returns-in-Ok : goal.returns-in-Ok
+returns-in-Ok c = λ m h.
+    let a = c.args in
+    store-accepted _ a.bytes.now a.exponent h.trees.records.valid h.words 0 refl (c.in-Ok.ensures.accessed m a.bytes.now h.trees)
+    (c.put_words.ensures ∙ ap (λ (n : ℕ). paste a.words.now n a.bytes.now (length a.bytes.now)) (c.in-Ok.ensures.start_value m h.trees))
+
+pub returns-in-Err : goal.returns-in-Err
+returns-in-Err c = λ m h.
+    rw c.from.ensures
+    (store-refused _ c.args.bytes.now _ h.trees.records.valid h.words _ (λ z. omega (arith, z, number_positive c.in-Err.refusal)) (c.in-Err.ensures.accessed m c.args.bytes.now h.trees))

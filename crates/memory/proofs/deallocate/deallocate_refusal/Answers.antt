@@ -14,7 +14,7 @@ pub returns : goal.returns
 unfolding refusal_through
 returns c = λ m A h q.
     let a = c.args in
-    let t : Provenance = record { allocation = a.allocation; node = a.node } in
+    let t : Provenance = record { allocation = a.provenance.allocation; node = a.provenance.node } in
     let e = sym (c.never_made.ensures m A h q) ∙ c.if-never_made.false in
     let made = (made-node m t e).made in
     rw e (record-read h made (q ∙ target-record h t made) a.addr a.kind a.len a.exponent c.record_refusal.ensures)

@@ -5,5 +5,5 @@ use Rattle.perform.proofs.emptying.empty.Goals as goal
 pub clear-requires : goal.clear-requires
 clear-requires c = long-enough c.requires.1
 
-pub returns : goal.returns
-returns c = emptied c.clear.ensures
+pub returns-clause-left : goal.returns-clause-left
+returns-clause-left c = emptied c.clear.ensures.held

@@ -1,5 +1,5 @@
 -- Each arm knows its kind, and the core's outcome is the definition's at the request's fields (Memories).
-use mathlib.Core.Path.{ap, refl}
+use mathlib.Core.Path.{ap}
 use mir.Syntax.{w64}
 use mir.Facts.{to_z-of_z}
 use borrow.Author.Rules.{sfits_of}
@@ -10,18 +10,18 @@ use Rattle.bounds.proofs.Leak.{check-answers}
 use Rattle.memory.proofs.Afterwards.{holds-bytes}
 use Rattle.parts.proofs.Lent.{holds-marked}
 use Rattle.tables.proofs.ReadBack.{holds-records}
-use Rattle.perform.proofs.Memories.{can, allocate-left, deallocate-kind, deallocate-left, dereferenceable-left, signed-left, leak-left, not-alone, not-a-kind}
-use Rattle.perform.proofs.Accesses.{either, access-exponent, access-left}
+use Rattle.perform.proofs.Memories.{can, allocate-left, deallocate-kind, deallocate-left, dereferenceable-left, signed-left, leak-left, not-asked}
+use Rattle.perform.proofs.Accesses.{access-exponent, access-left}
 use Rattle.perform.proofs.in_memory.in_memory.Goals as goal
 
 pub allocate-requires : goal.allocate-requires
-allocate-requires c = (c.requires.0.memory, (_, can c.requires.1 c.in-Allocate.is c.wide-extra.ensures c.wide-len.ensures c.wide-exponent.ensures))
+allocate-requires c = (c.requires.0.memory, (_, can c.requires.1 c.in-Allocate.is c.from-extra.ensures c.from-len.ensures c.from-exponent.ensures))
 
 pub deallocate-requires : goal.deallocate-requires
 deallocate-requires c = (c.requires.0.memory, holds-marked c.requires.1.holds)
 
 pub load_or_store-requires : goal.load_or_store-requires
-load_or_store-requires c = record { holds_words = (c.requires.0.memory, holds-bytes c.requires.1.holds); exponent_bound = access-exponent c.requires.1 (either _ c.in-Load.in-Load-own.keys3) c.wide-exponent.ensures }
+load_or_store-requires c = record { holds_words = (c.requires.0.memory, holds-bytes c.requires.1.holds); exponent_bound = access-exponent c.requires.1 c.in-Load.is c.from-exponent.ensures }
 
 pub dereferenceable-requires : goal.dereferenceable-requires
 dereferenceable-requires c = (c.requires.0.memory, holds-records c.requires.1.holds)
@@ -33,18 +33,18 @@ pub leak_check-requires : goal.leak_check-requires
 leak_check-requires c = (c.requires.0.memory, holds-records c.requires.1.holds)
 
 pub returns-in-Allocate : goal.returns-in-Allocate
-returns-in-Allocate c = λ s h. allocate-left h c.in-Allocate.is c.wide-extra.ensures c.wide-len.ensures c.wide-exponent.ensures (width_of c.args.width) (c.allocate.ensures s.memory _ (can h c.in-Allocate.is c.wide-extra.ensures c.wide-len.ensures c.wide-exponent.ensures))
+returns-in-Allocate c = λ s h. allocate-left h c.in-Allocate.is c.from-extra.ensures c.from-len.ensures c.from-exponent.ensures (width_of c.args.width) (c.allocate.ensures s.memory _ (can h c.in-Allocate.is c.from-extra.ensures c.from-len.ensures c.from-exponent.ensures))
 
 pub returns-in-Deallocate : goal.returns-in-Deallocate
-returns-in-Deallocate c = λ s h. deallocate-left h c.in-Deallocate.is c.pointer-p.ensures c.wide-extra.ensures c.wide-len.ensures c.wide-exponent.ensures (width_of c.args.width) (c.deallocate.ensures s.memory _ (holds-marked h.holds) (deallocate-kind h c.in-Deallocate.is c.pointer-p.ensures c.wide-extra.ensures c.wide-len.ensures c.wide-exponent.ensures))
+returns-in-Deallocate c = λ s h. deallocate-left h c.in-Deallocate.is c.pointer-p.ensures c.from-extra.ensures c.from-len.ensures c.from-exponent.ensures (width_of c.args.width) (c.deallocate.ensures s.memory _ (holds-marked h.holds) (deallocate-kind h c.in-Deallocate.is c.pointer-p.ensures c.from-extra.ensures c.from-len.ensures c.from-exponent.ensures))
 
 pub returns-in-Load : goal.returns-in-Load
 returns-in-Load c = λ s h.
-    access-left h (either _ c.in-Load.in-Load-own.keys3) (width_of c.args.width) c.pointer-p.ensures c.wide-len.ensures c.wide-exponent.ensures c.access_kind.ensures
+    access-left h c.in-Load.is (width_of c.args.width) c.pointer-p.ensures c.from-len.ensures c.from-exponent.ensures c.access_kind.ensures
     c.load_or_store.ensures.loaded c.load_or_store.ensures.stored
 
 pub returns-in-Dereferenceable : goal.returns-in-Dereferenceable
-returns-in-Dereferenceable c = λ s h. dereferenceable-left h c.pointer-p.ensures (width_of c.args.width) c.in-Dereferenceable.is c.wide-len.ensures (reach-answers _ _ _ s.memory _ (c.dereferenceable.ensures s.memory (holds-records h.holds)))
+returns-in-Dereferenceable c = λ s h. dereferenceable-left h c.pointer-p.ensures (width_of c.args.width) c.in-Dereferenceable.is c.from-len.ensures (reach-answers _ _ _ s.memory _ (c.dereferenceable.ensures s.memory (holds-records h.holds)))
 
 pub returns-in-SignedDereferenceable : goal.returns-in-SignedDereferenceable
 returns-in-SignedDereferenceable c = λ s h. let same = to_z-of_z {w = w64} {z = c.signed_length.result} (sfits_of c.signed_length.type_inv) in signed-left h c.pointer-p.ensures (width_of c.args.width) c.in-SignedDereferenceable.is c.signed_length.result c.signed_length.ensures {r = c.signed_dereferenceable.result} (rw (← ap back same, ← ap ahead same) (reach-answers _ _ _ s.memory c.args.words.now (c.signed_dereferenceable.ensures s.memory (holds-records h.holds))))
@@ -53,16 +53,4 @@ pub returns-in-LeakCheck : goal.returns-in-LeakCheck
 returns-in-LeakCheck c = λ s h. leak-left h (width_of c.args.width) c.in-LeakCheck.is (check-answers s.memory _ (c.leak_check.ensures s.memory (holds-records h.holds)))
 
 pub returns-in-Retag : goal.returns-in-Retag
-returns-in-Retag c = λ s h. absurd (not-alone h c.in-Retag.is refl)
-
-pub returns-in-NewCall : goal.returns-in-NewCall
-returns-in-NewCall c = λ s h. absurd (not-alone h c.in-NewCall.is refl)
-
-pub returns-in-EndCall : goal.returns-in-EndCall
-returns-in-EndCall c = λ s h. absurd (not-alone h c.in-EndCall.is refl)
-
-pub returns-in-Empty : goal.returns-in-Empty
-returns-in-Empty c = λ s h. absurd (not-alone h c.in-Empty.is refl)
-
-pub returns-in-Unused : goal.returns-in-Unused
-returns-in-Unused c = λ s h. absurd (not-a-kind h c.in-Unused.is)
+returns-in-Retag c = λ s h. absurd (not-asked h c.in-Retag.is)

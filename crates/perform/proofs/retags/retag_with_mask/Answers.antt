@@ -5,7 +5,7 @@ use mathlib.Core.Path.{◌≡◌, sym, ap, ◌∙◌}
 use lib.ListN.{length, length-replicate, replicate, take}
 use native.Mathlib.Omega.{arith}
 use Rattle.retag.specs.Settings.{mask_of}
-use Rattle.layout.proofs.Answers.{answers_of, answers-none, answers-right}
+use Rattle.layout.proofs.Answers.{answers_of, answers-none}
 use Rattle.request.specs.Fields.{request_of}
 use Rattle.perform.proofs.Retagging.{mask-read, left-with-mask, left-without-mask}
 use Rattle.perform.proofs.retags.retag_with_mask.Goals as goal
@@ -18,20 +18,16 @@ blank-length : length blank ≡ 4096
 blank-length = length-replicate {A = ℕ} 4096 0
 
 pub reborrow_entered-requires : goal.reborrow_entered-requires
-reborrow_entered-requires c = let has = answers_of c.args.following.now blank blank-length c.in-Of.len (sym c.in-Of.is ∙ c.freeze_mask-made.ensures.0) in record { holds_trees_and_frames = (c.requires.0, c.requires.1); len_in_bounds = omega (arith, has.bound, c.freeze_mask-made.auto.mask, blank-length) }
+reborrow_entered-requires c = let has = answers_of c.args.following.now blank blank-length c.in-Ok.len (sym c.in-Ok.is ∙ c.freeze_mask.ensures.0) in record { holds_trees_and_frames = (c.requires.0, c.requires.1); len_in_bounds = omega (arith, has.bound, c.freeze_mask.auto.mask, blank-length) }
 
-pub returns-in-Of : goal.returns-in-Of
-returns-in-Of c = let a = c.args in
-    let n = c.in-Of.len in
-    let has = answers_of a.following.now blank blank-length n (sym c.in-Of.is ∙ c.freeze_mask-made.ensures.0) in
+pub returns-in-Ok : goal.returns-in-Ok
+returns-in-Ok c = let a = c.args in
+    let n = c.in-Ok.len in
+    let has = answers_of a.following.now blank blank-length n (sym c.in-Ok.is ∙ c.freeze_mask.ensures.0) in
     λ s h.
-    left-with-mask s (request_of a.q a.following.now) has.mask (mask_of (take n c.freeze_mask-made.new.mask)) has.defined
-    (ap (λ (l : List ℕ). mask_of (take n l)) c.freeze_mask-made.ensures.1 ∙ mask-read has) (c.reborrow_entered.ensures s a.following.now h)
+    left-with-mask s (request_of a.q a.following.now) has.mask (mask_of (take n c.freeze_mask.new.mask)) has.defined
+    (ap (λ (l : List ℕ). mask_of (take n l)) c.freeze_mask.ensures.1 ∙ mask-read has) (c.reborrow_entered.ensures s a.following.now h)
 
-pub returns-in-None : goal.returns-in-None
-returns-in-None c = let a = c.args in
-    λ s h. left-without-mask h (request_of a.q a.following.now) (answers-none a.following.now blank blank-length (sym c.in-None.is ∙ c.freeze_mask-made.ensures.0))
-
-pub returns-in-WrongLength : goal.returns-in-WrongLength
-returns-in-WrongLength c = let a = c.args in
-    λ s h. absurd (answers-right a.following.now blank blank-length (sym c.in-WrongLength.is ∙ c.freeze_mask-made.ensures.0))
+pub returns-in-Err : goal.returns-in-Err
+returns-in-Err c = let a = c.args in
+    λ s h. rw c.from.ensures (left-without-mask h (request_of a.q a.following.now) (answers-none a.following.now blank blank-length _ (sym c.in-Err.is ∙ c.freeze_mask.ensures.0)))

@@ -5,4 +5,4 @@ use Rattle.request.specs.Fields.{request_of}
 use Rattle.perform.proofs.retags.settings.Goals as goal
 
 pub returns : goal.returns
-returns c = λ mask ws i. reborrow_settings (c.safe_pointer-pointer.ensures (request_of c.args.q ws) refl i) (c.protector-protected.ensures i) mask (c.freeze-freeze.ensures i)
+returns c = λ mask ws i. reborrow_settings (c.safe_pointer.ensures (request_of c.args.q ws) refl i) (c.protector.ensures i) mask (c.freeze.ensures i)

@@ -10,6 +10,6 @@ returns-then-function_entry c = let q = c.args.self in
     let f : function_entry (fields_of q) ≡ true = sym c.function_entry.ensures ∙ c.if-function_entry.true in
     rw f (c.entry_protector.ensures ∙ ap entry_protector (c.safe_pointer.ensures (fields_of q) refl))
 
-pub returns : goal.returns
-returns c = let f : function_entry (fields_of c.args.self) ≡ false = sym c.function_entry.ensures ∙ c.if-function_entry.false in
+pub returns-else-function_entry : goal.returns-else-function_entry
+returns-else-function_entry c = let f : function_entry (fields_of c.args.self) ≡ false = sym c.function_entry.ensures ∙ c.if-function_entry.false in
     rw f

@@ -1,7 +1,12 @@
 -- The array is zeros, and long enough.
 use native.Mathlib.Omega.{arith}
-use Rattle.visit.proofs.Plans.{zeros}
+use Prim.Native.Nat.{◌*◌}
+use lib.Seq.{length-take-le}
+use lib.ListN.{length, replicate}
+use Rattle.visit.proofs.Plans.{zeros, zeros-taken}
 use Rattle.tree.proofs.deallocation.strong_protector_after_write.Goals as goal
 
-pub strong_protector_planned-requires : goal.strong_protector_planned-requires
-strong_protector_planned-requires c = record { zeros = (zeros 4096, omega (arith, c.requires.some.1.holds.few)); some = c.requires.some; node_in_bounds = c.requires.node_in_bounds }
+pub make_plan-requires-clause-roomy : goal.make_plan-requires-clause-roomy
+make_plan-requires-clause-roomy c = let tree = c.requires.some.1.holds in
+    let size = 4 * length c.args.parents.now in
+    (record { size = length-take-le size (replicate 4096 0) (omega (arith, tree.few)); few = tree.few }, zeros-taken (replicate 4096 0) size (zeros 4096))

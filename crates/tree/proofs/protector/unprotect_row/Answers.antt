@@ -1,23 +1,11 @@
--- The bytes before i are unprotected.
-use Prim.Native.Nat.{◌+◌}
-use mathlib.Core.Path.{refl, ap, ◌∙◌}
+-- The bytes gone over are unprotected.
+use mathlib.Core.Path.{ap}
 use native.Mathlib.Omega.{arith}
-use lib.ListN.{set, length}
+use lib.ListN.{set}
 use Rattle.permission.specs.Codes.{unprotected_code}
-use Rattle.visit.proofs.Loops.{mapped-to-length, map-turn, mapped-all}
+use Rattle.visit.proofs.Loops.{map-turn}
 use Rattle.tree.proofs.protector.unprotect_row.Goals as goal
 
-pub loop-i-init : goal.loop-i-init
-loop-i-init c = (omega arith, refl, refl)
-
-pub loop-i-preserved : goal.loop-i-preserved
-loop-i-preserved c = let l = c.loop-i in
-    let e = map-turn unprotected_code c.args.row.now l.i (omega arith) l.row _ l.invariant.2 (ap (set l.row l.i) c.unprotect.ensures) in
-    (omega arith, ap length e ∙ mapped-to-length unprotected_code c.args.row.now (l.i + 1) (omega arith), e)
-
-pub shape_of-row : goal.shape_of-row
-shape_of-row c = c.loop-i.invariant.1
-
-pub returns : goal.returns
-returns c = let l = c.loop-i in
-    l.invariant.2 ∙ mapped-all unprotected_code c.args.row.now l.i (omega arith)
+pub loop-code-preserved : goal.loop-code-preserved
+loop-code-preserved c = let l = c.loop-code in
+    map-turn unprotected_code c.args.row.now l.code-index (omega arith) l.row _ l.invariant (ap (set l.row l.code-index) c.unprotect.ensures)

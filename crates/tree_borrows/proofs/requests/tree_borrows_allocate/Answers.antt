@@ -3,4 +3,4 @@ use Rattle.tree_borrows.proofs.Replies.{in-numbers}
 use Rattle.tree_borrows.proofs.requests.tree_borrows_allocate.Goals as goal
 
 pub returns : goal.returns
-returns c = in-numbers c.reply_of.ensures c.allocate-answer.ensures
+returns c = in-numbers c.from.ensures c.allocate.ensures

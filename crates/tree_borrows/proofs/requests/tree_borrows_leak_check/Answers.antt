@@ -3,4 +3,4 @@ use Rattle.tree_borrows.proofs.Replies.{in-numbers}
 use Rattle.tree_borrows.proofs.requests.tree_borrows_leak_check.Goals as goal
 
 pub returns : goal.returns
-returns c = in-numbers c.reply_of.ensures c.leak_check-answer.ensures
+returns c = in-numbers c.from.ensures c.leak_check.ensures

@@ -1,33 +1,10 @@
 -- What is left at m leaves what the whole visit leaves. The number of later nodes falls.
 use Prim.Native.Nat.{ℕ, ◌-◌, ◌*◌, ◌<◌}
-use mathlib.Core.Path.{refl, subst, ◌∙◌}
+use mathlib.Core.Path.{subst, ◌∙◌}
 use lib.ListN.{length}
 use native.Mathlib.Omega.{arith}
-use Rattle.visit.proofs.Turns.{fewer, as_long, at_first, planned-here, row_here, at-child, at-sibling, from-child, still, changed-last, changed-child, changed-leaf, changed-below}
+use Rattle.visit.proofs.Turns.{fewer, as_long, planned-here, at-child, at-sibling, from-child, still, changed-last, changed-child, changed-leaf, changed-below}
 use Rattle.visit.proofs.apply_pass.+apply_from.Goals as goal
-
-pub loop-v-init : goal.loop-v-init
-loop-v-init t c = (λ ps p. (at_first p, refl), refl)
-
-pub relation-requires : goal.relation-requires
-relation-requires t c =
-    let q = c.requires in
-    planned-here q.1 (c.loop-v.invariant.0 q.0 q.1).0
-
-pub apply_at-requires : goal.apply_at-requires
-apply_at-requires t c =
-    let q = c.requires in
-    row_here {codes = c.loop-v.codes} (still c.loop-v.invariant.1 q.1) (c.loop-v.invariant.0 q.0 q.1).0
-
-pub first_child-child-requires : goal.first_child-child-requires
-first_child-child-requires t c =
-    let q = c.requires in
-    planned-here q.1 (c.loop-v.invariant.0 q.0 q.1).0
-
-pub next_sibling-sibling-requires : goal.next_sibling-sibling-requires
-next_sibling-sibling-requires t c =
-    let q = c.requires in
-    planned-here q.1 (c.loop-v.invariant.0 q.0 q.1).0
 
 pub returns-then-child-eq0 : goal.returns-then-child-eq0
 returns-then-child-eq0 t c =

@@ -7,8 +7,8 @@ use Rattle.visit.proofs.check_pass.+check_from.Given as goal
 abbrev pub decreases-check_from : goal.decreases-check_from
 decreases-check_from l = length l.plan.now - 4 * l.first
 
-abbrev pub invariant-loop-changes : goal.invariant-loop-changes
-invariant-loop-changes l = Checking l.plan l.codes l.lent l.v l.first l.m l.changes
+abbrev pub invariant-loop-effect : goal.invariant-loop-effect
+invariant-loop-effect l = Checking l.plan l.codes l.lent l.v l.first l.m l.effect
 
-abbrev pub decreases-loop-changes : goal.decreases-loop-changes
-decreases-loop-changes l = length l.plan - 4 * l.m
+abbrev pub decreases-loop-effect : goal.decreases-loop-effect
+decreases-loop-effect l = length l.plan - 4 * l.m

@@ -1,5 +1,4 @@
 -- The codes before k are changed.
-use Prim.Native.Nat.{◌-◌, ◌≤◌}
 use mathlib.Core.Path.{◌≡◌}
 use lib.ListN.{length}
 use Rattle.permission.specs.Codes.{node_relation}
@@ -9,7 +8,4 @@ use Rattle.visit.proofs.Rows.{codes-length}
 use Rattle.visit.proofs.row.apply_bytes.Given as goal
 
 abbrev pub invariant-loop-k : goal.invariant-loop-k
-invariant-loop-k l = (l.k ≤ length l.initial.row) × (length l.row ≡ length l.initial.row) × (l.row ≡ changed_to l.initial.row (bytes_after l.what l.lent (node_relation l.relation) l.initial.row) (codes-length (node_relation l.relation) (accesses_at l.what (length l.initial.row) l.lent) l.initial.row) l.k)
-
-abbrev pub decreases-loop-k : goal.decreases-loop-k
-decreases-loop-k l = length l.initial.row - l.k
+invariant-loop-k l = l.row ≡ changed_to l.initial.row (bytes_after l.what l.lent (node_relation l.relation) l.initial.row) (codes-length (node_relation l.relation) (accesses_at l.what (length l.initial.row) l.lent) l.initial.row) l.k

@@ -1,5 +1,4 @@
 -- The invariant: what the check of the codes so far told.
-use Prim.Native.Nat.{◌-◌, ◌≤◌}
 use lib.ListN.{length}
 use Rattle.permission.specs.Codes.{node_relation}
 use Rattle.visit.specs.Walk.{accesses_at}
@@ -7,7 +6,4 @@ use Rattle.visit.proofs.Rows.{BytesAt}
 use Rattle.visit.proofs.row.check_bytes.Given as goal
 
 abbrev pub invariant-loop-k : goal.invariant-loop-k
-invariant-loop-k l = (l.k ≤ length l.row) × BytesAt (node_relation l.relation) (accesses_at l.what (length l.row) l.lent) l.row l.k l.changes
-
-abbrev pub decreases-loop-k : goal.decreases-loop-k
-decreases-loop-k l = length l.row - l.k
+invariant-loop-k l = BytesAt (node_relation l.relation) (accesses_at l.what (length l.row) l.lent) l.row l.k l.effect

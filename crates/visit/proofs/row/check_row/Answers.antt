@@ -8,14 +8,7 @@ use lib.Seq.{take-length}
 use Rattle.permission.specs.Codes.{node_relation}
 use Rattle.visit.specs.Walk.{accesses_at, bytes_stay}
 use Rattle.visit.proofs.Rows.{short-stay, stay-told}
-use Rattle.visit.proofs.Turns.{as_long}
 use Rattle.visit.proofs.row.check_row.Goals as goal
-
-pub slice_bounds-long_stays-end : goal.slice_bounds-long_stays-end
-slice_bounds-long_stays-end c = as_long c.args.row.now
-
-pub slice_bounds-long_stays-end-then-size-ge16 : goal.slice_bounds-long_stays-end-then-size-ge16
-slice_bounds-long_stays-end-then-size-ge16 c = as_long c.args.lent.now
 
 pub returns-then-long_stays : goal.returns-then-long_stays
 returns-then-long_stays c = let r = node_relation c.args.relation in

@@ -1,5 +1,8 @@
--- By cases of what the accesses are.
+-- By what the accesses are.
+use mathlib.Core.Path.{◌∙◌}
+use Rattle.permission.specs.Codes.{node_relation}
+use Rattle.visit.proofs.Rows.{each_stay}
 use Rattle.visit.proofs.staying.short_stays.Goals as goal
 
 pub returns-in-Each : goal.returns-in-Each
-returns-in-Each c = rw c.in-Each.is c.stay_under.ensures
+returns-in-Each c = rw c.in-Each.is (c.stay_under.ensures ∙ each_stay c.in-Each.kind (node_relation c.args.relation) c.args.row.now)

@@ -1,5 +1,5 @@
 -- The loop has seen none below i.
-use Prim.Native.Nat.{ℕ, ◌-◌, ◌≤◌, ◌<◌}
+use Prim.Native.Nat.{ℕ, ◌<◌}
 use mathlib.Core.Bool.{false}
 use mathlib.Core.Path.{◌≡◌}
 use Rattle.definition.specs.Memory.{Memory, allocation_at}
@@ -9,7 +9,4 @@ use Rattle.wellformed.specs.AtWidth.{is_beyond}
 use Rattle.wellformed.proofs.at_width.any_beyond.Given as goal
 
 abbrev pub invariant-loop-i : goal.invariant-loop-i
-invariant-loop-i l = (l.i ≤ l.count) × ((m : Memory) → Records m l.allocs → (k : ℕ) → k < l.i → is_beyond (width_of l.width) (allocation_at m k) ≡ false)
-
-abbrev pub decreases-loop-i : goal.decreases-loop-i
-decreases-loop-i l = l.count - l.i
+invariant-loop-i l = ((m : Memory) → Records m l.allocs → (k : ℕ) → k < l.i → is_beyond (width_of l.width) (allocation_at m k) ≡ false)

@@ -1,0 +1,5 @@
+-- The number, of which the last digits go.
+use Rattle.report.proofs.decimal.+put_digits.Given as goal
+
+abbrev pub decreases-put_digits : goal.decreases-put_digits
+decreases-put_digits l = l.n

@@ -1,7 +1,0 @@
--- By what `any_name` gives.
-use Rattle.definition.specs.Request.{is_malformed}
-use Rattle.request.proofs.malformed_allocate.Goals as goal
-
-pub returns : goal.returns
-unfolding is_malformed
-returns c = λ s ws. rw c.any_name.ensures

@@ -1,9 +1,0 @@
--- By the test.
-use borrow.Author.Tests.{eq-eqb, ne_eqb}
-use Rattle.retag.proofs.chosen_code.Goals as goal
-
-pub returns-then-byte-eq0 : goal.returns-then-byte-eq0
-returns-then-byte-eq0 c = rw (eq-eqb c.args.byte 0 c.if-byte-eq0.true)
-
-pub returns : goal.returns
-returns c = rw (ne_eqb c.args.byte 0 c.if-byte-eq0.false)

@@ -1,0 +1,8 @@
+-- All numbers were seen.
+use Rattle.std.proofs.Common.{arith}
+use Rattle.std.proofs.lemmas.Grind.{common_steps}
+use Rattle.definition.proofs.Any.{any_is_list_any}
+use Rattle.wellformed.proofs.any_other.Goals as goal
+
+pub returns : goal.returns
+returns g c = rw any_is_list_any (grind (arith, common_steps))
