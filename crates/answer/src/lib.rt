@@ -11,6 +11,8 @@ ghost use Rattle.answer.specs.Answer.Gives.{Nothing};
 use pointer::Provenance;
 use refusal::Refusal;
 
+// A refusal stays a number, in an enum with what is given and in no `Result`: `answer_of` gives the definition's refusal of every number, and
+// `Served`, `Replied` and `ListRan` are said over it.
 #[derive(Clone, Copy)]
 pub enum Answer {
     // with document 01's number

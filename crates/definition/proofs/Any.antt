@@ -1,12 +1,12 @@
 -- Laws of `any`.
 use Rattle.std.specs.Prelude.{if◌then◌else◌}
-use Prim.Native.Nat.{ℕ, zero, suc, ◌+◌, ◌≤◌, ◌<◌}
-use mathlib.Core.Path.{◌≡◌, refl, sym, ap, ap₂, ◌∙◌}
+use Prim.Native.Nat.{ℕ, zero, suc, ◌+◌, ◌<◌}
+use mathlib.Core.Path.{◌≡◌, refl, ap, ap₂}
 use mathlib.Core.Bool.{Bool, true, false, ◌||◌}
 use mathlib.Core.List.{List, [], ◌∷◌, ◌++◌}
 use native.Mathlib.Numerals.{add-one}
 use native.Mathlib.Omega.{arith}
-use lib.ListN.{length, get_or, drop, drop_of_length-le}
+use lib.ListN.{length, get_or, drop}
 use lib.Seq.{drop-cons}
 use Rattle.definition.specs.Notation.{map_from, any}
 use Rattle.definition.specs.Valid.{All}
@@ -17,23 +17,6 @@ module _ {A : Type 0} (test : A → Bool) (d : A) (l : List A) (i : ℕ) where
   any_step : i < length l → any test (drop i l) ≡ (if test (get_or l i d) then true else any test (drop (i + 1) l))
   unfolding any
   any_step h = rw (add-one i) (ap (any test) (drop-cons l i d h))
-
-  pub any_here : i < length l → test (get_or l i d) ≡ true → any test (drop i l) ≡ true
-  any_here h e = any_step h ∙ rw e
-
-  pub any-later : i < length l → test (get_or l i d) ≡ false → any test (drop (i + 1) l) ≡ any test (drop i l)
-  any-later h e = sym (any_step h ∙ rw e)
-
-  pub any_next : i < length l → any test (drop i l) ≡ test (get_or l i d) || any test (drop (i + 1) l)
-  any_next h = any_step h ∙ as-or (test (get_or l i d)) (any test (drop (i + 1) l))
-    where
-      as-or : (t r : Bool) → (if t then true else r) ≡ t || r
-      as-or true r = refl
-      as-or false r = refl
-
-  pub any-end : length l ≤ i → any test (drop i l) ≡ false
-  unfolding any
-  any-end h = ap (any test) (drop_of_length-le l h)
 
 -- ---- by the places: one that passes, or none
 module _ {A : Type 0} (test : A → Bool) (d : A) where

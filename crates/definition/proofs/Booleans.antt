@@ -1,9 +1,8 @@
 -- Booleans, and refusals combined by `when` and `or`, taken apart.
-use Prim.Native.Nat.{ℕ, zero, suc, ◌+◌, ◌-◌, ◌≤◌, ◌<◌}
-use mathlib.Core.Path.{◌≡◌, refl, sym, subst, ◌∙◌}
+use Prim.Native.Nat.{ℕ, zero, suc, ◌+◌, ◌≤◌, ◌<◌}
+use mathlib.Core.Path.{◌≡◌, refl, sym, subst}
 use mathlib.Core.Bool.{Bool, true, false, not, ◌&&◌, ◌||◌, false≢true}
 use mathlib.Core.Logic.{⊎_elim}
-use native.Mathlib.Decide.{dec_lt}
 use native.Mathlib.Nat.{eq-or-lt_of_le}
 use native.Mathlib.Omega.{arith}
 use lib.Dec.{T, leb, ltb}
@@ -42,14 +41,6 @@ ltb-leb a b = go (ltb a b) refl
     go : (t : Bool) → ltb a b ≡ t → t ≡ not (leb b a)
     go true e = rw (lt-leb b a (ltb-true a b e))
     go false e = rw (le-leb b a (ltb-false a b e))
-
--- room behind a place, told without a sum that could wrap
-pub leb-room : (at more room : ℕ) → at ≤ room → leb more (room - at) ≡ leb (at + more) room
-leb-room at more room h =
-    elim (dec_lt (room - at) more) [
-      | yes l ↦ lt-leb more (room - at) l ∙ sym (lt-leb (at + more) room (omega arith))
-      | no l ↦ le-leb more (room - at) (omega arith) ∙ sym (le-leb (at + more) room (omega arith))
-    ]
 
 -- ---- a test that passes, as `T`
 pub T-left : (a b : Bool) → T (a && b) → T a

@@ -4,15 +4,9 @@ use mathlib.Core.Path.{◌≡◌, refl, sym, ap, ◌∙◌}
 use mathlib.Core.List.{List, [], ◌∷◌, ◌++◌}
 use native.Mathlib.Nat.{suc-ne-zero, suc_inj}
 use native.Mathlib.Omega.{arith}
-use lib.ListN.{length, take, drop, replicate, length-map, length-replicate}
-use lib.Seq.{length-take-le}
-use Rattle.frames.specs.List.{provenance_of, no_entry, entries_of, laid, loaded}
+use lib.ListN.{length, take, drop, replicate, length-replicate}
+use Rattle.frames.specs.List.{no_entry, laid, loaded}
 use Rattle.frames.specs.declared.Entry.{Entry}
-use Rattle.frames.specs.declared.Entries.{Entries}
-
--- a list by value has as many entries as it counts
-pub entries-count : (list : Entries) → list.count ≤ 64 → length list.list ≡ 64 → length (entries_of list) ≡ list.count
-entries-count list l w = length-map (take list.count list.list) provenance_of ∙ length-take-le list.count list.list (omega arith)
 
 -- ---- a lent list of 64 entries is loaded as it is
 laid-all : (xs ds : List Entry) → length xs ≡ length ds → laid xs ds ≡ xs

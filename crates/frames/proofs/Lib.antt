@@ -1,5 +1,4 @@
 pub mod ByValue
-pub mod Fill
 pub mod FrameNumbers
 pub mod Frames
 pub mod FromValid

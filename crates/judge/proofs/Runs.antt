@@ -1,5 +1,5 @@
 -- A run, request by request: what the text comes to.
-use Rattle.std.specs.Prelude.{if◌then◌else◌, Result, Ok, Err}
+use Rattle.std.specs.Prelude.{if◌then◌else◌}
 use Rattle.std.proofs.Common.{◌⊎◌, inl, inr}
 use Prim.Native.Nat.{ℕ, suc, ◌+◌, ◌-◌, ◌*◌, ◌≤◌, ◌<◌, min}
 use mathlib.Core.Path.{◌≡◌, refl, sym, ap, subst, ◌∙◌}
@@ -27,9 +27,8 @@ use Rattle.report.proofs.Lengths.{memory-length}
 use Rattle.stream.specs.Stream.{request_size, next_request, program_from}
 use Rattle.stream.proofs.Cuts.{program-from, program-end, program-more, program-last}
 use Rattle.judge.specs.declared.Advance.{Advance}
-use Rattle.judge.specs.declared.TooLong.{TooLong}
 use Rattle.judge.specs.Turn.{line_room, request_end, Turned, Taken}
-use Rattle.judge.specs.Whole.{goes_on, left_at, memory_room, Performing, JudgedAs}
+use Rattle.judge.specs.Whole.{goes_on, left_at, memory_room, Performing}
 
 -- ---- the bytes
 -- the bytes of the next request
@@ -269,8 +268,3 @@ goes p total room e =
         leb-true (p.at + line_room) room (and_right (not p.refused && ltb p.from total) (leb (p.at + line_room) room) e),
       ),
     )
-
--- of the buffer as it was only the length matters
-pub judged-same : {bytes before before' : List ℕ} (r : Result ℕ TooLong) {after : List ℕ} → length before ≡ length before' → JudgedAs bytes before r after → JudgedAs bytes before' r after
-judged-same (Ok n) e k = record { judged = k.judged }
-judged-same (Err long) e k = record { judged = omega (arith, k.judged) }

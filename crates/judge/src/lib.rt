@@ -4,8 +4,8 @@
 pub mod turn;
 pub mod whole;
 
-// How far a run was performed: the next request starts at `from`, its line goes to `at`, it has the number `index`; the last
-// was refused.
+// How far a run was performed: the next request starts at `from`, its line goes to `at`, it has the number `index`; and whether the last was refused.
+// The places hold of a refused request too, so it is no Result.
 #[derive(Clone, Copy)]
 pub struct Advance {
     pub from: usize,

@@ -15,7 +15,7 @@ use request::Request;
 use state::RunState;
 use stream::Cut;
 
-// Where the next line goes, and whether the request was refused.
+// Where the next line goes, and whether the request was refused, which has a line as well.
 #[derive(Clone, Copy)]
 struct Line {
     at: usize,

@@ -37,6 +37,7 @@ fn answer_all(run: &mut RunState, bytes: &[u8], request: &mut [u32], out: &mut [
         index: 0,
         refused: false,
     };
+    // nothing is counted: it ends with a refusal, the bytes or the room
     while goes_on(p, bytes.len(), out.len()) {
         let cut = stream::next_cut(&bytes[p.from..]);
         p = crate::turn::next(run, bytes, request, out, p, cut);

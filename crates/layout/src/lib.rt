@@ -32,6 +32,7 @@ struct Header {
     size: u32,
 }
 
+// The definition's three cases by their names: as an Option of two, one word of metadata would be said in two steps.
 #[derive(Clone, Copy)]
 enum PointerMeta {
     NoMetadata,

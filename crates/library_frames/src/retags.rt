@@ -112,7 +112,14 @@ fn retag_held(
         Ok(len) => {
             let w = reborrow_settings(settings);
             retag::reborrow(
-                allocs, parents, protectors, codes, &mut mask, len, w, p, count,
+                allocs,
+                parents,
+                protectors,
+                codes,
+                &mut mask[..len],
+                w,
+                p,
+                count,
             )
         }
         Err(_) => Answer::from(Refusal::WithoutMask),

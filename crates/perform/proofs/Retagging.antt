@@ -42,10 +42,6 @@ use Rattle.state.proofs.States.{frames-held}
 
 -- ---- a frame's entry
 module _ (protected : Protected) (f : ℕ) (fs : List Frame) where
-  pub not_entered : is_yes protected ≡ false → (o : Option Provenance) → entered protected f o fs ≡ fs
-  not_entered e none = refl
-  not_entered e (some child) = ap (λ (b : Bool). if b then set fs f (Open (entries_at fs f ++ (child ∷ []))) else fs) e
-
   pub is-entered : is_yes protected ≡ true → (child : Provenance) → entered protected f (some child) fs ≡ set fs f (Open (entries_at fs f ++ (child ∷ [])))
   is-entered e child = ap (λ (b : Bool). if b then set fs f (Open (entries_at fs f ++ (child ∷ []))) else fs) e
 

@@ -2,6 +2,7 @@
 
 // A request that is well formed, on the buffers that hold a run's state: its fields go to the core of its kind.
 // specs/Performed.antt says what is asked and what is left; what comes out is the definition's `perform`.
+// The parts are lent buffers one by one, as the cores that they call.
 ghost use Rattle.definition.specs.Frame.{State};
 ghost use Rattle.pointer.specs.Width.{width_of};
 ghost use Rattle.perform.specs.Performed.{Formed, outcome_of, Left};

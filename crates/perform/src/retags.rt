@@ -52,7 +52,7 @@ fn enter(frames: &mut [u32], f: usize, protected: Protected, answer: Answer)
     }
 }
 
-// A retag with a mask, of `len` bytes.
+// A retag with a mask.
 fn reborrow_entered(
     allocs: &mut [u64],
     parents: &mut [u16],
@@ -60,20 +60,18 @@ fn reborrow_entered(
     codes: &mut [u8],
     frames: &mut [u32],
     mask: &mut [u8],
-    len: usize,
     q: Request,
 ) -> Answer
-    requires holds_trees_and_frames { (s : State) × HoldsTreesAndFrames s allocs.old parents.old protectors.old codes.old frames.old }
-    requires len_in_bounds { len ≤ length mask.old }
+    requires { (s : State) × HoldsTreesAndFrames s allocs.old parents.old protectors.old codes.old frames.old }
     ensures { (s : State) (ws : List ℕ) → HoldsTreesAndFrames s allocs.old parents.old protectors.old codes.old frames.old
-        → LeftTrees (reborrows.retag (definition.settings_of (request_of q ws) (mask_of (take len mask.old))) (frame_number (request_of q ws)) (pointer (request_of q ws)) s)
+        → LeftTrees (reborrows.retag (definition.settings_of (request_of q ws) (mask_of mask.old)) (frame_number (request_of q ws)) (pointer (request_of q ws)) s)
         result allocs.new parents.new protectors.new codes.new frames.new }
 {
     let p = q.pointer();
     let f = q.frame_number();
     let w = settings(q);
     let count = frames::entry_count(frames, f);
-    let answer = retag::reborrow(allocs, parents, protectors, codes, mask, len, w, p, count);
+    let answer = retag::reborrow(allocs, parents, protectors, codes, mask, w, p, count);
     enter(frames, f, w.protected, answer);
     answer
 }
@@ -96,7 +94,13 @@ fn retag_with_mask(
     let mut mask = [0u8; 4096];
     match layout::freeze_mask(following, &mut mask) {
         Ok(len) => reborrow_entered(
-            allocs, parents, protectors, codes, frames, &mut mask, len, q,
+            allocs,
+            parents,
+            protectors,
+            codes,
+            frames,
+            &mut mask[..len],
+            q,
         ),
         Err(_) => Answer::from(Refusal::WithoutMask),
     }

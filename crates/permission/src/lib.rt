@@ -89,6 +89,7 @@ fn foreign_write(code: u8) -> Outcome
     }
 }
 
+// By relation and then by access, in functions of their own: the compiler puts no larger match into a loop.
 // Of an access through the node itself or a descendant.
 pub fn local(code: u8, access: AccessKind) -> Outcome
     ensures { numbered result ≡ transition_code (access_kind access) Local code }

@@ -1,4 +1,4 @@
-// The lines of the memory: per allocation `a`, `d`, and its nodes.
+// The lines of the memory: per allocation `a`, `d`, and its nodes. The buffers come one by one, as in `library`.
 ghost use Rattle.std.specs.Prelude.{◌≡◌, ◌∷◌, [], ◌++◌, ◌+◌, ◌≤◌, length};
 ghost use Rattle.definition.specs.Memory.{Memory, allocation_at};
 ghost use Rattle.definition.specs.Output.{ascii, decimal, ended, liveness_name, kind_name, allocation_lines, memory_lines};

@@ -354,30 +354,27 @@ fn reborrow_inside(
     }))
 }
 
-// A retag of `len` bytes, for whose frame, under a protector, so many entries are known. The mask says of each byte whether it is a freeze byte;
-// it is left with the bytes' codes.
+// A retag of as many bytes as its mask has, for whose frame, under a protector, so many entries are known. The mask says of each byte whether it is a
+// freeze byte; it is left with the bytes' codes.
 pub fn reborrow(
     allocs: &mut [u64],
     parents: &mut [u16],
     protectors: &mut [u8],
     codes: &mut [u8],
     mask: &mut [u8],
-    len: usize,
     settings: ReborrowSettings,
     p: ThinPointer,
     entries: usize,
 ) -> Answer
-    requires holds_marked { (m : Memory) × HoldsMarked m allocs.old parents.old protectors.old codes.old }
-    requires len_in_bounds { len ≤ length mask.old }
+    requires { (m : Memory) × HoldsMarked m allocs.old parents.old protectors.old codes.old }
     ensures retagged { (s : State) (frame : ℕ) → HoldsMarked s.memory allocs.old parents.old protectors.old codes.old
         → entries ≡ length (frames.entries (frame_at s frame))
-        → Retagged (settings_of settings (mask_of (take len mask.old))) frame (thin_pointer_of p) s result allocs.new parents.new protectors.new codes.new }
-    ensures mask_after { mask.new ≡ inside_codes settings (mask_of (take len mask.old)) ++ drop len mask.old }
+        → Retagged (settings_of settings (mask_of mask.old)) frame (thin_pointer_of p) s result allocs.new parents.new protectors.new codes.new }
+    ensures mask_after { mask.new ≡ inside_codes settings (mask_of mask.old) }
 {
-    inside_codes(&mut mask[..len], settings.pointer, settings.protected);
-    let inside = &mask[..len];
+    inside_codes(mask, settings.pointer, settings.protected);
     match reborrow_inside(
-        allocs, parents, protectors, codes, inside, settings, p, entries,
+        allocs, parents, protectors, codes, mask, settings, p, entries,
     ) {
         Ok(provenance) => Answer::Pointer(provenance),
         Err(refusal) => Answer::from(refusal),

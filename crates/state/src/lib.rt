@@ -12,7 +12,7 @@ ghost use Rattle.state.specs.Run.{memory_of, Kept};
 
 use pointer::width::Width;
 
-// ---- the lengths: "a lent buffer has another length than stated"
+// ---- the lengths: "a lent buffer has another length than stated". A memory's buffers come one by one, as C lends them
 pub fn have_memory_lengths(
     allocs: &[u64],
     parents: &[u16],
@@ -22,9 +22,11 @@ pub fn have_memory_lengths(
 ) -> bool
     ensures { result ≡ have_memory_lengths (buffers allocs.now parents.now protectors.now words.now codes.now) }
 {
-    (allocs.len() == 1152)
-        & ((parents.len() == 1024)
-            & ((protectors.len() == 1024) & ((words.len() == 4096) & (codes.len() == 32768))))
+    allocs.len() == 1152
+        && parents.len() == 1024
+        && protectors.len() == 1024
+        && words.len() == 4096
+        && codes.len() == 32768
 }
 
 // ---- buffers of any contents, of their lengths, are emptied
@@ -68,7 +70,7 @@ impl<'a> RunState<'a> {
             self.protectors,
             self.words,
             self.codes,
-        ) & (self.frames.len() == 2080)
+        ) && self.frames.len() == 2080
     }
 
     // "no allocation made", and "no frame open". The width stays.

@@ -61,11 +61,6 @@ module _ (nodes : List Node) (width : ℕ) (protectors codes : List ℕ) (held :
       ∙ unprotected-any (node_at nodes n).permissions
       ∙ sym (rw (marked (node_at nodes n).protected (λ q. h (mark_of ∙ q))))
 
--- the root is never released
-pub root-lacks : (nodes : List Node) → is_yes (node_at nodes 0).protected ≡ false → (n : ℕ) → lacks_protector (node_at nodes n) ≡ false → 0 < n
-root-lacks nodes h zero e = absurd (false≢true (sym e ∙ rw h))
-root-lacks nodes h (suc n) e = omega arith
-
 -- ---- the row unprotected
 unprotected-row : (row : List Permission) → map unprotected_code (map code row) ≡ map code (map unprotected row)
 unprotected-row [] = refl

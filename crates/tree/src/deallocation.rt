@@ -46,6 +46,7 @@ fn strong_protector_in(
         → Each (λ nodes. HoldsAll nodes width parents.now protectors.now codes.now) (λ nodes. result ≡ any node_prevents_deallocation (visited (access_visit Write node 0 width) nodes)) }
 {
     for n in 0..parents.len() {
+        // strong: marks are numbers in the tables that C lends
         if protectors[n] == 2 {
             let start = n * width;
             let end = start + width;

@@ -20,7 +20,7 @@ fn has_unprotected(row: &[u8]) -> bool
     row.iter().any(|code| !permission::is_protected(*code))
 }
 
-// An access as the number that tells it to a visit.
+// An access as the number that tells it to a visit: the row of them is lent as bytes, in fixed memory.
 fn access_number(access: Option<AccessKind>) -> u8
     ensures { result ≡ access_number (maybe_access access) }
 {

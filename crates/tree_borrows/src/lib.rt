@@ -3,6 +3,7 @@
 // The library for C and Rust: its entries under names that a linker finds, with pointers and answers as numbers (specs/Numbers.antt).
 // Each promises the numbers of what the entry that it calls comes to, and none has a `requires`. A slice crosses as its address and its length,
 // a flag as a number, of which 0 and 1 are in its list (2).
+// C needs it so: an export for each kind, the buffers one by one, and numbers for what is given.
 ghost use Rattle.std.specs.Prelude.{◌≡◌, List, length, set};
 ghost use Rattle.frames.specs.List.{first_of};
 ghost use Rattle.tables.specs.Held.{buffers};

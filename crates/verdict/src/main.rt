@@ -20,7 +20,8 @@ use state::RunState;
 use std::io::{self, Read};
 use std::process::ExitCode;
 
-// The input buffer holds bytes up to `end`, of which those from `advance.from` on are not yet performed; the text up to `advance.at` is not yet written.
+// The input buffer holds bytes up to `end`, of which those from `advance.from` on are not yet performed; the text up to `advance.at` is not yet written. Bytes
+// at hand are performed after the input has `ended` as before.
 #[derive(Clone, Copy)]
 struct Progress {
     advance: Advance,

@@ -5,7 +5,7 @@ use mathlib.Core.List.{List, [], ◌∷◌, ◌++◌, map, append-nil}
 use native.Mathlib.Numerals.{add-one}
 use native.Mathlib.Omega.{arith}
 use lib.ListN.{length, get_or, take, drop, set, length-append, length-drop, length-map, drop_of_length-le, get_or-append}
-use lib.Seq.{take_at, take_all}
+use lib.Seq.{take_all}
 use Rattle.definition.proofs.Lists.{loop-get, loop-set}
 
 -- ---- f of each element of row, written into out
@@ -33,10 +33,6 @@ module _ (f : ℕ → ℕ) (row out : List ℕ) (fits : length row ≤ length ou
       ∙ ap₂ (λ (m : List ℕ) (c : ℕ). set m i c) e new
       ∙ loop-set written out 0 i written-length (omega arith)
       ∙ ap written_to (sym (add-one i))
-
-  pub written_all : (i : ℕ) → i ≡ length row → written_to i ≡ map f row ++ drop (length row) out
-  written_all i e =
-      ap written_to e ∙ ap (λ (l : List ℕ). l ++ drop (length row) out) (take_at (map f row) (drop (length row) out) (length row) (length-map row f))
 
 -- ---- each element of row changed in place into that of target
 module _ (row target : List ℕ) (same : length target ≡ length row) where

@@ -1,10 +1,10 @@
 -- Where the rows of a table stand.
 use Prim.Native.Nat.{ℕ, ◌+◌, ◌-◌, ◌*◌, ◌≤◌, ◌<◌}
 use mathlib.Core.Path.{◌≡◌, sym, ap, ap₂, subst⁻¹, ◌∙◌}
-use mathlib.Core.List.{List, ◌++◌, map, append_assoc}
+use mathlib.Core.List.{List, ◌++◌, append_assoc}
 use native.Mathlib.Omega.{arith}
-use lib.ListN.{length, take, drop, length-drop, length-map, take-append-drop}
-use lib.Seq.{length-take-le, take_at, take-take, take-add, take-append-le, drop-append-le, drop-drop}
+use lib.ListN.{length, take, drop, length-drop, take-append-drop}
+use lib.Seq.{length-take-le, take-take, take-add, take-append-le, drop-append-le, drop-drop}
 use Rattle.definition.specs.Tree.{relation}
 use Rattle.definition.proofs.Parts.{row_fits}
 use Rattle.std.specs.Prelude.{Ok, Err}
@@ -77,18 +77,6 @@ told-node v ps lent codes n (Err refusal) t = t
 
 pub row-length : (w n : ℕ) (codes : List ℕ) → n * w + w ≤ length codes → length (row_at w n codes) ≡ w
 row-length w n codes fits = length-take-le w (drop (n * w) codes) (omega (arith, length-drop (n * w) codes))
-
--- f of each code of row n, written to the front of a lent row
-module _ (f : ℕ → ℕ) (w n : ℕ) (codes lent out : List ℕ) (fits : n * w + w ≤ length codes) where
-  pub written_row : out ≡ map f (take (n * w + w - n * w) (drop (n * w) codes)) ++ drop (length (take (n * w + w - n * w) (drop (n * w) codes))) lent
-      → out ≡ map f (row_at w n codes) ++ drop w lent
-  written_row e =
-      e
-      ∙ ap (λ (row : List ℕ). map f row ++ drop (length row) lent) (part-row w n codes)
-      ∙ ap (λ (k : ℕ). map f (row_at w n codes) ++ drop k lent) (row-length w n codes fits)
-
-  pub lent_row : out ≡ map f (row_at w n codes) ++ drop w lent → take w out ≡ map f (row_at w n codes)
-  lent_row e = ap (take w) e ∙ take_at (map f (row_at w n codes)) (drop w lent) w (length-map (row_at w n codes) f ∙ row-length w n codes fits)
 
 -- a table of the same length is as ready
 pub ready-again : (v : Reach) (ps codes codes' : List ℕ) → length codes' ≡ length codes → Ready v ps codes → Ready v ps codes'

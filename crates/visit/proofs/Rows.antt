@@ -190,9 +190,6 @@ module _ (r : NodeRelation) where
     abbrev pub Bytes : Answer → Type 0
     Bytes = Told (codes_refusal r xs cs) cs (codes_after r xs cs)
 
-    pub bytes-start : BytesAt 0 Stays
-    bytes-start = (refl, λ z h. h)
-
     pub bytes-done : (k : ℕ) (effect : Effect) → length cs ≤ k → BytesAt k effect → Bytes (Ok effect)
     unfolding codes_refusal codes_after
     bytes-done k Changes l told = sym told.0 ∙ ap (codes_refusal r (drop k xs)) (drop_of_length-le cs l)

@@ -14,7 +14,7 @@ use Rattle.visit.specs.declared.Effect.{Effect}
 use Rattle.visit.specs.declared.Reach.{Reach}
 use Rattle.visit.specs.Plan.{child_from, next_sibling, relation_in, Planned, VisitFrom}
 use Rattle.visit.specs.Walk.{Answer, Ready, Told, ToldRow, ToldOf, together, nodes_from, node_refusal, node_after, walk_after, row_at, with_row_at, row_after}
-use Rattle.visit.proofs.Places.{row_in, ready-again, told-node}
+use Rattle.visit.proofs.Places.{ready-again, told-node}
 use Rattle.visit.proofs.Plans.{in-plan, planned-lent}
 use Rattle.visit.proofs.Children as children
 use Rattle.visit.proofs.Children.{Goes, Noted, note, child-later, sibling-later}
@@ -44,9 +44,6 @@ at_first {first = first} p = record { inside = p.inside; visited = p.visited; la
 module _ {v : Reach} {ps plan codes : List ℕ} {first m : ℕ} (p : VisitFrom v ps plan codes first) (at : At v ps first m) where
   pub planned-here : (4 * m + 2 < length plan) × (length plan ≤ 4096)
   planned-here = in-plan p.planned.room m at.inside
-
-  pub row_here : (m * v.width + v.width ≤ length codes) × (v.from + v.len ≤ v.width)
-  row_here = (row_in v ps codes m p.ready at.inside, p.ready.inside)
 
   child-is : (child : ℕ) → child ≡ get_or plan (4 * m) 0 → child ≡ child_from v.spared m (m + 1) (drop (m + 1) ps)
   child-is child c = c ∙ p.planned.links.first m at.inside

@@ -7,7 +7,7 @@ use crate::Reach;
 use crate::plan::{first_child, make_plan, next_sibling, relation};
 use crate::row::apply_at;
 
-// The rows of a node, its descendants, and the siblings made after it with theirs.
+// The rows of a node, its descendants, and the siblings made after it with theirs. The loop follows links, as that of the check.
 fn apply_from(plan: &[u16], codes: &mut [u8], lent: &[u8], v: Reach, first: usize)
     requires { (ps : List ℕ) × VisitFrom v ps plan.now codes.old first }
     ensures { (ps : List ℕ) → VisitFrom v ps plan.now codes.old first
@@ -45,7 +45,7 @@ fn apply_sized<const N: usize>(parents: &[u16], codes: &mut [u8], lent: &[u8], v
     apply_from(&scratch[..size], codes, lent, v, 0);
 }
 
-// Every row as a visit leaves it.
+// Every row as a visit leaves it. The size is chosen as by `check`, once more: a closure takes no const parameter.
 pub fn apply(parents: &[u16], codes: &mut [u8], lent: &[u8], v: Reach)
     requires { Ready v parents.now codes.old × (0 < v.spared) }
     ensures { codes.new ≡ walk_after v parents.now lent.now (subtree v.spared 0 parents.now) codes.old }

@@ -10,7 +10,7 @@ use crate::{Effect, Reach};
 use refusal::Refusal;
 
 // At a node, its descendants, and the siblings made after it with theirs. Children come in the order they were made; of a last sibling, its children
-// are what is left, so that a chain needs no stack. The number of later nodes falls. The plan is handed on as a part of itself: a slice
+// are what is left, so that a chain needs no stack. The loop follows the plan's links and counts nothing; the number of later nodes falls. The plan is handed on as a part of itself: a slice
 // that is handed on whole is copied as one, and the copy waits for its address and its length to be written.
 fn check_from(
     plan: &[u16],

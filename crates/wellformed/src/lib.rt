@@ -1,6 +1,7 @@
 #![tactic(auto)]
 
 // Whether five lent buffers hold a memory (refusal 1): one pass over what is used, one over the rest, and pairs of allocations.
+// The buffers come one by one, as in `library`: a struct would be made anew for each test that looks behind the front of all five.
 pub mod at_width;
 
 ghost use Rattle.std.specs.Prelude.{◌≡◌, ◌+◌, ◌-◌, ◌*◌, ◌<◌, ◌≤◌, not, ◌||◌, length, get_or, drop};

@@ -2,6 +2,7 @@
 use mathlib.Core.Bool.{false}
 use mathlib.Core.Path.{◌≡◌, sym, ◌∙◌}
 use native.Mathlib.Omega.{arith}
+use lib.ListN.{length-take}
 use Rattle.definition.specs.Request.{adds_no_node}
 use Rattle.pointer.specs.Pointer.{thin_pointer_of}
 use Rattle.layout.specs.Filled.{afterwards}
@@ -20,9 +21,17 @@ returns-then-adds_no_node c = let t = c.args in
     performed-same t.settings (thin_pointer_of t.p) t.layout.now s (sym c.adds_no_node.ensures ∙ c.if-adds_no_node.true) (c.retag_without_node.ensures s (records-of held))
     held.trees
 
-pub reborrow-requires : goal.reborrow-requires
-reborrow-requires c = let has-mask : let layout = c.args.layout.now in HasMask layout blank (afterwards layout blank) c.in-Ok.len = answers_of c.args.layout.now blank blank-length _ (sym c.in-Ok.is ∙ c.freeze_mask.ensures.0) in
-    record { holds_marked = c.requires; len_in_bounds = omega (arith, (has-mask).bound, c.freeze_mask.auto.mask, blank-length) }
+pub slice_bounds-reborrow-end : goal.slice_bounds-reborrow-end
+slice_bounds-reborrow-end c =
+    let has : HasMask c.args.layout.now blank (afterwards c.args.layout.now blank) c.in-Ok.len =
+    answers_of c.args.layout.now blank blank-length _ (sym c.in-Ok.is ∙ c.freeze_mask.ensures.0) in
+    omega (arith, has.bound, c.freeze_mask.auto.mask, blank-length, length-take c.in-Ok.len c.freeze_mask.new.mask)
+
+pub slice_bounds-mask-end : goal.slice_bounds-mask-end
+slice_bounds-mask-end c =
+    let has : HasMask c.args.layout.now blank (afterwards c.args.layout.now blank) c.in-Ok.len =
+    answers_of c.args.layout.now blank blank-length _ (sym c.in-Ok.is ∙ c.freeze_mask.ensures.0) in
+    omega (arith, has.bound, c.freeze_mask.auto.mask, blank-length)
 
 pub returns-in-Ok : goal.returns-in-Ok
 returns-in-Ok c = let adds : adds_no_node (fields_of c.args.settings) ≡ false = sym c.adds_no_node.ensures ∙ c.if-adds_no_node.false in

@@ -2,7 +2,7 @@
 use Prim.Native.Nat.{ℕ}
 use mathlib.Core.List.{List}
 use mathlib.Core.Path.{◌≡◌, sym, ap, ◌∙◌}
-use lib.ListN.{length, length-replicate, replicate, take}
+use lib.ListN.{length, length-replicate, length-take, replicate, take}
 use native.Mathlib.Omega.{arith}
 use Rattle.retag.specs.Settings.{mask_of}
 use Rattle.layout.proofs.Answers.{answers_of, answers-none}
@@ -17,8 +17,15 @@ blank = replicate 4096 0
 blank-length : length blank ≡ 4096
 blank-length = length-replicate {A = ℕ} 4096 0
 
-pub reborrow_entered-requires : goal.reborrow_entered-requires
-reborrow_entered-requires c = let has = answers_of c.args.following.now blank blank-length c.in-Ok.len (sym c.in-Ok.is ∙ c.freeze_mask.ensures.0) in record { holds_trees_and_frames = (c.requires.0, c.requires.1); len_in_bounds = omega (arith, has.bound, c.freeze_mask.auto.mask, blank-length) }
+pub slice_bounds-reborrow_entered-end : goal.slice_bounds-reborrow_entered-end
+slice_bounds-reborrow_entered-end c =
+    let has = answers_of c.args.following.now blank blank-length c.in-Ok.len (sym c.in-Ok.is ∙ c.freeze_mask.ensures.0) in
+    omega (arith, has.bound, c.freeze_mask.auto.mask, blank-length, length-take c.in-Ok.len c.freeze_mask.new.mask)
+
+pub slice_bounds-mask-end : goal.slice_bounds-mask-end
+slice_bounds-mask-end c =
+    let has = answers_of c.args.following.now blank blank-length c.in-Ok.len (sym c.in-Ok.is ∙ c.freeze_mask.ensures.0) in
+    omega (arith, has.bound, c.freeze_mask.auto.mask, blank-length)
 
 pub returns-in-Ok : goal.returns-in-Ok
 returns-in-Ok c = let a = c.args in
