@@ -59,6 +59,16 @@ impl From<Result<(), Refusal>> for Answer {
     }
 }
 
+// The same by document 01's number: 0 is no refusal.
+pub fn refused_with(refusal: u8) -> Answer
+    ensures { result ≡ reply_to Nothing (refused_with refusal) }
+{
+    if refusal == 0 {
+        return Answer::Accepted;
+    }
+    Answer::Refused(refusal)
+}
+
 // ---- what is loaded
 // `len` words from `start` on, as far as there are any.
 fn words_at<'d>(words: &'d [u32], start: usize, len: usize) -> &'d [u32]

@@ -1,5 +1,5 @@
 // A list of requests from the empty memory. It goes on after a refusal. specs/Lists.antt says what it comes to, with demand 3.
-ghost use Rattle.std.specs.Prelude.{◌≡◌};
+ghost use Rattle.std.specs.Prelude.{◌≡◌, IfOk, OnErr};
 ghost use Rattle.definition.specs.Run as definition;
 ghost use Rattle.state.specs.Run.{memory_of, Holds, SameBuffers};
 ghost use Rattle.run.specs.declared.Answered as answered;
@@ -30,6 +30,7 @@ fn run_cleared(run: &mut RunState, requests: &[u32], ends: &[u32], answers: &mut
     ensures ran { ◌≡◌ {A = answered.Answered × Lent}
         (result, lent (memory_of run.new) run.new.frames.now answers.new)
         (ran (requests_in requests.now ends.now) answers.old) }
+    ensures width { result.width ≡ run.new.width }
     ensures same { SameBuffers run.old run.new }
 {
     let mut written = transcript::nothing_written();
@@ -55,6 +56,8 @@ pub fn run_list(
     ensures ran { ListRan (requests_in requests.now ends.now)
         (lent (memory_of run.old) run.old.frames.now answers.old)
         result (lent (memory_of run.new) run.new.frames.now answers.new) }
+    ensures width { IfOk result (λ answered. answered.width ≡ run.new.width) }
+    ensures refused { OnErr result (run.new.width ≡ run.old.width) }
     ensures same { SameBuffers run.old run.new }
 {
     if !run.have_lengths() {

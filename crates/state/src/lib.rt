@@ -12,7 +12,7 @@ ghost use Rattle.state.specs.Run.{memory_of, Kept};
 
 use pointer::width::Width;
 
-// ---- the lengths: "a lent buffer has another length than stated". A memory's buffers come one by one, as C lends them
+// ---- the lengths: "a lent buffer has another length than stated". The buffers come one by one, as C lends them
 pub fn have_memory_lengths(
     allocs: &[u64],
     parents: &[u16],
@@ -27,6 +27,19 @@ pub fn have_memory_lengths(
         && protectors.len() == 1024
         && words.len() == 4096
         && codes.len() == 32768
+}
+
+pub fn have_lengths(
+    allocs: &[u64],
+    parents: &[u16],
+    protectors: &[u8],
+    words: &[u32],
+    codes: &[u8],
+    frames: &[u32],
+) -> bool
+    ensures { result ≡ have_lengths (buffers allocs.now parents.now protectors.now words.now codes.now) frames.now }
+{
+    have_memory_lengths(allocs, parents, protectors, words, codes) && frames.len() == 2080
 }
 
 // ---- buffers of any contents, of their lengths, are emptied
@@ -48,6 +61,22 @@ pub fn clear_memory(
     codes.fill(0);
 }
 
+// And "no frame open".
+pub fn clear(
+    allocs: &mut [u64],
+    parents: &mut [u16],
+    protectors: &mut [u8],
+    words: &mut [u32],
+    codes: &mut [u8],
+    frames: &mut [u32],
+)
+    requires { have_lengths (buffers allocs.old parents.old protectors.old words.old codes.old) frames.old ≡ true }
+    ensures { HoldsState empty (buffers allocs.new parents.new protectors.new words.new codes.new) frames.new }
+{
+    clear_memory(allocs, parents, protectors, words, codes);
+    frames::clear(frames);
+}
+
 // ---- a run's state: five buffers hold its memory (`tables`), one its frames (`frames`), and its width stands beside them.
 #[derive(Drop)]
 pub struct RunState<'a> {
@@ -64,13 +93,14 @@ impl<'a> RunState<'a> {
     pub fn have_lengths(&self) -> bool
         ensures { result ≡ have_lengths (memory_of self.now) self.now.frames.now }
     {
-        have_memory_lengths(
+        have_lengths(
             self.allocs,
             self.parents,
             self.protectors,
             self.words,
             self.codes,
-        ) && self.frames.len() == 2080
+            self.frames,
+        )
     }
 
     // "no allocation made", and "no frame open". The width stays.
@@ -79,13 +109,13 @@ impl<'a> RunState<'a> {
         ensures held { HoldsState empty (memory_of self.new) self.new.frames.now }
         ensures kept { Kept self.old self.new }
     {
-        clear_memory(
+        clear(
             self.allocs,
             self.parents,
             self.protectors,
             self.words,
             self.codes,
+            self.frames,
         );
-        frames::clear(self.frames);
     }
 }

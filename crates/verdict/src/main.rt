@@ -1,7 +1,7 @@
 #![tactic(auto)]
 
 // Reads a run from standard input and prints its verdict: the line of each request up to the first that is refused, and the memory that is left.
-ghost use Rattle.std.specs.Prelude.{ℕ, ◌+◌, ◌-◌, ◌≤◌, ◌<◌, ◌^◌, ◌≡◌, true, List, length, IfOk, OnErr};
+ghost use Rattle.std.specs.Prelude.{ℕ, ◌+◌, ◌-◌, ◌≤◌, ◌<◌, ◌^◌, ◌≡◌, true, List, length, IfOk, OnErr, IsErr};
 ghost use Rattle.definition.specs.Memory.{Memory};
 ghost use Rattle.definition.specs.Run.{start};
 ghost use Rattle.definition.specs.Output.{memory_lines};
@@ -209,19 +209,12 @@ fn judge_input(
     Ok(finish(run, out, p))
 }
 
-// The whole text.
-fn print_verdict(
-    rt: &HostRuntime,
-    run: &mut RunState,
-    request: &mut [u32; 4100],
-    input: &mut [u8; 65536],
-    out: &mut [u8; 0x38000],
-) -> Result<(), Failed>
-    requires width { run.old.width ≡ Bits64 }
-    requires lengths { have_lengths (memory_of run.old) run.old.frames.now ≡ true }
-    ensures same { SameBuffers run.old run.new }
+// The end of the text. Where reading or writing failed before, that is told and nothing is written.
+fn write_rest(rt: &HostRuntime, out: &[u8], judged: Result<Progress, Failed>) -> Result<(), Failed>
+    requires { IfOk judged (λ p. p.advance.at ≤ length out.now) }
+    ensures { OnErr judged (IsErr result) }
 {
-    let p = judge_input(rt, run, request, input, out)?;
+    let p = judged?;
     write_text(rt, &out[..p.advance.at])
 }
 
@@ -244,7 +237,8 @@ fn main(rt: HostRuntime) -> ExitCode {
         frames: &mut frames,
         width: Width::Bits64,
     };
-    match print_verdict(&rt, &mut run, &mut request, &mut input, &mut out) {
+    let judged = judge_input(&rt, &mut run, &mut request, &mut input, &mut out);
+    match write_rest(&rt, &out, judged) {
         Ok(()) => ExitCode::SUCCESS,
         Err(Failed) => ExitCode::FAILURE,
     }
