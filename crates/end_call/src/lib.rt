@@ -136,7 +136,7 @@ fn save(dst: &mut [u8], src: &[u8], start: usize, end: usize)
     requires { (start ≤ end) × ((end ≤ length src.now) × (end - start ≤ length dst.old)) }
     ensures { dst.new ≡ take (end - start) (drop start src.now) ++ drop (end - start) dst.old }
 {
-    dst[..end - start].copy_from_slice(&src[start..end]);
+    tables::copy_row(dst, &src[start..end]);
 }
 
 // And back.
@@ -144,7 +144,7 @@ fn put_back(dst: &mut [u8], saved: &[u8], start: usize, end: usize)
     requires { (start ≤ end) × ((end ≤ length dst.old) × (end - start ≤ length saved.now)) }
     ensures { dst.new ≡ take start dst.old ++ (take (end - start) saved.now ++ drop end dst.old) }
 {
-    dst[start..end].copy_from_slice(&saved[..end - start]);
+    tables::copy_row(&mut dst[start..end], &saved[..end - start]);
 }
 
 // All of them, or none: the marks and codes of the allocations from one start to another, where all entries are, are saved first, and

@@ -108,7 +108,7 @@ pub fn copy_words(dst: &mut [u32], src: &[u32])
     requires { length src.now ≤ length dst.old }
     ensures { dst.new ≡ src.now ++ drop (length src.now) dst.old }
 {
-    dst[..src.len()].copy_from_slice(src);
+    tables::copy_row(dst, src);
 }
 
 // Writes bytes from a place in the data on.

@@ -167,6 +167,17 @@ fn shift_right<T: Copy>(c: &mut [T], p: usize, w: usize)
     c.copy_within(p..end, p + w);
 }
 
+// Copies src to the front of dst, element by element: the library's copy, of which the compiler does not see that the two lie apart, makes the
+// archive for C ask for `memmove`.
+pub fn copy_row<T: Copy>(dst: &mut [T], src: &[T])
+    requires { length src.now ≤ length dst.old }
+    ensures { dst.new ≡ src.now ++ drop (length src.now) dst.old }
+{
+    for i in 0..src.len() {
+        dst[i] = src[i];
+    }
+}
+
 // Puts row in at p: what is there and behind moves up.
 fn insert_row<T: Copy>(c: &mut [T], p: usize, row: &[T])
     requires { p + length row.now ≤ length c.old }
@@ -181,8 +192,10 @@ fn make_row(row: &mut [u8], inside: &[u8], outside: u8, from: usize)
     requires { from + length inside.now ≤ length row.old }
     ensures { row.new ≡ write_at from inside.now (replicate (length row.old) outside) }
 {
-    row.fill(outside);
-    row[from..from + inside.len()].copy_from_slice(inside);
+    let end = from + inside.len();
+    row[..from].fill(outside);
+    copy_row(&mut row[from..end], inside);
+    row[end..].fill(outside);
 }
 
 // Puts such a row in at p, of `width`, and makes it there.

@@ -1,11 +1,12 @@
--- The inside codes are written over a row that is outside everywhere.
-use Rattle.std.proofs.Common.{◌≡◌, length, replicate, sym, ◌∙◌, arith}
-use Rattle.std.proofs.Math.ListN.{length-replicate}
-use Rattle.tables.proofs.Parts.{put_whole, write-paste}
+-- The row is written once: what is outside in front of the inside codes, these, and what is outside behind them (Parts).
+use Rattle.std.proofs.Common.{◌∙◌, refl, arith}
+use Rattle.tables.proofs.Parts.{whole-copy, made-row}
 use Rattle.tables.proofs.make_row.Goals as goal
 
 pub returns : goal.returns
-returns c = let a = c.args in
-    let filled : c.fill.new.self ≡ replicate (length a.row.now) a.outside = c.fill.ensures.after (λ y e. e) in
-    rw (c.copy_from_slice.ensures.after, filled)
-    (put_whole _ a.inside.now a.from _ (omega arith) ∙ sym (write-paste a.from a.inside.now _ (omega (arith, length-replicate (length a.row.now) a.outside))))
+returns c =
+    let a = c.args in
+    made-row a.row.now a.inside.now c.fill.new.self c.copy_row.new.dst _ c.fill-2.new.self a.from a.outside (omega arith)
+    (c.fill.ensures.after (λ y e. e))
+    (c.copy_row.ensures ∙ whole-copy a.inside.now _ _ (omega arith))
+    refl (c.fill-2.ensures.after (λ y e. e))
