@@ -8,7 +8,7 @@ use native.Mathlib.Numerals.{add-one}
 use native.Mathlib.Nat.{min-le_left}
 use native.Mathlib.Omega.{arith}
 use lib.ListN.{length, get_or, take, drop, replicate, get_or-replicate, length-replicate, length-map, length-take, length-drop, take-append-drop, get_or-map, drop_of_length-le}
-use lib.Seq.{get_or-take, drop-cons, length-take-le}
+use lib.Seq.{get_or-take, drop-cons, length-take-le, take-take}
 use Rattle.std.specs.Prelude.{Some, None, Result, Ok, Err, is_some}
 use Rattle.std.specs.Prelude as std
 use Rattle.std.specs.List.{fold, list_all}
@@ -102,6 +102,12 @@ pub planned-length : (what : Accesses) (n : ℕ) (lent : List ℕ) → length (a
 planned-length (Each a) n lent = omega (arith, length-replicate n (some (access_kind a)))
 planned-length accesses.Told n lent = omega (arith, length-map (take n lent) told_access, length-take n lent, min-le_left n (length lent))
 planned-length AtInit n lent = omega (arith, length-map (take n lent) init_access_code, length-take n lent, min-le_left n (length lent))
+
+-- numbers behind the last byte tell nothing
+pub accesses-cut : (what : Accesses) (n : ℕ) (lent : List ℕ) → accesses_at what n (take n lent) ≡ accesses_at what n lent
+accesses-cut (Each a) n lent = refl
+accesses-cut accesses.Told n lent = ap (map told_access) (take-take n n lent (omega arith))
+accesses-cut AtInit n lent = ap (map init_access_code) (take-take n n lent (omega arith))
 
 -- one access at all bytes: where there is no number there is none, so there is one for each byte
 same-each : (f : ℕ → Option AccessKind) → f 0 ≡ none → (a : AccessKind) (n : ℕ) (lent : List ℕ) → ((i : ℕ) → i < n → f (get_or lent i 0) ≡ some a)

@@ -50,7 +50,8 @@ fn long_under(row: &[u8], kind: AccessKind, relation: NodeRelation) -> bool
     }
 }
 
-// Under accesses of their own.
+// Under accesses of their own. It is inlined with what its callers hand on as constants, so that there is a loop for each of them.
+#[inline(always)]
 fn told(row: &[u8], lent: &[u8], what: Accesses, relation: NodeRelation) -> bool
     ensures { result ≡ bytes_stay what lent.now (node_relation relation) row.now }
 {
@@ -61,13 +62,19 @@ fn told(row: &[u8], lent: &[u8], what: Accesses, relation: NodeRelation) -> bool
     all
 }
 
-// The relation is handed on as a constant, so that there is a loop for each.
+// Of no more numbers than there are codes: then no place of theirs has to be tested, and the compiler makes vector code of the loops.
+#[inline(always)]
 fn told_under(row: &[u8], lent: &[u8], what: Accesses, relation: NodeRelation) -> bool
     ensures { result ≡ bytes_stay what lent.now (node_relation relation) row.now }
 {
+    let size = row.len();
+    if lent.len() < size {
+        return told(row, lent, what, relation);
+    }
+    let numbers = &lent[..size];
     match relation {
-        NodeRelation::Local => told(row, lent, what, NodeRelation::Local),
-        NodeRelation::Foreign => told(row, lent, what, NodeRelation::Foreign),
+        NodeRelation::Local => told(row, numbers, what, NodeRelation::Local),
+        NodeRelation::Foreign => told(row, numbers, what, NodeRelation::Foreign),
     }
 }
 
@@ -78,6 +85,7 @@ pub(crate) fn long_stays(row: &[u8], lent: &[u8], what: Accesses, relation: Node
 {
     match what {
         Accesses::Each(kind) => long_under(row, kind, relation),
-        _ => told_under(row, lent, what, relation),
+        Accesses::Told => told_under(row, lent, Accesses::Told, relation),
+        Accesses::AtInit => told_under(row, lent, Accesses::AtInit, relation),
     }
 }
