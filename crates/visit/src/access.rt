@@ -46,12 +46,19 @@ pub(crate) fn outcome(code: u8, access: Option<AccessKind>, relation: NodeRelati
     }
 }
 
-// All bytes have the number of the first.
+// All bytes have the number of the first. No way leads out of the loop, so that the compiler makes vector code of it.
 fn all_alike(lent: &[u8], len: usize) -> bool
     ensures { result ≡ true → (i : ℕ) → i < len → get_or lent.now i 0 ≡ get_or lent.now 0 0 }
 {
+    if lent.len() < len {
+        return false;
+    }
     let first = lent_at(lent, 0);
-    (0..len).all(|k| lent_at(lent, k) == first)
+    let mut alike = true;
+    for number in &lent[..len] {
+        alike &= *number == first;
+    }
+    alike
 }
 
 // Some byte has an access. Where none has, nothing is visited (`check_lent`).
