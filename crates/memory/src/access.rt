@@ -121,6 +121,9 @@ fn put_words(words: &mut [u32], start: usize, bytes: &[u32])
 
 // ---- the requests
 // The loaded words are a part of the data, which the answer names.
+// Inlined into a run's request: where the answer is handed back through memory, it is read before its write is done, and a load of no bytes takes
+// a quarter longer.
+#[inline(always)]
 pub fn load(
     allocs: &[u64],
     parents: &[u16],
@@ -143,7 +146,8 @@ pub fn load(
     }
 }
 
-// The stored bytes are written where the pointer points.
+// The stored bytes are written where the pointer points. Inlined as a load is.
+#[inline(always)]
 pub fn store(
     allocs: &[u64],
     parents: &[u16],

@@ -23,7 +23,8 @@ fn access_kind(kind: Kind) -> AccessKind
     }
 }
 
-// Kinds 0 to 3 and 7 to 9, each by its core.
+// Kinds 0 to 3 and 7 to 9, each by its core. The pointer is made in the arm that hands it on, where it stays in registers: one for all arms lies in
+// memory for the call of a deallocation, and the small requests wait for it.
 pub(crate) fn in_memory(
     allocs: &mut [u64],
     parents: &[u16],
@@ -41,13 +42,19 @@ pub(crate) fn in_memory(
     let extra = u64::from(q.extra);
     let len = u64::from(q.fourth);
     let exponent = u64::from(q.exponent);
-    let p = q.pointer();
     match q.kind {
         Kind::Allocate => memory::allocate::allocate(
             allocs, codes, width, extra, len, exponent, q.address,
         ),
         Kind::Deallocate => memory::deallocate::deallocate(
-            allocs, parents, protectors, codes, p, extra, len, exponent,
+            allocs,
+            parents,
+            protectors,
+            codes,
+            q.pointer(),
+            extra,
+            len,
+            exponent,
         ),
         Kind::Load | Kind::Store => memory::access::load_or_store(
             allocs,
@@ -55,13 +62,17 @@ pub(crate) fn in_memory(
             words,
             codes,
             access_kind(q.kind),
-            p,
+            q.pointer(),
             len,
             exponent,
             following,
         ),
-        Kind::Dereferenceable => bounds::dereferenceable(allocs, p, len),
-        Kind::SignedDereferenceable => bounds::signed_dereferenceable(allocs, p, q.signed_length()),
+        Kind::Dereferenceable => bounds::dereferenceable(allocs, q.pointer(), len),
+        Kind::SignedDereferenceable => bounds::signed_dereferenceable(
+            allocs,
+            q.pointer(),
+            q.signed_length(),
+        ),
         Kind::LeakCheck => bounds::leak_check(allocs),
         // no such kind is asked
         Kind::Retag | Kind::NewCall | Kind::EndCall | Kind::Empty | Kind::Unused => {

@@ -36,18 +36,18 @@ pub returns-in-Allocate : goal.returns-in-Allocate
 returns-in-Allocate c = λ s h. allocate-left h c.in-Allocate.is c.from-extra.ensures c.from-len.ensures c.from-exponent.ensures (width_of c.args.width) (c.allocate.ensures s.memory _ (can h c.in-Allocate.is c.from-extra.ensures c.from-len.ensures c.from-exponent.ensures))
 
 pub returns-in-Deallocate : goal.returns-in-Deallocate
-returns-in-Deallocate c = λ s h. deallocate-left h c.in-Deallocate.is c.pointer-p.ensures c.from-extra.ensures c.from-len.ensures c.from-exponent.ensures (width_of c.args.width) (c.deallocate.ensures s.memory _ (holds-marked h.holds) (deallocate-kind h c.in-Deallocate.is c.pointer-p.ensures c.from-extra.ensures c.from-len.ensures c.from-exponent.ensures))
+returns-in-Deallocate c = λ s h. deallocate-left h c.in-Deallocate.is c.pointer.ensures c.from-extra.ensures c.from-len.ensures c.from-exponent.ensures (width_of c.args.width) (c.deallocate.ensures s.memory _ (holds-marked h.holds) (deallocate-kind h c.in-Deallocate.is c.pointer.ensures c.from-extra.ensures c.from-len.ensures c.from-exponent.ensures))
 
 pub returns-in-Load : goal.returns-in-Load
 returns-in-Load c = λ s h.
-    access-left h c.in-Load.is (width_of c.args.width) c.pointer-p.ensures c.from-len.ensures c.from-exponent.ensures c.access_kind.ensures
+    access-left h c.in-Load.is (width_of c.args.width) c.pointer-in-Load.ensures c.from-len.ensures c.from-exponent.ensures c.access_kind.ensures
     c.load_or_store.ensures.loaded c.load_or_store.ensures.stored
 
 pub returns-in-Dereferenceable : goal.returns-in-Dereferenceable
-returns-in-Dereferenceable c = λ s h. dereferenceable-left h c.pointer-p.ensures (width_of c.args.width) c.in-Dereferenceable.is c.from-len.ensures (reach-answers _ _ _ s.memory _ (c.dereferenceable.ensures s.memory (holds-records h.holds)))
+returns-in-Dereferenceable c = λ s h. dereferenceable-left h c.pointer-in-Dereferenceable.ensures (width_of c.args.width) c.in-Dereferenceable.is c.from-len.ensures (reach-answers _ _ _ s.memory _ (c.dereferenceable.ensures s.memory (holds-records h.holds)))
 
 pub returns-in-SignedDereferenceable : goal.returns-in-SignedDereferenceable
-returns-in-SignedDereferenceable c = λ s h. let same = to_z-of_z {w = w64} {z = c.signed_length.result} (sfits_of c.signed_length.type_inv) in signed-left h c.pointer-p.ensures (width_of c.args.width) c.in-SignedDereferenceable.is c.signed_length.result c.signed_length.ensures {r = c.signed_dereferenceable.result} (rw (← ap back same, ← ap ahead same) (reach-answers _ _ _ s.memory c.args.words.now (c.signed_dereferenceable.ensures s.memory (holds-records h.holds))))
+returns-in-SignedDereferenceable c = λ s h. let same = to_z-of_z {w = w64} {z = c.signed_length.result} (sfits_of c.signed_length.type_inv) in signed-left h c.pointer-in-SignedDereferenceable.ensures (width_of c.args.width) c.in-SignedDereferenceable.is c.signed_length.result c.signed_length.ensures {r = c.signed_dereferenceable.result} (rw (← ap back same, ← ap ahead same) (reach-answers _ _ _ s.memory c.args.words.now (c.signed_dereferenceable.ensures s.memory (holds-records h.holds))))
 
 pub returns-in-LeakCheck : goal.returns-in-LeakCheck
 returns-in-LeakCheck c = λ s h. leak-left h (width_of c.args.width) c.in-LeakCheck.is (check-answers s.memory _ (c.leak_check.ensures s.memory (holds-records h.holds)))
