@@ -40,9 +40,9 @@ fn apply_each(row: &mut [u8], kind: AccessKind, relation: NodeRelation)
     }
 }
 
-// Under accesses of their own. Functions by themselves, which take no registers from the recursion.
-#[inline(never)]
-fn check_bytes(
+// Under accesses of their own. It is inlined with what its callers hand on as constants, so that there is a loop for each of them.
+#[inline(always)]
+fn check_told(
     row: &[u8],
     lent: &[u8],
     what: Accesses,
@@ -57,6 +57,44 @@ fn check_bytes(
         }
     }
     Ok(effect)
+}
+
+// Of no more numbers than there are codes: then no place of theirs has to be tested.
+#[inline(always)]
+fn check_under(
+    row: &[u8],
+    lent: &[u8],
+    what: Accesses,
+    relation: NodeRelation,
+) -> Result<Effect, Refusal>
+    ensures { ToldBytes what lent.now (node_relation relation) row.now result }
+{
+    let size = row.len();
+    if lent.len() < size {
+        return check_told(row, lent, what, relation);
+    }
+    let numbers = &lent[..size];
+    match relation {
+        NodeRelation::Local => check_told(row, numbers, what, NodeRelation::Local),
+        NodeRelation::Foreign => check_told(row, numbers, what, NodeRelation::Foreign),
+    }
+}
+
+// Functions by themselves, which take no registers from the recursion.
+#[inline(never)]
+fn check_bytes(
+    row: &[u8],
+    lent: &[u8],
+    what: Accesses,
+    relation: NodeRelation,
+) -> Result<Effect, Refusal>
+    ensures { ToldBytes what lent.now (node_relation relation) row.now result }
+{
+    match what {
+        Accesses::Each(_) => check_told(row, lent, what, relation),
+        Accesses::Told => check_under(row, lent, Accesses::Told, relation),
+        Accesses::AtInit => check_under(row, lent, Accesses::AtInit, relation),
+    }
 }
 
 #[inline(never)]

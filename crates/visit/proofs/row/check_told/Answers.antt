@@ -6,8 +6,8 @@ use Rattle.std.proofs.lemmas.Result.{err_from_is_err_and}
 use Rattle.permission.specs.Codes.{node_relation, numbered}
 use Rattle.visit.specs.Walk.{accesses_at}
 use Rattle.visit.proofs.Rows.{planned-outcome, byte-stays, byte-becomes, byte-refused, bytes-done}
-use Rattle.visit.proofs.row.check_bytes.Goals as goal
-use Rattle.visit.proofs.row.check_bytes.Goals.{then-is_some, else-is_some}
+use Rattle.visit.proofs.row.check_told.Goals as goal
+use Rattle.visit.proofs.row.check_told.Goals.{then-is_some, else-is_some}
 
 pub returns-in_err-outcome : goal.returns-in_err-outcome
 returns-in_err-outcome c =
