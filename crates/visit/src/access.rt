@@ -36,7 +36,8 @@ pub(crate) fn access_at(what: Accesses, lent: &[u8], k: usize) -> Option<AccessK
     }
 }
 
-// What an access makes of a code, if there is one. In the loops over rows a call of it at each byte takes half as long again.
+// What an access makes of a code, if there is one. With a call of it at each byte the loops over short rows take
+// 1.2 to 2 times as long.
 #[inline(always)]
 pub(crate) fn outcome(code: u8, access: Option<AccessKind>, relation: NodeRelation) -> Outcome
     ensures { numbered result ≡ outcome_at (maybe_access access) (node_relation relation) code }

@@ -59,7 +59,7 @@ fn check_told(
     Ok(effect)
 }
 
-// Of no more numbers than there are codes: then no place of theirs has to be tested.
+// Of as many numbers as there are codes no place has to be tested.
 #[inline(always)]
 fn check_under(
     row: &[u8],
@@ -80,7 +80,7 @@ fn check_under(
     }
 }
 
-// Functions by themselves, which take no registers from the recursion.
+// Functions by themselves, which take no registers from the recursion. A row under one access goes to `check_each` and does not come here.
 #[inline(never)]
 fn check_bytes(
     row: &[u8],
